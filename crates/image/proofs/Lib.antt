@@ -1,0 +1,2 @@
+-- Laws of numbers in bytes.
+pub mod Signs

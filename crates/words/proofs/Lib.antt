@@ -1,0 +1,3 @@
+-- Laws of the words: what one more element does to each, and tables.
+pub mod Steps
+pub mod Tables

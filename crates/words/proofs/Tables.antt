@@ -1,0 +1,163 @@
+-- Tables: their elements, searches and tests over them, and their order. Assumes nothing.
+use Prim.Native.Nat.{ℕ, zero, suc, _+_, _-_, _≤_, _<_}
+use native.Mathlib.Nat.{le-of-suc-le-suc, not-suc-le-zero, add-zero, zero-add, eq-or-lt-of-le}
+use native.Mathlib.Numerals.{add-one}
+use native.Mathlib.Omega.{arith}
+use mathlib.Core.Path.{_≡_, refl, sym, ap, _∙_, subst}
+use mathlib.Core.Bool.{Bool, true, false, _||_, _&&_, cond}
+use mathlib.Core.List.{List, [], _∷_, _++_, map}
+use mathlib.Core.Option.{Option, none, some}
+use mathlib.Core.Logic.{⊎-elim}
+use lib.ListN.{length, getD}
+use Rattle.words.specs.Words.{tableFrom, table, from, find, anyOf, sumOf, inOrder, given}
+
+module _ {A : Type 0} where
+  pub length-table : (i n : ℕ) (f : ℕ → A) → length (tableFrom i n f) ≡ n
+  unfolding tableFrom
+  length-table i zero f = refl
+  length-table i (suc n) f = ap suc (length-table (suc i) n f)
+
+  pub getD-tableFrom : (i n : ℕ) (f : ℕ → A) (j : ℕ) (d : A) → j < n → getD (tableFrom i n f) j d ≡ f (i + j)
+  unfolding tableFrom
+  getD-tableFrom i zero f j d h = absurd (not-suc-le-zero h)
+  getD-tableFrom i (suc n) f zero d h = ap f (omega arith)
+  getD-tableFrom i (suc n) f (suc j) d h = let q : suc i + j ≡ i + suc j = omega arith in getD-tableFrom (suc i) n f j d (le-of-suc-le-suc h) ∙ ap f q
+
+  pub getD-table : (n : ℕ) (f : ℕ → A) (j : ℕ) (d : A) → j < n → getD (table n f) j d ≡ f j
+  getD-table n f j d h = getD-tableFrom 0 n f j d h ∙ ap f (zero-add j)
+
+  same-from : (i n : ℕ) (f g : ℕ → A) → ((j : ℕ) → j < i + n → f j ≡ g j) → tableFrom i n f ≡ tableFrom i n g
+  unfolding tableFrom
+  same-from i zero f g h = refl
+  same-from i (suc n) f g h =
+      ap (λ (x : A). x ∷ tableFrom (suc i) n f) (h i (omega arith))
+      ∙ ap (λ (l : List A). g i ∷ l) (same-from (suc i) n f g (λ j q. h j (omega (arith, q))))
+
+  -- two tables that agree below n
+  pub table-same : (n : ℕ) (f g : ℕ → A) → ((j : ℕ) → j < n → f j ≡ g j) → table n f ≡ table n g
+  table-same n f g h = same-from 0 n f g (λ j q. h j (omega (arith, q)))
+
+  more-from : (i n : ℕ) (f : ℕ → A) → tableFrom i (suc n) f ≡ tableFrom i n f ++ (f (i + n) ∷ [])
+  unfolding tableFrom
+  more-from i zero f = ap (λ (k : ℕ). f k ∷ []) (sym (add-zero i))
+  more-from i (suc n) f =
+      let q : suc i + n ≡ i + suc n = omega arith in
+      ap (λ (l : List A). f i ∷ l) (more-from (suc i) n f ∙ ap (λ (k : ℕ). tableFrom (suc i) n f ++ (f k ∷ [])) q)
+
+  -- one more element
+  pub table-more : (n : ℕ) (f : ℕ → A) → table (n + 1) f ≡ table n f ++ (f n ∷ [])
+  table-more n f = rw add-one (more-from 0 n f ∙ ap (λ (k : ℕ). table n f ++ (f k ∷ [])) (zero-add n))
+
+module _ {A B : Type 0} where
+  map-from : (g : A → B) (i n : ℕ) (f : ℕ → A) → map g (tableFrom i n f) ≡ tableFrom i n (λ j. g (f j))
+  unfolding tableFrom
+  map-from g i zero f = refl
+  map-from g i (suc n) f = ap (λ (l : List B). g (f i) ∷ l) (map-from g (suc i) n f)
+
+  pub map-table : (g : A → B) (n : ℕ) (f : ℕ → A) → map g (table n f) ≡ table n (λ j. g (f j))
+  map-table g n f = map-from g 0 n f
+
+-- ---- searches
+module _ {A : Type 0} (t : A → Bool) where
+  find-from : (i n : ℕ) (f : ℕ → A) → find t (tableFrom i n f) ≡ given (find (λ j. t (f j)) (from i n)) none (λ j. some (f j))
+  unfolding tableFrom find given
+  find-from i zero f = refl
+  find-from i (suc n) f = go (t (f i)) (find-from (suc i) n f)
+    where
+      go : (b : Bool) → find t (tableFrom (suc i) n f) ≡ given (find (λ j. t (f j)) (from (suc i) n)) none (λ j. some (f j))
+          → cond b (some (f i)) (find t (tableFrom (suc i) n f)) ≡ given (cond b (some i) (find (λ j. t (f j)) (from (suc i) n))) none (λ j. some (f j))
+      go true h = refl
+      go false h = h
+
+  -- a search through a table is one for the first number that passes
+  pub find-table : (n : ℕ) (f : ℕ → A) → find t (table n f) ≡ given (find (λ j. t (f j)) (from 0 n)) none (λ j. some (f j))
+  find-table n f = find-from 0 n f
+
+  none-from : (i n : ℕ) (f : ℕ → A) → ((j : ℕ) → i ≤ j → j < i + n → t (f j) ≡ false) → find t (tableFrom i n f) ≡ none
+  unfolding tableFrom find
+  none-from i zero f h = refl
+  none-from i (suc n) f h = rw (h i (omega arith) (omega arith)) (none-from (suc i) n f (λ j p q. h j (omega (arith, p)) (omega (arith, q))))
+
+  at-from : (i n : ℕ) (f : ℕ → A) (r : ℕ) → i ≤ r → r < i + n → ((j : ℕ) → i ≤ j → j < r → t (f j) ≡ false) → t (f r) ≡ true → find t (tableFrom i n f) ≡ some (f r)
+  unfolding tableFrom find
+  at-from i zero f r a b h e = absurd (bad a b)
+    where
+      bad : i ≤ r → r < i + 0 → ⊥
+      bad a b = omega arith
+  at-from i (suc n) f r a b h e =
+      ⊎-elim
+      (λ (q : i ≡ r). let g : t (f i) ≡ true = ap (λ (k : ℕ). t (f k)) q ∙ e in rw g (ap (λ (k : ℕ). some (f k)) q))
+      (λ (q : i < r).
+      rw (h i (omega arith) q) (at-from (suc i) n f r q (omega arith) (λ j p l. h j (omega (arith, p)) l) e))
+      (eq-or-lt-of-le a)
+
+  pub find-none : (n : ℕ) (f : ℕ → A) → ((j : ℕ) → j < n → t (f j) ≡ false) → find t (table n f) ≡ none
+  find-none n f h = none-from 0 n f (λ j p q. h j (omega (arith, q)))
+
+  pub find-at : (n : ℕ) (f : ℕ → A) (r : ℕ) → r < n → ((j : ℕ) → j < r → t (f j) ≡ false) → t (f r) ≡ true → find t (table n f) ≡ some (f r)
+  find-at n f r a h e = at-from 0 n f r (omega arith) (omega (arith, a)) (λ j p q. h j q) e
+
+  any-from : (i n : ℕ) (f : ℕ → A) → anyOf t (tableFrom i (suc n) f) ≡ anyOf t (tableFrom i n f) || t (f (i + n))
+  unfolding tableFrom anyOf
+  any-from i zero f = ap (λ (k : ℕ). t (f k) || false) (sym (add-zero i)) ∙ or-false (t (f (i + 0)))
+    where
+      or-false : (b : Bool) → b || false ≡ b
+      or-false true = refl
+      or-false false = refl
+  any-from i (suc n) f =
+      let q : suc i + n ≡ i + suc n = omega arith in
+      ap (λ (b : Bool). t (f i) || b) (any-from (suc i) n f ∙ ap (λ (k : ℕ). anyOf t (tableFrom (suc i) n f) || t (f k)) q)
+      ∙ sym (or-assoc (t (f i)) (anyOf t (tableFrom (suc i) n f)) (t (f (i + suc n))))
+    where
+      or-assoc : (a b c : Bool) → (a || b) || c ≡ a || (b || c)
+      or-assoc true b c = refl
+      or-assoc false b c = refl
+
+  pub any-more : (n : ℕ) (f : ℕ → A) → anyOf t (table (n + 1) f) ≡ anyOf t (table n f) || t (f n)
+  any-more n f = rw add-one (any-from 0 n f ∙ ap (λ (k : ℕ). anyOf t (table n f) || t (f k)) (zero-add n))
+
+  pub any-none : (f : ℕ → A) → anyOf t (table 0 f) ≡ false
+  unfolding tableFrom anyOf
+  any-none f = refl
+
+-- ---- order
+module _ {A : Type 0} (r : A → A → Bool) where
+  and-assoc : (a b c : Bool) → (a && b) && c ≡ a && (b && c)
+  and-assoc true b c = refl
+  and-assoc false b c = refl
+
+  and-true : (a : Bool) → a && true ≡ a
+  and-true true = refl
+  and-true false = refl
+
+  order-from : (i n : ℕ) (f : ℕ → A) → inOrder r (tableFrom i (suc (suc n)) f) ≡ inOrder r (tableFrom i (suc n) f) && r (f (i + n)) (f (i + suc n))
+  unfolding tableFrom inOrder
+  order-from i zero f =
+      let p : i + 0 ≡ i = omega arith in
+      let q : i + 1 ≡ suc i = omega arith in
+      rw (p, q) (and-true (r (f i) (f (suc i))))
+  order-from i (suc n) f =
+      let p : suc i + n ≡ i + suc n = omega arith in
+      let q : suc i + suc n ≡ i + suc (suc n) = omega arith in
+      let h = order-from (suc i) n f in
+      ap (λ (b : Bool). r (f i) (f (suc i)) && b) (h ∙ ap (λ (k : ℕ). inOrder r (tableFrom (suc i) (suc n) f) && r (f k) (f (suc i + suc n))) p
+      ∙ ap (λ (k : ℕ). inOrder r (tableFrom (suc i) (suc n) f) && r (f (i + suc n)) (f k)) q)
+      ∙ sym (and-assoc (r (f i) (f (suc i))) (inOrder r (tableFrom (suc i) (suc n) f)) (r (f (i + suc n)) (f (i + suc (suc n)))))
+
+  -- one more element: it follows the last in order
+  pub order-more : (i : ℕ) (f : ℕ → A) → 0 < i → inOrder r (table (i + 1) f) ≡ inOrder r (table i f) && r (f (i - 1)) (f i)
+  order-more zero f h = absurd (not-suc-le-zero h)
+  order-more (suc n) f h =
+      let p : 0 + n ≡ suc n - 1 = omega arith in
+      let q : 0 + suc n ≡ suc n = omega arith in
+      let e : suc n + 1 ≡ suc (suc n) = omega arith in
+      rw e (order-from 0 n f ∙ ap (λ (k : ℕ). inOrder r (table (suc n) f) && r (f k) (f (0 + suc n))) p
+      ∙ ap (λ (k : ℕ). inOrder r (table (suc n) f) && r (f (suc n - 1)) (f k)) q)
+
+  pub order-one : (f : ℕ → A) → inOrder r (table 1 f) ≡ true
+  unfolding tableFrom inOrder
+  order-one f = refl
+
+  pub order-none : (f : ℕ → A) → inOrder r (table 0 f) ≡ true
+  unfolding tableFrom inOrder
+  order-none f = refl
