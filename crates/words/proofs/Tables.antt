@@ -161,3 +161,14 @@ module _ {A : Type 0} (r : A → A → Bool) where
   pub order-none : (f : ℕ → A) → inOrder r (table 0 f) ≡ true
   unfolding tableFrom inOrder
   order-none f = refl
+
+-- two relations that agree on two tables
+module _ {A B : Type 0} (r : A → A → Bool) (s : B → B → Bool) (f : ℕ → A) (g : ℕ → B) (h : (i j : ℕ) → r (f i) (f j) ≡ s (g i) (g j)) where
+  order-alike : (i n : ℕ) → inOrder r (tableFrom i n f) ≡ inOrder s (tableFrom i n g)
+  unfolding tableFrom inOrder
+  order-alike i zero = refl
+  order-alike i (suc zero) = refl
+  order-alike i (suc (suc n)) = rw (h i (suc i), order-alike (suc i) (suc n))
+
+  pub order-same : (n : ℕ) → inOrder r (table n f) ≡ inOrder s (table n g)
+  order-same n = order-alike 0 n

@@ -1,0 +1,129 @@
+// Keys in an image: whether they are in order, and where an id stands among them.
+ghost use mathlib.Core.Path.{_≡_};
+ghost use mathlib.Core.Bool.{_&&_};
+ghost use Prim.Native.Nat.{ℕ, _+_, _*_, _<_, _≤_};
+ghost use lib.ListN.{length};
+ghost use lib.Dec.{ltb, leb};
+ghost use lib.Signed.{ltZ, leZ};
+ghost use Rattle.words.specs.Words.{table, inOrder, anyOf};
+ghost use Rattle.image.specs.Bytes.{u32At, i32At};
+ghost use Rattle.keys.specs.Keys.{keyAt, rankOf, Sorted, Parts, placeOf, foundOf, biased, stands};
+
+// A place in a slice, or none.
+pub enum Found {
+    At(usize),
+    Nothing,
+}
+
+// The bits of key i, moved up by a bias.
+fn biased_at(keys: &[u8], i: usize, bias: u32) -> u32
+    requires { ⌜ 4 * i + 4 ≤ length (now keys) ⌝ }
+    ensures { λ r. ⌜ r ≡ biased bias (u32At (now (keys .entry)) (4 * i)) ⌝ }
+{
+    std::num::wrapping_add_u32(image::u32_at(keys, 4 * i), bias)
+}
+
+fn stand(x: u32, y: u32, strict: bool) -> bool
+    ensures { λ r. ⌜ r ≡ stands strict x y ⌝ }
+{
+    if strict { x < y } else { x <= y }
+}
+
+fn both(a: bool, b: bool) -> bool
+    ensures { λ r. ⌜ r ≡ (a && b) ⌝ }
+{
+    if a { b } else { false }
+}
+
+// Whether each of the n keys and the next stand in order. The verdict is gathered and the loop runs to its end, so that the
+// compiler can take many keys at once.
+fn ordered(keys: &[u8], n: usize, bias: u32, strict: bool) -> bool
+    requires { ⌜ 4 * n ≤ length (now keys) ⌝ }
+    ensures { λ r. ⌜ r ≡ inOrder (stands strict) (table n (λ i. biased bias (u32At (now (keys .entry)) (4 * i)))) ⌝ }
+{
+    let mut ok = true;
+    let mut i: usize = 1;
+    while i < n {
+        let x = biased_at(keys, i - 1, bias);
+        let y = biased_at(keys, i, bias);
+        ok = both(ok, stand(x, y, strict));
+        i += 1;
+    }
+    ok
+}
+
+// Whether the n keys ascend strictly.
+pub fn ascend(keys: &[u8], n: usize) -> bool
+    requires { ⌜ 4 * n ≤ length (now keys) ⌝ }
+    ensures { λ r. ⌜ r ≡ inOrder ltZ (table n (keyAt (now (keys .entry)))) ⌝ }
+{
+    ordered(keys, n, 2147483648, true)
+}
+
+// Whether the n keys never descend.
+pub fn never_descend(keys: &[u8], n: usize) -> bool
+    requires { ⌜ 4 * n ≤ length (now keys) ⌝ }
+    ensures { λ r. ⌜ r ≡ inOrder leZ (table n (keyAt (now (keys .entry)))) ⌝ }
+{
+    ordered(keys, n, 2147483648, false)
+}
+
+// Whether n unsigned numbers ascend strictly.
+pub fn ascend_unsigned(keys: &[u8], n: usize) -> bool
+    requires { ⌜ 4 * n ≤ length (now keys) ⌝ }
+    ensures { λ r. ⌜ r ≡ inOrder ltb (table n (λ i. u32At (now (keys .entry)) (4 * i))) ⌝ }
+{
+    ordered(keys, n, 0, true)
+}
+
+// Key i in the order of the signed numbers.
+fn rank_at(keys: &[u8], i: usize) -> u32
+    requires { ⌜ 4 * i + 4 ≤ length (now keys) ⌝ }
+    ensures { λ r. ⌜ r ≡ rankOf (keyAt (now (keys .entry)) i) ⌝ }
+{
+    let x = image::u32_at(keys, 4 * i);
+    std::num::wrapping_add_u32(x, 2147483648)
+}
+
+fn rank(id: i32) -> u32
+    ensures { λ r. ⌜ r ≡ rankOf id ⌝ }
+{
+    std::num::wrapping_add_u32(image::bits(id), 2147483648)
+}
+
+// How many of the n keys, which never descend, are under an id: where it stands first, or would stand.
+pub fn first_from(keys: &[u8], n: usize, id: i32) -> usize
+    requires { ⌜ (4 * n ≤ length (now keys)) × Sorted (now keys) n ⌝ }
+    ensures { λ r. ⌜ Parts (now (keys .entry)) n id r ⌝ }
+{
+    let key = rank(id);
+    let mut lo = 0;
+    let mut hi = n;
+    while lo < hi {
+        let mid = lo + (hi - lo) / 2;
+        let x = rank_at(keys, mid);
+        if x < key {
+            lo = mid + 1;
+        } else {
+            hi = mid;
+        }
+    }
+    lo
+}
+
+// Where an id stands first among the n keys, which never descend.
+pub fn place_of(keys: &[u8], n: usize, id: i32) -> Found
+    requires { ⌜ (4 * n ≤ length (now keys)) × Sorted (now keys) n ⌝ }
+    ensures { λ r. ⌜ foundOf r ≡ placeOf (now (keys .entry)) n id ⌝ }
+{
+    let at = first_from(keys, n, id);
+    if n <= at {
+        return Found::Nothing;
+    }
+    let x = rank_at(keys, at);
+    let key = rank(id);
+    if x == key {
+        return Found::At(at);
+    }
+    Found::Nothing
+}
