@@ -1,0 +1,3 @@
+pub mod Catalogue
+pub mod Refusals
+pub mod Lookups

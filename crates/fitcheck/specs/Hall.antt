@@ -1,0 +1,65 @@
+-- Document 01, "Hall number": u32 K, K lengths, then K fits end to end; how many are clear, faulted and refused.
+use Prim.Native.Nat.{ℕ, zero, suc, _+_, _*_}
+use mathlib.Core.Bool.{Bool, true, false, not, _||_, cond}
+use mathlib.Core.List.{List, [], _∷_, _++_}
+use lib.Dec.{eqb, ltb}
+use lib.ListN.{length, take, drop}
+use Rattle.words.specs.Words.{tableFrom, table, countOf, sumOf, isEmpty, firstOf}
+use Rattle.image.specs.Bytes.{u32At}
+use Rattle.catalogue.specs.Catalogue.{Catalogue, catalogueOf}
+use Rattle.catalogue.specs.Refusals.{catalogueRefusals}
+use Rattle.fit.specs.Fit.{fitOf}
+use Rattle.fit.specs.Refusals.{fitRefusals}
+use Rattle.validate.specs.Validate.{listOf}
+use Rattle.fitcheck.specs.Calls.{tooManyDrones}
+
+module _ (input : List ℕ) where
+  abbrev pub fitCount : ℕ
+  fitCount = u32At input 0
+
+  abbrev pub lengthAt : ℕ → ℕ
+  lengthAt i = u32At input (4 + 4 * i)
+
+  -- where fit i begins
+  unfoldable pub fitStart : ℕ → ℕ
+  fitStart zero = 4 + 4 * fitCount
+  fitStart (suc i) = fitStart i + lengthAt i
+
+  unfoldable pub fits : List (List ℕ)
+  fits = table fitCount λ i. take (lengthAt i) (drop (fitStart i) input)
+
+  -- 4: under 4 bytes, K over 64, or 4 + 4K plus the lengths is not the input's length
+  unfoldable pub badInput : Bool
+  badInput = ltb (length input) 4 || ltb 64 fitCount || not (eqb (fitStart fitCount) (length input))
+
+module _ (c : Catalogue) where
+  -- refusal 4 to 7
+  unfoldable pub fitRefused : List ℕ → Bool
+  fitRefused b = ltb 0 (firstOf (fitRefusals b ++ (7, tooManyDrones c (fitOf b)) ∷ []))
+
+  unfoldable pub isClear : List ℕ → Bool
+  isClear b = cond (fitRefused b) false (isEmpty (listOf c (fitOf b)))
+
+  -- any other
+  unfoldable pub isFaulted : List ℕ → Bool
+  isFaulted b = not (isClear b || fitRefused b)
+
+pub data HallAnswer : Type 0 where
+  HallRefused : ℕ → HallAnswer
+  Numbers : (clear faulted refused : ℕ) → HallAnswer
+
+unfoldable pub hallBy : ℕ → HallAnswer → HallAnswer
+hallBy zero a = a
+hallBy (suc n) a = HallRefused (suc n)
+
+unfoldable pub hallCall : (catalogue input : List ℕ) → HallAnswer
+hallCall catalogue input =
+    let c = catalogueOf catalogue in
+    let fs = fits input in
+    hallBy (firstOf (catalogueRefusals catalogue ++ (4, badInput input) ∷ []))
+    (Numbers (countOf (isClear c) fs) (countOf (isFaulted c) fs) (countOf (fitRefused c) fs))
+
+-- clear + 256 * faulted + 65,536 * refused in the count's place
+unfoldable pub hallReturned : HallAnswer → ℕ
+hallReturned (HallRefused n) = n * 4294967296
+hallReturned (Numbers clear faulted refused) = clear + 256 * faulted + 65536 * refused

@@ -1,0 +1,5 @@
+// Stub.
+pub enum Value {
+    Given(f64),
+    Missing,
+}

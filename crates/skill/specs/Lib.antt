@@ -1,0 +1,2 @@
+pub mod Skill
+pub mod Wanted
