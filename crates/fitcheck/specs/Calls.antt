@@ -13,9 +13,9 @@ use Rattle.fit.specs.Fit.{Fit, fitOf, resultAt}
 use Rattle.fit.specs.Refusals.{fitRefusals}
 use Rattle.entry.specs.declared.Entry.{Entry}
 use Rattle.entry.specs.Entries as Entries
-use Rattle.validate.specs.Context.{pairs}
+use Rattle.context.specs.Context.{pairs}
 use Rattle.validate.specs.Kind.{isHull}
-use Rattle.validate.specs.Resource.{launched}
+use Rattle.resource.specs.Resource.{launched}
 use Rattle.validate.specs.Validate.{listOf}
 use Rattle.skill.specs.Skill.{tooMany, skillList}
 

@@ -30,7 +30,3 @@ module _ (c : Catalogue) where
 
   unfoldable pub notASkill : List Id → List Entry
   notASkill ids = each ids λ id. when (not (isSkill id)) (onShip (NotASkill id))
-
--- modules, subsystems and structure modules
-unfoldable pub isModuleCategory : Id → Bool
-isModuleCategory t = same t (pos 7) || same t (pos 32) || same t (pos 66)

@@ -1,6 +1,2 @@
-pub mod Context
 pub mod Kind
-pub mod Resource
-pub mod Slot
-pub mod Item
 pub mod Validate

@@ -8,11 +8,11 @@ use Rattle.fit.specs.Fit.{Frame, Fit, modeOf}
 use Rattle.entry.specs.declared.Entry.{Entry}
 use Rattle.entry.specs.declared.Rule.the-variants.{NotAHull}
 use Rattle.entry.specs.Entries.{onShip}
-use Rattle.validate.specs.Context.{Pair, Context, context, pairs}
+use Rattle.context.specs.Context.{Pair, Context, context, pairs}
 use Rattle.validate.specs.Kind.{isHull, notAMode, notASkill}
-use Rattle.validate.specs.Resource.{loads, launchedDrones, cargo}
-use Rattle.validate.specs.Slot.{racks, hardpoints, slotChecks}
-use Rattle.validate.specs.Item.{rigSize, shipRestricted, capitalItem, standup, groupLimits, typeLimit}
+use Rattle.resource.specs.Resource.{loads, launchedDrones, cargo}
+use Rattle.slot.specs.Slot.{racks, hardpoints, slotChecks}
+use Rattle.item.specs.Item.{rigSize, shipRestricted, capitalItem, standup, groupLimits, typeLimit}
 
 -- resource.rs, slot.rs and item.rs
 unfoldable pub hullRules : Context → List Pair → List Entry

@@ -13,7 +13,7 @@ use Rattle.fit.specs.Refusals.{droneBay, cargoHold}
 use Rattle.entry.specs.declared.Entry.{Entry}
 use Rattle.entry.specs.declared.Rule.the-variants.{Resource}
 use Rattle.entry.specs.Entries.{onShip}
-use Rattle.validate.specs.Context.{Pair, Context, isIn}
+use Rattle.context.specs.Context.{Pair, Context, isIn}
 
 -- a resource, the name of its load, the name of its output
 abbrev pub LOADS : List (ℕ × ℕ × ℕ)

@@ -14,7 +14,7 @@ use Rattle.fit.specs.Lookups.{value, amount}
 use Rattle.fit.specs.Refusals.{rig}
 use Rattle.entry.specs.declared.Entry.{Entry}
 use Rattle.entry.specs.declared.Rule.the-variants.{RigSize, ShipRestricted, CapitalItem, StructureItem, ShipItem, MaxGroup, MaxType}
-use Rattle.validate.specs.Context.{Pair, Context, isFitted, isIn, isOnHull, on}
+use Rattle.context.specs.Context.{Pair, Context, isFitted, isIn, isOnHull, on}
 
 abbrev pub SHIP-TYPES : List ℕ
 SHIP-TYPES = from 34 13

@@ -14,8 +14,8 @@ use Rattle.fit.specs.Refusals.{subsystem, fighterBay, implant, booster, droneBa
 use Rattle.entry.specs.declared.Entry.{Entry}
 use Rattle.entry.specs.declared.Rule.the-variants.{Slots, WrongSlot, NotAModule, NotADrone, NotAFighter, NotAnImplant, SlotTaken, WrongSlotIndex, SubsystemTaken}
 use Rattle.entry.specs.Entries.{onShip}
-use Rattle.validate.specs.Context.{Pair, Context, isFitted, isIn, isFighterSlot, isOther, on}
-use Rattle.validate.specs.Kind.{isModuleCategory}
+use Rattle.context.specs.Context.{Pair, Context, isFitted, isIn, isFighterSlot, isOther, on}
+use Rattle.context.specs.Context.{isModuleCategory}
 
 -- a slot, the name of the ship's number of them
 abbrev pub RACKS : List (ℕ × ℕ)

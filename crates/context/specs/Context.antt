@@ -4,7 +4,9 @@ use mathlib.Core.Bool.{Bool, not, _||_}
 use mathlib.Core.List.{List, [], _∷_}
 use mathlib.Core.Option.{Option}
 use lib.Dec.{eqb, leb}
+use lib.IntN.{pos}
 use lib.Ieee.{Float}
+use Rattle.words.specs.Words.{same}
 use Rattle.catalogue.specs.Catalogue.{Id, Name, Catalogue}
 use Rattle.catalogue.specs.Lookups.{groupOf, categoryOf, volumeOf, rackOf, hardpointOf}
 use Rattle.fit.specs.Fit as Fit
@@ -85,3 +87,7 @@ isOther p o = not (eqb (o .at) (p .at))
 -- an entry about a pair
 abbrev pub on : Pair → Rule → Entry
 on p r = onItem (p .at) r
+
+-- `is_module_category`: modules, subsystems and structure modules
+unfoldable pub isModuleCategory : Id → Bool
+isModuleCategory t = same t (pos 7) || same t (pos 32) || same t (pos 66)

@@ -1,0 +1,1 @@
+// What the rules read of a catalogue and a fit, gathered once: Rust's `Context` and `Item`.
