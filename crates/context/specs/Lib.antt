@@ -1,1 +1,2 @@
 pub mod Context
+pub mod Gathered

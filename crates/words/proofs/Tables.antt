@@ -5,11 +5,12 @@ use native.Mathlib.Numerals.{add-one}
 use native.Mathlib.Omega.{arith}
 use mathlib.Core.Path.{_≡_, refl, sym, ap, _∙_, subst}
 use mathlib.Core.Bool.{Bool, true, false, _||_, _&&_, cond}
-use mathlib.Core.List.{List, [], _∷_, _++_, map}
+use mathlib.Core.List.{List, [], _∷_, _++_, map, append-nil, foldl, foldl-append}
 use mathlib.Core.Option.{Option, none, some}
 use mathlib.Core.Logic.{⊎-elim}
-use lib.ListN.{length, getD}
-use Rattle.words.specs.Words.{tableFrom, table, from, find, anyOf, sumOf, inOrder, given}
+use lib.ListN.{length, length-append, getD}
+use Rattle.words.specs.Words.{tableFrom, table, from, each, only, countOf, find, anyOf, sumOf, inOrder, given}
+use Rattle.words.proofs.Steps.{each-append, only-append, sum-append}
 
 module _ {A : Type 0} where
   pub length-table : (i n : ℕ) (f : ℕ → A) → length (tableFrom i n f) ≡ n
@@ -172,3 +173,39 @@ module _ {A B : Type 0} (r : A → A → Bool) (s : B → B → Bool) (f : ℕ �
 
   pub order-same : (n : ℕ) → inOrder r (table n f) ≡ inOrder s (table n g)
   order-same n = order-alike 0 n
+
+-- ---- one more element of a table, word by word
+module _ {A B : Type 0} (f : ℕ → A) where
+  pub each-more : (g : A → List B) (n : ℕ) → each (table (n + 1) f) g ≡ each (table n f) g ++ g (f n)
+  unfolding each
+  each-more g n =
+      ap (λ (l : List A). each l g) (table-more n f) ∙ each-append g (table n f) (f n ∷ [])
+      ∙ ap (λ (l : List B). each (table n f) g ++ l) (append-nil (g (f n)))
+
+  pub each-none : (g : A → List B) → each (table 0 f) g ≡ []
+  unfolding each tableFrom
+  each-none g = refl
+
+  pub foldl-more : (g : B → A → B) (b : B) (n : ℕ) → foldl g b (table (n + 1) f) ≡ g (foldl g b (table n f)) (f n)
+  foldl-more g b n = ap (foldl g b) (table-more n f) ∙ foldl-append g b (table n f) (f n ∷ [])
+
+module _ {A : Type 0} (f : ℕ → A) where
+  pub only-more : (t : A → Bool) (n : ℕ) → only t (table (n + 1) f) ≡ only t (table n f) ++ cond (t (f n)) (f n ∷ []) []
+  unfolding only
+  only-more t n = ap (only t) (table-more n f) ∙ only-append t (table n f) (f n ∷ [])
+
+  pub sum-more : (g : A → ℕ) (n : ℕ) → sumOf g (table (n + 1) f) ≡ sumOf g (table n f) + g (f n)
+  unfolding sumOf
+  sum-more g n = ap (sumOf g) (table-more n f) ∙ sum-append g (table n f) (f n ∷ []) ∙ (let q : sumOf g (table n f) + (g (f n) + 0) ≡ sumOf g (table n f) + g (f n) = omega arith in q)
+
+  pub count-more : (t : A → Bool) (n : ℕ) → countOf t (table (n + 1) f) ≡ countOf t (table n f) + cond (t (f n)) 1 0
+  unfolding countOf
+  count-more t n = ap length (only-more t n) ∙ length-append (only t (table n f)) (cond (t (f n)) (f n ∷ []) []) ∙ ap (λ (k : ℕ). length (only t (table n f)) + k) (go (t (f n)))
+    where
+      go : (b : Bool) → length (cond b (f n ∷ []) []) ≡ cond b 1 0
+      go true = refl
+      go false = refl
+
+  pub count-none : (t : A → Bool) → countOf t (table 0 f) ≡ 0
+  unfolding countOf only tableFrom
+  count-none t = refl

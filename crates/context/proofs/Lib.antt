@@ -1,0 +1,2 @@
+-- Laws of pairs.
+pub mod Pairs

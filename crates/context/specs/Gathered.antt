@@ -1,0 +1,50 @@
+-- `Context::new`: the pairs of two images, and what is gathered of them once per call.
+use Prim.Native.Nat.{ℕ, _+_, _<_, min}
+use mathlib.Core.Path.{_≡_}
+use mathlib.Core.Bool.{cond}
+use mathlib.Core.List.{List}
+use mathlib.Core.Option.{Option, none, some}
+use lib.Dec.{ltb}
+use lib.ListN.{getD}
+use lib.IntN.{ℤ, pos}
+use lib.Ieee.{Float}
+use Rattle.words.specs.Words.{table}
+use Rattle.floats.specs.Floats.{zeroF}
+use Rattle.catalogue.specs.Catalogue.{Id, catalogueOf}
+use Rattle.fit.specs.Fit.{itemCount, resultCount, itemAt, resultOf, fitOf}
+use Rattle.context.specs.Context.{Pair, pairOf, pairs, Context, context}
+
+-- document 01: pairs are the first min(F, R)
+abbrev pub pairCount : List ℕ → ℕ
+pairCount fit = min (itemCount fit) (resultCount fit)
+
+-- pair i of two images
+abbrev pub pairAt : (catalogue fit : List ℕ) → ℕ → Pair
+pairAt catalogue fit i = pairOf (catalogueOf catalogue) i (itemAt fit i) (resultOf fit (i + 2))
+
+unfoldable pub pairsOf : (catalogue fit : List ℕ) → List Pair
+pairsOf catalogue fit = pairs (catalogueOf catalogue) (fitOf fit)
+
+unfoldable pub contextOf : (catalogue fit : List ℕ) → Context
+contextOf catalogue fit = context (catalogueOf catalogue) ((fitOf fit) .frame)
+
+-- a slot in a byte: 8 and above stand for none
+unfoldable pub slotIn : ℕ → Option ℕ
+slotIn code = cond (ltb code 8) (some code) none
+
+-- ---- an array holds something of each pair, at its position
+module _ (catalogue fit : List ℕ) where
+  abbrev pub Groups : List ℤ → Type 0
+  Groups a = (i : ℕ) → i < pairCount fit → getD a i (pos 0) ≡ pairAt catalogue fit i .group
+
+  abbrev pub Categories : List ℤ → Type 0
+  Categories a = (i : ℕ) → i < pairCount fit → getD a i (pos 0) ≡ pairAt catalogue fit i .category
+
+  abbrev pub Volumes : List Float → Type 0
+  Volumes a = (i : ℕ) → i < pairCount fit → getD a i zeroF ≡ pairAt catalogue fit i .volume
+
+  abbrev pub Racks : List ℕ → Type 0
+  Racks a = (i : ℕ) → i < pairCount fit → slotIn (getD a i 0) ≡ pairAt catalogue fit i .rack
+
+  abbrev pub Hardpoints : List ℕ → Type 0
+  Hardpoints a = (i : ℕ) → i < pairCount fit → slotIn (getD a i 0) ≡ pairAt catalogue fit i .hardpoint
