@@ -1,2 +1,3 @@
 pub mod Skill
 pub mod Wanted
+pub mod Held

@@ -1,0 +1,3 @@
+-- Laws of noting skills.
+pub mod Bits
+pub mod Noting

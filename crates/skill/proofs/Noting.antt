@@ -1,0 +1,126 @@
+-- What noting a skill does to the list that two arrays hold, by the skill's place. Assumes nothing.
+use mathlib.Core.Path.{_≡_, refl, ap, ap₂, sym, _∙_}
+use mathlib.Core.Logic.{_⊎_, inl, inr, ⊎-elim}
+use mathlib.Core.Bool.{Bool, true, false, cond}
+use mathlib.Core.List.{List, [], _∷_, _++_}
+use Prim.Native.Nat.{ℕ, zero, suc, _+_, _<_, _≤_, max}
+use native.Mathlib.Omega.{arith}
+use native.Mathlib.Nat.{le-of-suc-le-suc, not-suc-le-zero, max-eq-left, max-eq-right, ne-of-lt}
+use lib.ListN.{length, getD, set, length-append, length-set}
+use lib.Seq.{ext-getD, getD-set-same, getD-set-other}
+use lib.IntN.{ℤ, pos, negsuc}
+use lib.Dec.{eqb}
+use borrow.Author.Tests.{eq-eqb, ne-eqb, eqb-true, eqb-false}
+use Rattle.words.specs.Words.{same, table}
+use Rattle.words.proofs.Tables.{length-table, getD-table, table-more, table-same}
+use Rattle.skill.specs.Skill.{Demand, note}
+use Rattle.skill.specs.Held.{heldAt, heldOf, Placed}
+
+same-refl : (a : ℤ) → same a a ≡ true
+unfolding same
+same-refl (pos n) = eq-eqb n n refl
+same-refl (negsuc n) = eq-eqb n n refl
+
+same-not : (a b : ℤ) → (a ≡ b → ⊥) → same a b ≡ false
+unfolding same
+same-not (pos m) (pos n) h = ne-eqb m n (λ e. h (ap pos e))
+same-not (pos m) (negsuc n) h = refl
+same-not (negsuc m) (pos n) h = refl
+same-not (negsuc m) (negsuc n) h = ne-eqb m n (λ e. h (ap negsuc e))
+
+demand-eq : {a b : ℤ} {x y : ℕ} → a ≡ b → x ≡ y → _≡_ {A = Demand} (a, x) (b, y)
+demand-eq p q = ap₂ (λ (a : ℤ) (x : ℕ). (a, x)) p q
+
+abbrev nothing : Demand
+nothing = (pos 0, 0)
+
+-- the skill stands at j, and at no place before: its level there rises to the higher of the two
+note-found : (ds : List Demand) (i : ℤ) (l j : ℕ) → j < length ds → ((k : ℕ) → k < j → getD ds k nothing .0 ≡ i → ⊥) → getD ds j nothing .0 ≡ i
+    → note ds (i, l) ≡ set ds j (i, max (getD ds j nothing .1) l)
+unfolding note
+note-found [] i l j h b f = absurd (not-suc-le-zero h)
+note-found (d ∷ ds) i l zero h b f =
+    ap (λ (t : Bool). cond t ((d .0, max (d .1) l) ∷ ds) (d ∷ note ds (i, l))) (ap (λ (y : ℤ). same y i) f ∙ same-refl i)
+    ∙ ap (λ (y : ℤ). (y, max (d .1) l) ∷ ds) f
+note-found (d ∷ ds) i l (suc j) h b f =
+    ap (λ (t : Bool). cond t ((d .0, max (d .1) l) ∷ ds) (d ∷ note ds (i, l))) (same-not (d .0) i (b 0 (omega arith)))
+    ∙ ap (λ (r : List Demand). d ∷ r) (note-found ds i l j (le-of-suc-le-suc h) (λ k p. b (suc k) (omega (arith, p))) f)
+
+-- the skill stands nowhere: it goes last
+note-none : (ds : List Demand) (i : ℤ) (l : ℕ) → ((k : ℕ) → k < length ds → getD ds k nothing .0 ≡ i → ⊥) → note ds (i, l) ≡ ds ++ ((i, l) ∷ [])
+unfolding note
+note-none [] i l b = refl
+note-none (d ∷ ds) i l b =
+    ap (λ (t : Bool). cond t ((d .0, max (d .1) l) ∷ ds) (d ∷ note ds (i, l))) (same-not (d .0) i (b 0 (omega arith)))
+    ∙ ap (λ (r : List Demand). d ∷ r) (note-none ds i l (λ k p. b (suc k) (omega (arith, p))))
+
+same-or-not : (k j : ℕ) → (k ≡ j) ⊎ (k ≡ j → ⊥)
+same-or-not k j = pick (eqb k j) refl
+  where
+    pick : (b : Bool) → eqb k j ≡ b → (k ≡ j) ⊎ (k ≡ j → ⊥)
+    pick true e = inl (eqb-true k j e)
+    pick false e = inr (eqb-false k j e)
+
+module _ (ids : List ℤ) (levels : List ℕ) (n : ℕ) (i : ℤ) (l j : ℕ) (p : Placed ids n i j) where
+  abbrev held : List Demand
+  held = table n (heldAt ids levels)
+
+  at-held : (k : ℕ) → k < n → getD held k nothing ≡ heldAt ids levels k
+  at-held k h = getD-table n (heldAt ids levels) k nothing h
+
+  found : j < n → note held (i, l) ≡ set held j (i, max (getD levels j 0) l)
+  found h =
+      note-found held i l j (omega (arith, length-table 0 n (heldAt ids levels)))
+      (λ k q e. p .before k q (sym (ap (λ (d : Demand). d .0) (at-held k (omega (arith, q)))) ∙ e))
+      (ap (λ (d : Demand). d .0) (at-held j h) ∙ p .found h)
+      ∙ ap (λ (d : Demand). set held j (i, max (d .1) l)) (at-held j h)
+
+  missing : n ≤ j → note held (i, l) ≡ held ++ ((i, l) ∷ [])
+  missing h =
+      note-none held i l
+      (λ k q e.
+      let r : k < n = omega (arith, q, length-table 0 n (heldAt ids levels)) in
+      p .before k (omega (arith, r)) (sym (ap (λ (d : Demand). d .0) (at-held k r)) ∙ e))
+
+  pub found-length : j < n → n ≡ length (note (heldOf ids levels n) (i, l))
+  unfolding heldOf
+  found-length h = sym (ap length (found h) ∙ length-set held j _ ∙ length-table 0 n (heldAt ids levels))
+
+  pub missing-length : n ≤ j → n + 1 ≡ length (note (heldOf ids levels n) (i, l))
+  unfolding heldOf
+  missing-length h = sym (ap length (missing h) ∙ omega (arith, length-append held ((i, l) ∷ []), length-table 0 n (heldAt ids levels)))
+
+  -- a table that is the old one but at j, where it is v
+  changed : (f : ℕ → Demand) (v : Demand) → j < n → f j ≡ v → ((k : ℕ) → (k ≡ j → ⊥) → f k ≡ heldAt ids levels k) → table n f ≡ set held j v
+  changed f v h e o =
+      ext-getD nothing (table n f) (set held j v) (length-table 0 n f ∙ sym (length-set held j v ∙ length-table 0 n (heldAt ids levels)))
+      (λ k q.
+      let r : k < n = omega (arith, q, length-table 0 n f) in
+      getD-table n f k nothing r
+      ∙ ⊎-elim
+      (λ (s : k ≡ j). ap f s ∙ e ∙ sym (ap (λ (m : ℕ). getD (set held j v) m nothing) s ∙ getD-set-same held j v nothing (omega (arith, length-table 0 n (heldAt ids levels)))))
+      (λ (s : k ≡ j → ⊥). o k s ∙ sym (getD-set-other held j k v nothing s ∙ at-held k r))
+      (same-or-not k j))
+
+  pub raised : length levels ≡ 512 → n ≤ 512 → j < n → getD levels j 0 < l → heldOf ids (set levels j l) n ≡ note (heldOf ids levels n) (i, l)
+  unfolding heldOf
+  raised hl hn h g =
+      changed (heldAt ids (set levels j l)) (i, max (getD levels j 0) l) h
+      (demand-eq (p .found h) (getD-set-same levels j l 0 (omega (arith, hl)) ∙ sym (max-eq-right (omega (arith, g)))))
+      (λ k s. demand-eq refl (getD-set-other levels j k l 0 s))
+      ∙ sym (found h)
+
+  pub kept : j < n → l ≤ getD levels j 0 → heldOf ids levels n ≡ note (heldOf ids levels n) (i, l)
+  unfolding heldOf
+  kept h g =
+      changed (heldAt ids levels) (i, max (getD levels j 0) l) h (demand-eq (p .found h) (sym (max-eq-left g))) (λ k s. refl) ∙ sym (found h)
+
+  pub added : length ids ≡ 512 → length levels ≡ 512 → n < 512 → n ≤ j → heldOf (set ids n i) (set levels n l) (n + 1) ≡ note (heldOf ids levels n) (i, l)
+  unfolding heldOf
+  added hi hl hn h =
+      let f = heldAt (set ids n i) (set levels n l) in
+      table-more n f
+      ∙ ap₂ (λ (ds : List Demand) (d : Demand). ds ++ (d ∷ []))
+      (table-same n f (heldAt ids levels) (λ k q. demand-eq (getD-set-other ids n k i (pos 0) (ne-of-lt q)) (getD-set-other levels n k l 0 (ne-of-lt q))))
+      (demand-eq (getD-set-same ids n i (pos 0) (omega (arith, hi))) (getD-set-same levels n l 0 (omega (arith, hl))))
+      ∙ sym (missing h)
