@@ -1,2 +1,4 @@
--- Laws of pairs.
+-- Laws of pairs and of what is gathered of them.
 pub mod Pairs
+pub mod Filled
+pub mod Marks
