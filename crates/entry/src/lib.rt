@@ -3,6 +3,7 @@ ghost use mathlib.Core.Path.{_≡_};
 ghost use mathlib.Core.List.{[], _∷_, _++_};
 ghost use Prim.Native.Nat.{_+_, _*_, _/_, _%_, _<_, _≤_, _^_};
 ghost use lib.ListN.{length};
+ghost use Rattle.words.specs.Words.{when};
 ghost use Rattle.image.specs.Bytes.{bits32, le, put};
 ghost use Rattle.entry.specs.Entries.{low, high, fields, place, entryBytes};
 ghost use Rattle.entry.specs.Packing.{fieldsOf};
@@ -189,4 +190,12 @@ pub fn emit(out: &mut [u8], n: usize, e: Entry) -> usize
     } else {
         n + 1
     }
+}
+
+// An entry where a test holds.
+pub fn emit_when(out: &mut [u8], n: usize, test: bool, e: Entry) -> usize
+    requires { ⌜ n < 4294967296 ⌝ }
+    ensures { λ r. ⌜ Wrote (now (out .entry)) n (now (out .exit)) r (when test e) ⌝ }
+{
+    if test { emit(out, n, e) } else { n }
 }
