@@ -1,1 +1,216 @@
-// The catalogue.
+// The catalogue: what it must be, and how it is read. Document 01, "Records", "Refusals in their order".
+ghost use mathlib.Core.Path.{_≡_};
+ghost use mathlib.Core.Bool.{_||_};
+ghost use mathlib.Core.List.{map};
+ghost use Prim.Native.Nat.{ℕ, _+_, _*_, _<_, _≤_};
+ghost use lib.ListN.{length, take, drop};
+ghost use lib.Dec.{ltb};
+ghost use lib.Signed.{ltZ, leZ};
+ghost use Rattle.words.specs.Words.{table, anyOf, inOrder};
+ghost use Rattle.image.specs.Bytes.{u32At, i32At};
+ghost use Rattle.catalogue.specs.Catalogue.{catalogueOf, sizeOf, nameCount, effectCount, typeCount, linkCount, baseCount, namesAt, effectsAt, typesAt, linksAt, basesAt};
+ghost use Rattle.catalogue.specs.Refusals.{badLength, badOrder, badField, catalogueRefusal};
+ghost use Rattle.catalogue.specs.Answers.{numberOf};
+
+// Refusals 1 to 3, or none.
+pub enum Verdict {
+    Accepted,
+    BadLength,
+    BadOrder,
+    BadField,
+}
+
+// A block: where it begins, and how many records it has.
+struct Block {
+    at: usize,
+    n: usize,
+}
+
+fn count(catalogue: &[u8], at: usize) -> usize
+    requires { ⌜ at + 4 ≤ length (now catalogue) ⌝ }
+    ensures { λ r. ⌜ (r ≡ u32At (now (catalogue .entry)) at) × (r < 4294967296) ⌝ }
+{
+    image::u32_at(catalogue, at) as usize
+}
+
+// The length that the sizes say. No sum of five sizes of 32 bits wraps.
+fn size_of(catalogue: &[u8]) -> usize
+    requires { ⌜ 20 ≤ length (now catalogue) ⌝ }
+    ensures { λ r. ⌜ r ≡ sizeOf (now (catalogue .entry)) ⌝ }
+{
+    20 + 8 * count(catalogue, 0)
+        + 8 * count(catalogue, 4)
+        + 20 * count(catalogue, 8)
+        + 8 * count(catalogue, 12)
+        + 12 * count(catalogue, 16)
+}
+
+fn names(catalogue: &[u8]) -> Block
+    requires { ⌜ length (now catalogue) ≡ sizeOf (now catalogue) ⌝ }
+    ensures { λ r. ⌜ (r .at ≡ namesAt (now (catalogue .entry))) × (r .n ≡ nameCount (now (catalogue .entry))) ⌝ }
+{
+    Block {
+        at: 20,
+        n: count(catalogue, 0),
+    }
+}
+
+fn effects(catalogue: &[u8]) -> Block
+    requires { ⌜ length (now catalogue) ≡ sizeOf (now catalogue) ⌝ }
+    ensures { λ r. ⌜ (r .at ≡ effectsAt (now (catalogue .entry))) × (r .n ≡ effectCount (now (catalogue .entry))) ⌝ }
+{
+    let b = names(catalogue);
+    Block {
+        at: b.at + 8 * b.n,
+        n: count(catalogue, 4),
+    }
+}
+
+fn types(catalogue: &[u8]) -> Block
+    requires { ⌜ length (now catalogue) ≡ sizeOf (now catalogue) ⌝ }
+    ensures { λ r. ⌜ (r .at ≡ typesAt (now (catalogue .entry))) × (r .n ≡ typeCount (now (catalogue .entry))) ⌝ }
+{
+    let b = effects(catalogue);
+    Block {
+        at: b.at + 8 * b.n,
+        n: count(catalogue, 8),
+    }
+}
+
+fn links(catalogue: &[u8]) -> Block
+    requires { ⌜ length (now catalogue) ≡ sizeOf (now catalogue) ⌝ }
+    ensures { λ r. ⌜ (r .at ≡ linksAt (now (catalogue .entry))) × (r .n ≡ linkCount (now (catalogue .entry))) ⌝ }
+{
+    let b = types(catalogue);
+    Block {
+        at: b.at + 20 * b.n,
+        n: count(catalogue, 12),
+    }
+}
+
+fn bases(catalogue: &[u8]) -> Block
+    requires { ⌜ length (now catalogue) ≡ sizeOf (now catalogue) ⌝ }
+    ensures { λ r. ⌜ (r .at ≡ basesAt (now (catalogue .entry))) × (r .n ≡ baseCount (now (catalogue .entry))) ⌝ }
+{
+    let b = links(catalogue);
+    Block {
+        at: b.at + 8 * b.n,
+        n: count(catalogue, 16),
+    }
+}
+
+// Refusal 1.
+fn bad_length(catalogue: &[u8]) -> bool
+    ensures { λ r. ⌜ r ≡ badLength (now (catalogue .entry)) ⌝ }
+{
+    if 16777216 < catalogue.len() {
+        return true;
+    }
+    if catalogue.len() < 20 {
+        return true;
+    }
+    catalogue.len() != size_of(catalogue)
+}
+
+// The keys of a block.
+fn keys_of(catalogue: &[u8], b: Block) -> &[u8]
+    requires { ⌜ b .at + 4 * b .n ≤ length (now catalogue) ⌝ }
+    ensures { λ r. ⌜ (now r ≡ take (4 * b .n) (drop (b .at) (now (catalogue .entry)))) × (length (now r) ≡ 4 * b .n) ⌝ }
+{
+    image::part(catalogue, b.at, 4 * b.n)
+}
+
+fn ascend_unsigned(catalogue: &[u8], b: Block) -> bool
+    requires { ⌜ b .at + 4 * b .n ≤ length (now catalogue) ⌝ }
+    ensures { λ r. ⌜ r ≡ inOrder ltb (table (b .n) (λ i. u32At (now (catalogue .entry)) (b .at + 4 * i))) ⌝ }
+{
+    keys::ascend_unsigned(keys_of(catalogue, b), b.n)
+}
+
+fn ascend(catalogue: &[u8], b: Block) -> bool
+    requires { ⌜ b .at + 4 * b .n ≤ length (now catalogue) ⌝ }
+    ensures { λ r. ⌜ r ≡ inOrder ltZ (table (b .n) (λ i. i32At (now (catalogue .entry)) (b .at + 4 * i))) ⌝ }
+{
+    keys::ascend(keys_of(catalogue, b), b.n)
+}
+
+fn never_descend(catalogue: &[u8], b: Block) -> bool
+    requires { ⌜ b .at + 4 * b .n ≤ length (now catalogue) ⌝ }
+    ensures { λ r. ⌜ r ≡ inOrder leZ (table (b .n) (λ i. i32At (now (catalogue .entry)) (b .at + 4 * i))) ⌝ }
+{
+    keys::never_descend(keys_of(catalogue, b), b.n)
+}
+
+// Refusal 2.
+fn bad_order(catalogue: &[u8]) -> bool
+    requires { ⌜ length (now catalogue) ≡ sizeOf (now catalogue) ⌝ }
+    ensures { λ r. ⌜ r ≡ badOrder (catalogueOf (now (catalogue .entry))) ⌝ }
+{
+    if !ascend_unsigned(catalogue, names(catalogue)) {
+        return true;
+    }
+    if !ascend(catalogue, effects(catalogue)) {
+        return true;
+    }
+    if !ascend(catalogue, types(catalogue)) {
+        return true;
+    }
+    if !never_descend(catalogue, links(catalogue)) {
+        return true;
+    }
+    !never_descend(catalogue, bases(catalogue))
+}
+
+fn either(a: bool, b: bool) -> bool
+    ensures { λ r. ⌜ r ≡ (a || b) ⌝ }
+{
+    if a { true } else { b }
+}
+
+// Whether any of n numbers, each `step` bytes after the last, is above a limit. Like an order check it runs to its end.
+fn any_above(b: &[u8], at: usize, n: usize, step: usize, limit: u32) -> bool
+    requires { ⌜ ((i : ℕ) → i < n → at + step * i + 4 ≤ length (now b)) ⌝ }
+    ensures { λ r. ⌜ r ≡ anyOf (ltb limit) (table n (λ i. u32At (now (b .entry)) (at + step * i))) ⌝ }
+{
+    let mut found = false;
+    let mut i = 0;
+    while i < n {
+        let x = image::u32_at(b, at + step * i);
+        found = either(found, limit < x);
+        i += 1;
+    }
+    found
+}
+
+// Refusal 3.
+fn bad_field(catalogue: &[u8]) -> bool
+    requires { ⌜ length (now catalogue) ≡ sizeOf (now catalogue) ⌝ }
+    ensures { λ r. ⌜ r ≡ badField (catalogueOf (now (catalogue .entry))) ⌝ }
+{
+    let n = names(catalogue);
+    if any_above(catalogue, n.at, n.n, 4, 87) {
+        return true;
+    }
+    let e = effects(catalogue);
+    if any_above(catalogue, e.at + 4 * e.n, e.n, 4, 8) {
+        return true;
+    }
+    let t = types(catalogue);
+    any_above(catalogue, t.at + 4 * t.n + 8, t.n, 16, 1)
+}
+
+// The first refusal of 1 to 3 that holds.
+pub fn verdict_of(catalogue: &[u8]) -> Verdict
+    ensures { λ r. ⌜ numberOf r ≡ catalogueRefusal (now (catalogue .entry)) ⌝ }
+{
+    if bad_length(catalogue) {
+        return Verdict::BadLength;
+    }
+    if bad_order(catalogue) {
+        return Verdict::BadOrder;
+    }
+    if bad_field(catalogue) {
+        return Verdict::BadField;
+    }
+    Verdict::Accepted
+}

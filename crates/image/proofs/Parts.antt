@@ -4,9 +4,12 @@ use native.Mathlib.Nat.{add-assoc}
 use native.Mathlib.Omega.{arith}
 use mathlib.Core.Path.{_≡_, ap, _∙_}
 use mathlib.Core.List.{List}
-use lib.ListN.{getD, take, drop}
+use lib.ListN.{length, getD, take, drop, length-take, length-drop}
 use lib.Seq.{getD-take, getD-drop}
 use Rattle.image.specs.Bytes.{u32At, signed32, i32At}
+
+pub part-length : (b : List ℕ) (at n : ℕ) → at + n ≤ length b → length (take n (drop at b)) ≡ n
+part-length b at n h = simp (length-take, length-drop) (omega arith)
 
 module _ (b : List ℕ) (at n : ℕ) where
   byte : (i : ℕ) → i < n → getD (take n (drop at b)) i 0 ≡ getD b (at + i) 0

@@ -8,6 +8,7 @@ use mathlib.Core.Bool.{Bool, true, false, _||_, _&&_, cond}
 use mathlib.Core.List.{List, [], _∷_, _++_, map}
 use mathlib.Core.Option.{Option, none, some}
 use mathlib.Core.Logic.{⊎-elim}
+use mathlib.Mathlib.Data.Bool.Basic.{or-eq-false-eq-eq-false-and-eq-false}
 use lib.ListN.{length, getD}
 use Rattle.words.specs.Words.{tableFrom, table, from, find, anyOf, sumOf, inOrder, given}
 
@@ -97,6 +98,19 @@ module _ {A : Type 0} (t : A → Bool) where
   pub find-at : (n : ℕ) (f : ℕ → A) (r : ℕ) → r < n → ((j : ℕ) → j < r → t (f j) ≡ false) → t (f r) ≡ true → find t (table n f) ≡ some (f r)
   find-at n f r a h e = at-from 0 n f r (omega arith) (omega (arith, a)) (λ j p q. h j q) e
 
+  false-from : (i n : ℕ) (f : ℕ → A) → anyOf t (tableFrom i n f) ≡ false → (j : ℕ) → i ≤ j → j < i + n → t (f j) ≡ false
+  unfolding tableFrom anyOf
+  false-from i zero f e j p q = absurd (bad p q)
+    where
+      bad : i ≤ j → j < i + 0 → ⊥
+      bad p q = omega arith
+  false-from i (suc n) f e j p q =
+      let o = or-eq-false-eq-eq-false-and-eq-false (t (f i)) (anyOf t (tableFrom (suc i) n f)) .0 e in
+      ⊎-elim
+      (λ (h : i ≡ j). ap (λ (k : ℕ). t (f k)) (sym h) ∙ o .0)
+      (λ (h : i < j). false-from (suc i) n f (o .1) j h (omega arith))
+      (eq-or-lt-of-le p)
+
   any-from : (i n : ℕ) (f : ℕ → A) → anyOf t (tableFrom i (suc n) f) ≡ anyOf t (tableFrom i n f) || t (f (i + n))
   unfolding tableFrom anyOf
   any-from i zero f = ap (λ (k : ℕ). t (f k) || false) (sym (add-zero i)) ∙ or-false (t (f (i + 0)))
@@ -116,9 +130,23 @@ module _ {A : Type 0} (t : A → Bool) where
   pub any-more : (n : ℕ) (f : ℕ → A) → anyOf t (table (n + 1) f) ≡ anyOf t (table n f) || t (f n)
   any-more n f = rw add-one (any-from 0 n f ∙ ap (λ (k : ℕ). anyOf t (table n f) || t (f k)) (zero-add n))
 
+  -- no element passes
+  pub any-false : (n : ℕ) (f : ℕ → A) → anyOf t (table n f) ≡ false → (j : ℕ) → j < n → t (f j) ≡ false
+  any-false n f e j h = false-from 0 n f e j (omega arith) (omega (arith, h))
+
   pub any-none : (f : ℕ → A) → anyOf t (table 0 f) ≡ false
   unfolding tableFrom anyOf
   any-none f = refl
+
+-- a test of what is made of each element
+module _ {A B : Type 0} (t : B → Bool) (g : A → B) where
+  any-made : (i n : ℕ) (f : ℕ → A) → anyOf (λ x. t (g x)) (tableFrom i n f) ≡ anyOf t (tableFrom i n (λ j. g (f j)))
+  unfolding tableFrom anyOf
+  any-made i zero f = refl
+  any-made i (suc n) f = ap (λ (b : Bool). t (g (f i)) || b) (any-made (suc i) n f)
+
+  pub any-table : (n : ℕ) (f : ℕ → A) → anyOf (λ x. t (g x)) (table n f) ≡ anyOf t (table n (λ j. g (f j)))
+  any-table n f = any-made 0 n f
 
 -- ---- order
 module _ {A : Type 0} (r : A → A → Bool) where

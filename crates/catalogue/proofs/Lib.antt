@@ -1,0 +1,3 @@
+-- Laws of catalogues: blocks and their keys, what a sound one is, and its lookups.
+pub mod Blocks
+pub mod Sound
