@@ -7,11 +7,12 @@ use mathlib.Core.List.{List, map}
 use lib.ListN.{length, take, drop}
 use lib.Dec.{ltb}
 use lib.Signed.{ltZ, leZ}
-use Rattle.words.specs.Words.{table, inOrder, anyOf}
-use Rattle.words.proofs.Tables.{table-same, map-table, any-table}
+use lib.IntN.{ℤ}
+use Rattle.words.specs.Words.{table, from, inOrder, anyOf, find, same}
+use Rattle.words.proofs.Tables.{table-same, map-table, any-table, find-alike}
 use Rattle.image.specs.Bytes.{u32At, i32At}
 use Rattle.image.proofs.Parts.{part-u32, part-i32}
-use Rattle.keys.specs.Keys.{keyAt}
+use Rattle.keys.specs.Keys.{keyAt, placeOf}
 use Rattle.catalogue.specs.Catalogue.{catalogueOf, nameCount, effectCount, typeCount, linkCount, baseCount, namesAt, effectsAt, typesAt, linksAt, basesAt, nameAt, effectAt, typeAt, linkAt, baseAt}
 use Rattle.catalogue.specs.Refusals.{badOrder, badField}
 
@@ -22,6 +23,10 @@ module _ (b : List ℕ) (at n : ℕ) where
 
   pub keys-part : table n (keyAt (take (4 * n) (drop at b))) ≡ table n (λ i. i32At b (at + 4 * i))
   keys-part = table-same n _ _ (λ i h. part-i32 b at (4 * n) (4 * i) (omega (arith, h)))
+
+  pub find-part : (id : ℤ) → placeOf (take (4 * n) (drop at b)) n id ≡ find (λ i. same (i32At b (at + 4 * i)) id) (from 0 n)
+  unfolding placeOf
+  find-part id = find-alike _ _ n (λ i h. ap (λ (z : ℤ). same z id) (part-i32 b at (4 * n) (4 * i) (omega (arith, h))))
 
 -- ---- the tests of a catalogue, by the bytes
 module _ (b : List ℕ) where

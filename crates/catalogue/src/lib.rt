@@ -1,4 +1,5 @@
 // The catalogue: what it must be, and how it is read. Document 01, "Records", "Refusals in their order".
+use keys::Found;
 ghost use mathlib.Core.Path.{_≡_};
 ghost use mathlib.Core.Bool.{_||_};
 ghost use mathlib.Core.List.{map};
@@ -6,11 +7,14 @@ ghost use Prim.Native.Nat.{ℕ, _+_, _*_, _<_, _≤_};
 ghost use lib.ListN.{length, take, drop};
 ghost use lib.Dec.{ltb};
 ghost use lib.Signed.{ltZ, leZ};
-ghost use Rattle.words.specs.Words.{table, anyOf, inOrder};
+ghost use Rattle.words.specs.Words.{table, from, anyOf, inOrder, find, same};
 ghost use Rattle.image.specs.Bytes.{u32At, i32At};
-ghost use Rattle.catalogue.specs.Catalogue.{catalogueOf, sizeOf, nameCount, effectCount, typeCount, linkCount, baseCount, namesAt, effectsAt, typesAt, linksAt, basesAt};
+ghost use Rattle.catalogue.specs.Catalogue.{catalogueOf, sizeOf, nameCount, effectCount, typeCount, linkCount, baseCount, namesAt, effectsAt, typesAt, linksAt, basesAt, nameAt, effectAt};
 ghost use Rattle.catalogue.specs.Refusals.{badLength, badOrder, badField, catalogueRefusal};
-ghost use Rattle.catalogue.specs.Answers.{numberOf};
+ghost use Rattle.keys.specs.Keys.{Sorted, foundOf};
+ghost use Rattle.catalogue.specs.Sound.{Sound};
+ghost use Rattle.catalogue.specs.Lookups.{nameId, effectMark};
+ghost use Rattle.catalogue.specs.Answers.{numberOf, idOf, markOf};
 
 // Refusals 1 to 3, or none.
 pub enum Verdict {
@@ -18,6 +22,18 @@ pub enum Verdict {
     BadLength,
     BadOrder,
     BadField,
+}
+
+// The id of an attribute, where its name has one.
+pub enum AttributeId {
+    Known(i32),
+    Unknown,
+}
+
+// The mark of an effect, where the effect is there.
+pub enum Mark {
+    Known(u8),
+    Unknown,
 }
 
 // A block: where it begins, and how many records it has.
@@ -213,4 +229,55 @@ pub fn verdict_of(catalogue: &[u8]) -> Verdict
         return Verdict::BadField;
     }
     Verdict::Accepted
+}
+
+// Where an id stands among the keys of a block.
+fn find_key(catalogue: &[u8], b: Block, id: i32) -> Found
+    requires { ⌜ (b .at + 4 * b .n ≤ length (now catalogue)) × Sorted (take (4 * b .n) (drop (b .at) (now catalogue))) (b .n) ⌝ }
+    ensures { λ r. ⌜ foundOf r ≡ find (λ i. same (i32At (now (catalogue .entry)) (b .at + 4 * i)) id) (from 0 (b .n)) ⌝ }
+{
+    keys::place_of(keys_of(catalogue, b), b.n, id)
+}
+
+fn id_at(catalogue: &[u8], i: usize) -> i32
+    requires { ⌜ (length (now catalogue) ≡ sizeOf (now catalogue)) × (i < nameCount (now catalogue)) ⌝ }
+    ensures { λ r. ⌜ r ≡ nameAt (now (catalogue .entry)) i .id ⌝ }
+{
+    let b = names(catalogue);
+    image::i32_at(catalogue, b.at + 4 * b.n + 4 * i)
+}
+
+// The attribute of a name. Name numbers are at most 87, so that the order of the signed numbers is theirs.
+pub fn attribute_id(catalogue: &[u8], name: u32) -> AttributeId
+    requires { ⌜ Sound (now catalogue) ⌝ }
+    ensures { λ r. ⌜ idOf r ≡ nameId (catalogueOf (now (catalogue .entry)) .names) name ⌝ }
+{
+    if 87 < name {
+        return AttributeId::Unknown;
+    }
+    let found = find_key(catalogue, names(catalogue), name as i32);
+    match found {
+        Found::At(i) => AttributeId::Known(id_at(catalogue, i)),
+        Found::Nothing => AttributeId::Unknown,
+    }
+}
+
+fn mark_at(catalogue: &[u8], i: usize) -> u8
+    requires { ⌜ Sound (now catalogue) × (i < effectCount (now catalogue)) ⌝ }
+    ensures { λ r. ⌜ r ≡ effectAt (now (catalogue .entry)) i .mark ⌝ }
+{
+    let b = effects(catalogue);
+    image::u32_at(catalogue, b.at + 4 * b.n + 4 * i) as u8
+}
+
+// The mark of an effect.
+pub fn effect_mark(catalogue: &[u8], id: i32) -> Mark
+    requires { ⌜ Sound (now catalogue) ⌝ }
+    ensures { λ r. ⌜ markOf r ≡ effectMark (catalogueOf (now (catalogue .entry))) id ⌝ }
+{
+    let found = find_key(catalogue, effects(catalogue), id);
+    match found {
+        Found::At(i) => Mark::Known(mark_at(catalogue, i)),
+        Found::Nothing => Mark::Unknown,
+    }
 }

@@ -138,6 +138,39 @@ module _ {A : Type 0} (t : A → Bool) where
   unfolding tableFrom anyOf
   any-none f = refl
 
+-- what is made of the element that a search finds
+pub find-made : {A B : Type 0} (t : A → Bool) (g : A → B) (n : ℕ) (f : ℕ → A) → given (find t (table n f)) none (λ x. some (g x)) ≡ given (find (λ j. t (f j)) (from 0 n)) none (λ j. some (g (f j)))
+unfolding given
+find-made {A} {B} t g n f = ap (λ (o : Option A). given o none (λ x. some (g x))) (find-table t n f) ∙ go (find (λ j. t (f j)) (from 0 n))
+  where
+    go : (o : Option ℕ) → given (given o none (λ j. some (f j))) none (λ x. some (g x)) ≡ given o none (λ j. some (g (f j)))
+    go none = refl
+    go (some j) = refl
+
+-- ---- searches for a number
+module _ (t s : ℕ → Bool) where
+  alike-from : (i n : ℕ) → ((j : ℕ) → j < i + n → t j ≡ s j) → find t (from i n) ≡ find s (from i n)
+  unfolding tableFrom find
+  alike-from i zero h = refl
+  alike-from i (suc n) h = rw (h i (omega arith), alike-from (suc i) n (λ j q. h j (omega (arith, q))))
+
+  -- two tests that agree below n find the same
+  pub find-alike : (n : ℕ) → ((j : ℕ) → j < n → t j ≡ s j) → find t (from 0 n) ≡ find s (from 0 n)
+  find-alike n h = alike-from 0 n (λ j q. h j (omega (arith, q)))
+
+below-from : (t : ℕ → Bool) (i n r : ℕ) → find t (from i n) ≡ some r → r < i + n
+unfolding tableFrom find
+below-from t i zero r e = absurd (let z : _≡_ {A = ℕ} 0 1 = cc in omega arith)
+below-from t i (suc n) r e = go (t i) e (below-from t (suc i) n r)
+  where
+    go : (b : Bool) → cond b (some i) (find t (from (suc i) n)) ≡ some r → (find t (from (suc i) n) ≡ some r → r < suc i + n) → r < i + suc n
+    go true q h = let p : i ≡ r = cc in omega arith
+    go false q h = omega (arith, h q)
+
+-- what is found is below n
+pub find-below : (t : ℕ → Bool) (n r : ℕ) → find t (from 0 n) ≡ some r → r < n
+find-below t n r e = omega (arith, below-from t 0 n r e)
+
 -- a test of what is made of each element
 module _ {A B : Type 0} (t : B → Bool) (g : A → B) where
   any-made : (i n : ℕ) (f : ℕ → A) → anyOf (λ x. t (g x)) (tableFrom i n f) ≡ anyOf t (tableFrom i n (λ j. g (f j)))
