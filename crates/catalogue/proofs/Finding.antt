@@ -13,6 +13,7 @@ use Rattle.words.proofs.Tables.{find-made, find-alike, find-none}
 use Rattle.image.specs.Bytes.{u32At, i32At, signed32}
 use Rattle.catalogue.specs.Catalogue.{Id, Catalogue, catalogueOf, nameCount, effectCount, typeCount, linkCount, baseCount, namesAt, nameAt, effectAt, typeAt}
 use Rattle.catalogue.specs.Lookups.{nameId, typeOf, effectMark}
+use Rattle.catalogue.specs.Answers.{infoOfType}
 use Rattle.catalogue.specs.Sound.{Sound}
 use Rattle.catalogue.proofs.Reading.{signed-small, number-small}
 
@@ -20,6 +21,10 @@ module _ (b : List ℕ) where
   pub effect-search : (e : Id) → effectMark (catalogueOf b) e ≡ given (find (λ j. same (effectAt b j .id) e) (from 0 (effectCount b))) none (λ j. some (effectAt b j .mark))
   unfolding effectMark catalogueOf
   effect-search e = find-made (λ x. same (x .id) e) (λ x. x .mark) (effectCount b) (effectAt b)
+
+  pub type-search : (t : Id) → given (typeOf (catalogueOf b) t) none (λ x. some (infoOfType x)) ≡ given (find (λ j. same (typeAt b j .id) t) (from 0 (typeCount b))) none (λ j. some (infoOfType (typeAt b j)))
+  unfolding typeOf catalogueOf
+  type-search t = find-made (λ x. same (x .id) t) infoOfType (typeCount b) (typeAt b)
 
   name-table : (n : ℕ) → nameId (catalogueOf b .names) n ≡ given (find (λ j. eqb (nameAt b j .number) n) (from 0 (nameCount b))) none (λ j. some (nameAt b j .id))
   unfolding nameId catalogueOf

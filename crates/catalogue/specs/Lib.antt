@@ -3,3 +3,4 @@ pub mod Refusals
 pub mod Lookups
 pub mod Sound
 pub mod Answers
+pub mod Walks

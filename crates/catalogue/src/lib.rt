@@ -1,20 +1,26 @@
 // The catalogue: what it must be, and how it is read. Document 01, "Records", "Refusals in their order".
+use floats::Value;
 use keys::Found;
 ghost use mathlib.Core.Path.{_≡_};
 ghost use mathlib.Core.Bool.{_||_};
-ghost use mathlib.Core.List.{map};
+ghost use mathlib.Core.List.{foldl};
+ghost use mathlib.Core.Bool.{cond};
+ghost use mathlib.Core.Option.{none, some};
 ghost use Prim.Native.Nat.{ℕ, _+_, _*_, _<_, _≤_};
 ghost use lib.ListN.{length, take, drop};
-ghost use lib.Dec.{ltb};
+ghost use lib.Dec.{ltb, eqb};
 ghost use lib.Signed.{ltZ, leZ};
-ghost use Rattle.words.specs.Words.{table, from, anyOf, inOrder, find, same};
+ghost use Rattle.words.specs.Words.{table, from, anyOf, inOrder, find, given, same};
+ghost use Rattle.floats.specs.Floats.{zeroF, f32At};
+ghost use Rattle.floats.specs.Values.{valueOf};
 ghost use Rattle.image.specs.Bytes.{u32At, i32At};
-ghost use Rattle.catalogue.specs.Catalogue.{catalogueOf, sizeOf, nameCount, effectCount, typeCount, linkCount, baseCount, namesAt, effectsAt, typesAt, linksAt, basesAt, nameAt, effectAt};
+ghost use Rattle.catalogue.specs.Catalogue.{catalogueOf, sizeOf, nameCount, effectCount, typeCount, linkCount, baseCount, namesAt, effectsAt, typesAt, linksAt, basesAt, nameAt, effectAt, typeAt, linkAt, baseAt};
 ghost use Rattle.catalogue.specs.Refusals.{badLength, badOrder, badField, catalogueRefusal};
-ghost use Rattle.keys.specs.Keys.{Sorted, foundOf};
+ghost use Rattle.keys.specs.Keys.{Sorted, Parts, foundOf};
 ghost use Rattle.catalogue.specs.Sound.{Sound};
-ghost use Rattle.catalogue.specs.Lookups.{nameId, effectMark};
-ghost use Rattle.catalogue.specs.Answers.{numberOf, idOf, markOf};
+ghost use Rattle.catalogue.specs.Lookups.{nameId, typeOf, effectMark, rackOf, hardpointOf, baseValue};
+ghost use Rattle.catalogue.specs.Answers.{numberOf, idOf, markOf, infoOf, infoOfType, slotOf};
+ghost use Rattle.catalogue.specs.Walks.{SpanOf, spanValue, marked, linkMarks};
 
 // Refusals 1 to 3, or none.
 pub enum Verdict {
@@ -34,6 +40,36 @@ pub enum AttributeId {
 pub enum Mark {
     Known(u8),
     Unknown,
+}
+
+// What a type is. Its volume is 0 where none is given.
+pub struct TypeInfo {
+    pub group: i32,
+    pub category: i32,
+    pub volume: f64,
+}
+
+pub enum TypeAnswer {
+    Known(TypeInfo),
+    Unknown,
+}
+
+// A rack or a hardpoint by its number.
+pub enum SlotAnswer {
+    Slot(u8),
+    Nothing,
+}
+
+// What a type asks for.
+pub struct SlotMarks {
+    pub rack: SlotAnswer,
+    pub hardpoint: SlotAnswer,
+}
+
+// The bases of a type, by their places.
+pub struct Span {
+    pub from: usize,
+    pub to: usize,
 }
 
 // A block: where it begins, and how many records it has.
@@ -279,5 +315,41 @@ pub fn effect_mark(catalogue: &[u8], id: i32) -> Mark
     match found {
         Found::At(i) => Mark::Known(mark_at(catalogue, i)),
         Found::Nothing => Mark::Unknown,
+    }
+}
+
+// The volume of the type whose value begins at a place.
+fn volume_at(catalogue: &[u8], at: usize) -> f64
+    requires { ⌜ at + 16 ≤ length (now catalogue) ⌝ }
+    ensures { λ r. ⌜ r ≡ cond (eqb (u32At (now (catalogue .entry)) (at + 8)) 0) zeroF (f32At (now (catalogue .entry)) (at + 12)) ⌝ }
+{
+    let flag = image::u32_at(catalogue, at + 8);
+    if flag == 0 {
+        return 0.0;
+    }
+    floats::f32_wide_at(catalogue, at + 12)
+}
+
+fn type_at(catalogue: &[u8], i: usize) -> TypeInfo
+    requires { ⌜ (length (now catalogue) ≡ sizeOf (now catalogue)) × (i < typeCount (now catalogue)) ⌝ }
+    ensures { λ r. ⌜ r ≡ infoOfType (typeAt (now (catalogue .entry)) i) ⌝ }
+{
+    let b = types(catalogue);
+    let at = b.at + 4 * b.n + 16 * i;
+    TypeInfo {
+        group: image::i32_at(catalogue, at),
+        category: image::i32_at(catalogue, at + 4),
+        volume: volume_at(catalogue, at),
+    }
+}
+
+pub fn type_of(catalogue: &[u8], id: i32) -> TypeAnswer
+    requires { ⌜ Sound (now catalogue) ⌝ }
+    ensures { λ r. ⌜ infoOf r ≡ given (typeOf (catalogueOf (now (catalogue .entry))) id) none (λ x. some (infoOfType x)) ⌝ }
+{
+    let found = find_key(catalogue, types(catalogue), id);
+    match found {
+        Found::At(i) => TypeAnswer::Known(type_at(catalogue, i)),
+        Found::Nothing => TypeAnswer::Unknown,
     }
 }
