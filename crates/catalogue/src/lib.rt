@@ -1,1 +1,355 @@
-// The catalogue.
+// The catalogue: what it must be, and how it is read. Document 01, "Records", "Refusals in their order".
+use floats::Value;
+use keys::Found;
+ghost use mathlib.Core.Path.{_≡_};
+ghost use mathlib.Core.Bool.{_||_};
+ghost use mathlib.Core.List.{foldl};
+ghost use mathlib.Core.Bool.{cond};
+ghost use mathlib.Core.Option.{none, some};
+ghost use Prim.Native.Nat.{ℕ, _+_, _*_, _<_, _≤_};
+ghost use lib.ListN.{length, take, drop};
+ghost use lib.Dec.{ltb, eqb};
+ghost use lib.Signed.{ltZ, leZ};
+ghost use Rattle.words.specs.Words.{table, from, anyOf, inOrder, find, given, same};
+ghost use Rattle.floats.specs.Floats.{zeroF, f32At};
+ghost use Rattle.floats.specs.Values.{valueOf};
+ghost use Rattle.image.specs.Bytes.{u32At, i32At};
+ghost use Rattle.catalogue.specs.Catalogue.{catalogueOf, sizeOf, nameCount, effectCount, typeCount, linkCount, baseCount, namesAt, effectsAt, typesAt, linksAt, basesAt, nameAt, effectAt, typeAt, linkAt, baseAt};
+ghost use Rattle.catalogue.specs.Refusals.{badLength, badOrder, badField, catalogueRefusal};
+ghost use Rattle.keys.specs.Keys.{Sorted, Parts, foundOf};
+ghost use Rattle.catalogue.specs.Sound.{Sound};
+ghost use Rattle.catalogue.specs.Lookups.{nameId, typeOf, effectMark, rackOf, hardpointOf, baseValue};
+ghost use Rattle.catalogue.specs.Answers.{numberOf, idOf, markOf, infoOf, infoOfType, slotOf};
+ghost use Rattle.catalogue.specs.Walks.{SpanOf, spanValue, marked, linkMarks};
+
+// Refusals 1 to 3, or none.
+pub enum Verdict {
+    Accepted,
+    BadLength,
+    BadOrder,
+    BadField,
+}
+
+// The id of an attribute, where its name has one.
+pub enum AttributeId {
+    Known(i32),
+    Unknown,
+}
+
+// The mark of an effect, where the effect is there.
+pub enum Mark {
+    Known(u8),
+    Unknown,
+}
+
+// What a type is. Its volume is 0 where none is given.
+pub struct TypeInfo {
+    pub group: i32,
+    pub category: i32,
+    pub volume: f64,
+}
+
+pub enum TypeAnswer {
+    Known(TypeInfo),
+    Unknown,
+}
+
+// A rack or a hardpoint by its number.
+pub enum SlotAnswer {
+    Slot(u8),
+    Nothing,
+}
+
+// What a type asks for.
+pub struct SlotMarks {
+    pub rack: SlotAnswer,
+    pub hardpoint: SlotAnswer,
+}
+
+// The bases of a type, by their places.
+pub struct Span {
+    pub from: usize,
+    pub to: usize,
+}
+
+// A block: where it begins, and how many records it has.
+struct Block {
+    at: usize,
+    n: usize,
+}
+
+fn count(catalogue: &[u8], at: usize) -> usize
+    requires { ⌜ at + 4 ≤ length (now catalogue) ⌝ }
+    ensures { λ r. ⌜ (r ≡ u32At (now (catalogue .entry)) at) × (r < 4294967296) ⌝ }
+{
+    image::u32_at(catalogue, at) as usize
+}
+
+// The length that the sizes say. No sum of five sizes of 32 bits wraps.
+fn size_of(catalogue: &[u8]) -> usize
+    requires { ⌜ 20 ≤ length (now catalogue) ⌝ }
+    ensures { λ r. ⌜ r ≡ sizeOf (now (catalogue .entry)) ⌝ }
+{
+    20 + 8 * count(catalogue, 0)
+        + 8 * count(catalogue, 4)
+        + 20 * count(catalogue, 8)
+        + 8 * count(catalogue, 12)
+        + 12 * count(catalogue, 16)
+}
+
+fn names(catalogue: &[u8]) -> Block
+    requires { ⌜ length (now catalogue) ≡ sizeOf (now catalogue) ⌝ }
+    ensures { λ r. ⌜ (r .at ≡ namesAt (now (catalogue .entry))) × (r .n ≡ nameCount (now (catalogue .entry))) ⌝ }
+{
+    Block {
+        at: 20,
+        n: count(catalogue, 0),
+    }
+}
+
+fn effects(catalogue: &[u8]) -> Block
+    requires { ⌜ length (now catalogue) ≡ sizeOf (now catalogue) ⌝ }
+    ensures { λ r. ⌜ (r .at ≡ effectsAt (now (catalogue .entry))) × (r .n ≡ effectCount (now (catalogue .entry))) ⌝ }
+{
+    let b = names(catalogue);
+    Block {
+        at: b.at + 8 * b.n,
+        n: count(catalogue, 4),
+    }
+}
+
+fn types(catalogue: &[u8]) -> Block
+    requires { ⌜ length (now catalogue) ≡ sizeOf (now catalogue) ⌝ }
+    ensures { λ r. ⌜ (r .at ≡ typesAt (now (catalogue .entry))) × (r .n ≡ typeCount (now (catalogue .entry))) ⌝ }
+{
+    let b = effects(catalogue);
+    Block {
+        at: b.at + 8 * b.n,
+        n: count(catalogue, 8),
+    }
+}
+
+fn links(catalogue: &[u8]) -> Block
+    requires { ⌜ length (now catalogue) ≡ sizeOf (now catalogue) ⌝ }
+    ensures { λ r. ⌜ (r .at ≡ linksAt (now (catalogue .entry))) × (r .n ≡ linkCount (now (catalogue .entry))) ⌝ }
+{
+    let b = types(catalogue);
+    Block {
+        at: b.at + 20 * b.n,
+        n: count(catalogue, 12),
+    }
+}
+
+fn bases(catalogue: &[u8]) -> Block
+    requires { ⌜ length (now catalogue) ≡ sizeOf (now catalogue) ⌝ }
+    ensures { λ r. ⌜ (r .at ≡ basesAt (now (catalogue .entry))) × (r .n ≡ baseCount (now (catalogue .entry))) ⌝ }
+{
+    let b = links(catalogue);
+    Block {
+        at: b.at + 8 * b.n,
+        n: count(catalogue, 16),
+    }
+}
+
+// Refusal 1.
+fn bad_length(catalogue: &[u8]) -> bool
+    ensures { λ r. ⌜ r ≡ badLength (now (catalogue .entry)) ⌝ }
+{
+    if 16777216 < catalogue.len() {
+        return true;
+    }
+    if catalogue.len() < 20 {
+        return true;
+    }
+    catalogue.len() != size_of(catalogue)
+}
+
+// The keys of a block.
+fn keys_of(catalogue: &[u8], b: Block) -> &[u8]
+    requires { ⌜ b .at + 4 * b .n ≤ length (now catalogue) ⌝ }
+    ensures { λ r. ⌜ (now r ≡ take (4 * b .n) (drop (b .at) (now (catalogue .entry)))) × (length (now r) ≡ 4 * b .n) ⌝ }
+{
+    image::part(catalogue, b.at, 4 * b.n)
+}
+
+fn ascend_unsigned(catalogue: &[u8], b: Block) -> bool
+    requires { ⌜ b .at + 4 * b .n ≤ length (now catalogue) ⌝ }
+    ensures { λ r. ⌜ r ≡ inOrder ltb (table (b .n) (λ i. u32At (now (catalogue .entry)) (b .at + 4 * i))) ⌝ }
+{
+    keys::ascend_unsigned(keys_of(catalogue, b), b.n)
+}
+
+fn ascend(catalogue: &[u8], b: Block) -> bool
+    requires { ⌜ b .at + 4 * b .n ≤ length (now catalogue) ⌝ }
+    ensures { λ r. ⌜ r ≡ inOrder ltZ (table (b .n) (λ i. i32At (now (catalogue .entry)) (b .at + 4 * i))) ⌝ }
+{
+    keys::ascend(keys_of(catalogue, b), b.n)
+}
+
+fn never_descend(catalogue: &[u8], b: Block) -> bool
+    requires { ⌜ b .at + 4 * b .n ≤ length (now catalogue) ⌝ }
+    ensures { λ r. ⌜ r ≡ inOrder leZ (table (b .n) (λ i. i32At (now (catalogue .entry)) (b .at + 4 * i))) ⌝ }
+{
+    keys::never_descend(keys_of(catalogue, b), b.n)
+}
+
+// Refusal 2.
+fn bad_order(catalogue: &[u8]) -> bool
+    requires { ⌜ length (now catalogue) ≡ sizeOf (now catalogue) ⌝ }
+    ensures { λ r. ⌜ r ≡ badOrder (catalogueOf (now (catalogue .entry))) ⌝ }
+{
+    if !ascend_unsigned(catalogue, names(catalogue)) {
+        return true;
+    }
+    if !ascend(catalogue, effects(catalogue)) {
+        return true;
+    }
+    if !ascend(catalogue, types(catalogue)) {
+        return true;
+    }
+    if !never_descend(catalogue, links(catalogue)) {
+        return true;
+    }
+    !never_descend(catalogue, bases(catalogue))
+}
+
+fn either(a: bool, b: bool) -> bool
+    ensures { λ r. ⌜ r ≡ (a || b) ⌝ }
+{
+    if a { true } else { b }
+}
+
+// Whether any of n numbers, each `step` bytes after the last, is above a limit. Like an order check it runs to its end.
+fn any_above(b: &[u8], at: usize, n: usize, step: usize, limit: u32) -> bool
+    requires { ⌜ ((i : ℕ) → i < n → at + step * i + 4 ≤ length (now b)) ⌝ }
+    ensures { λ r. ⌜ r ≡ anyOf (ltb limit) (table n (λ i. u32At (now (b .entry)) (at + step * i))) ⌝ }
+{
+    let mut found = false;
+    let mut i = 0;
+    while i < n {
+        let x = image::u32_at(b, at + step * i);
+        found = either(found, limit < x);
+        i += 1;
+    }
+    found
+}
+
+// Refusal 3.
+fn bad_field(catalogue: &[u8]) -> bool
+    requires { ⌜ length (now catalogue) ≡ sizeOf (now catalogue) ⌝ }
+    ensures { λ r. ⌜ r ≡ badField (catalogueOf (now (catalogue .entry))) ⌝ }
+{
+    let n = names(catalogue);
+    if any_above(catalogue, n.at, n.n, 4, 87) {
+        return true;
+    }
+    let e = effects(catalogue);
+    if any_above(catalogue, e.at + 4 * e.n, e.n, 4, 8) {
+        return true;
+    }
+    let t = types(catalogue);
+    any_above(catalogue, t.at + 4 * t.n + 8, t.n, 16, 1)
+}
+
+// The first refusal of 1 to 3 that holds.
+pub fn verdict_of(catalogue: &[u8]) -> Verdict
+    ensures { λ r. ⌜ numberOf r ≡ catalogueRefusal (now (catalogue .entry)) ⌝ }
+{
+    if bad_length(catalogue) {
+        return Verdict::BadLength;
+    }
+    if bad_order(catalogue) {
+        return Verdict::BadOrder;
+    }
+    if bad_field(catalogue) {
+        return Verdict::BadField;
+    }
+    Verdict::Accepted
+}
+
+// Where an id stands among the keys of a block.
+fn find_key(catalogue: &[u8], b: Block, id: i32) -> Found
+    requires { ⌜ (b .at + 4 * b .n ≤ length (now catalogue)) × Sorted (take (4 * b .n) (drop (b .at) (now catalogue))) (b .n) ⌝ }
+    ensures { λ r. ⌜ foundOf r ≡ find (λ i. same (i32At (now (catalogue .entry)) (b .at + 4 * i)) id) (from 0 (b .n)) ⌝ }
+{
+    keys::place_of(keys_of(catalogue, b), b.n, id)
+}
+
+fn id_at(catalogue: &[u8], i: usize) -> i32
+    requires { ⌜ (length (now catalogue) ≡ sizeOf (now catalogue)) × (i < nameCount (now catalogue)) ⌝ }
+    ensures { λ r. ⌜ r ≡ nameAt (now (catalogue .entry)) i .id ⌝ }
+{
+    let b = names(catalogue);
+    image::i32_at(catalogue, b.at + 4 * b.n + 4 * i)
+}
+
+// The attribute of a name. Name numbers are at most 87, so that the order of the signed numbers is theirs.
+pub fn attribute_id(catalogue: &[u8], name: u32) -> AttributeId
+    requires { ⌜ Sound (now catalogue) ⌝ }
+    ensures { λ r. ⌜ idOf r ≡ nameId (catalogueOf (now (catalogue .entry)) .names) name ⌝ }
+{
+    if 87 < name {
+        return AttributeId::Unknown;
+    }
+    let found = find_key(catalogue, names(catalogue), name as i32);
+    match found {
+        Found::At(i) => AttributeId::Known(id_at(catalogue, i)),
+        Found::Nothing => AttributeId::Unknown,
+    }
+}
+
+fn mark_at(catalogue: &[u8], i: usize) -> u8
+    requires { ⌜ Sound (now catalogue) × (i < effectCount (now catalogue)) ⌝ }
+    ensures { λ r. ⌜ r ≡ effectAt (now (catalogue .entry)) i .mark ⌝ }
+{
+    let b = effects(catalogue);
+    image::u32_at(catalogue, b.at + 4 * b.n + 4 * i) as u8
+}
+
+// The mark of an effect.
+pub fn effect_mark(catalogue: &[u8], id: i32) -> Mark
+    requires { ⌜ Sound (now catalogue) ⌝ }
+    ensures { λ r. ⌜ markOf r ≡ effectMark (catalogueOf (now (catalogue .entry))) id ⌝ }
+{
+    let found = find_key(catalogue, effects(catalogue), id);
+    match found {
+        Found::At(i) => Mark::Known(mark_at(catalogue, i)),
+        Found::Nothing => Mark::Unknown,
+    }
+}
+
+// The volume of the type whose value begins at a place.
+fn volume_at(catalogue: &[u8], at: usize) -> f64
+    requires { ⌜ at + 16 ≤ length (now catalogue) ⌝ }
+    ensures { λ r. ⌜ r ≡ cond (eqb (u32At (now (catalogue .entry)) (at + 8)) 0) zeroF (f32At (now (catalogue .entry)) (at + 12)) ⌝ }
+{
+    let flag = image::u32_at(catalogue, at + 8);
+    if flag == 0 {
+        return 0.0;
+    }
+    floats::f32_wide_at(catalogue, at + 12)
+}
+
+fn type_at(catalogue: &[u8], i: usize) -> TypeInfo
+    requires { ⌜ (length (now catalogue) ≡ sizeOf (now catalogue)) × (i < typeCount (now catalogue)) ⌝ }
+    ensures { λ r. ⌜ r ≡ infoOfType (typeAt (now (catalogue .entry)) i) ⌝ }
+{
+    let b = types(catalogue);
+    let at = b.at + 4 * b.n + 16 * i;
+    TypeInfo {
+        group: image::i32_at(catalogue, at),
+        category: image::i32_at(catalogue, at + 4),
+        volume: volume_at(catalogue, at),
+    }
+}
+
+pub fn type_of(catalogue: &[u8], id: i32) -> TypeAnswer
+    requires { ⌜ Sound (now catalogue) ⌝ }
+    ensures { λ r. ⌜ infoOf r ≡ given (typeOf (catalogueOf (now (catalogue .entry))) id) none (λ x. some (infoOfType x)) ⌝ }
+{
+    let found = find_key(catalogue, types(catalogue), id);
+    match found {
+        Found::At(i) => TypeAnswer::Known(type_at(catalogue, i)),
+        Found::Nothing => TypeAnswer::Unknown,
+    }
+}

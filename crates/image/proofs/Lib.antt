@@ -1,3 +1,4 @@
 -- Laws of numbers in bytes.
 pub mod Signs
 pub mod Stores
+pub mod Parts

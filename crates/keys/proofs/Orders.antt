@@ -41,7 +41,8 @@ module _ (strict : Bool) (g : ℕ → ℕ) where
   next-le true x y e = omega (arith, ltb-true x y e)
   next-le false x y e = leb-true x y e
 
-  any-le : (n : ℕ) → inOrder (stands strict) (table n g) ≡ true → (j k : ℕ) → j ≤ k → k < n → g j ≤ g k
+  -- what never descends from one to the next never descends at all
+  pub any-le : (n : ℕ) → inOrder (stands strict) (table n g) ≡ true → (j k : ℕ) → j ≤ k → k < n → g j ≤ g k
   any-le zero e j k p q = absurd (not-suc-le-zero q)
   any-le (suc zero) e j k p q = let h : j ≡ k = omega arith in omega (arith, ap g h)
   any-le (suc (suc n)) e j k p q =

@@ -8,6 +8,7 @@ use mathlib.Core.Bool.{Bool, true, false, _||_, _&&_, cond}
 use mathlib.Core.List.{List, [], _∷_, _++_, map, append-nil, foldl, foldl-append}
 use mathlib.Core.Option.{Option, none, some}
 use mathlib.Core.Logic.{⊎-elim}
+use mathlib.Mathlib.Data.Bool.Basic.{or-eq-false-eq-eq-false-and-eq-false}
 use lib.ListN.{length, length-append, getD}
 use Rattle.words.specs.Words.{tableFrom, table, from, each, only, countOf, find, anyOf, sumOf, inOrder, given}
 use Rattle.words.proofs.Steps.{each-append, only-append, sum-append}
@@ -98,6 +99,19 @@ module _ {A : Type 0} (t : A → Bool) where
   pub find-at : (n : ℕ) (f : ℕ → A) (r : ℕ) → r < n → ((j : ℕ) → j < r → t (f j) ≡ false) → t (f r) ≡ true → find t (table n f) ≡ some (f r)
   find-at n f r a h e = at-from 0 n f r (omega arith) (omega (arith, a)) (λ j p q. h j q) e
 
+  false-from : (i n : ℕ) (f : ℕ → A) → anyOf t (tableFrom i n f) ≡ false → (j : ℕ) → i ≤ j → j < i + n → t (f j) ≡ false
+  unfolding tableFrom anyOf
+  false-from i zero f e j p q = absurd (bad p q)
+    where
+      bad : i ≤ j → j < i + 0 → ⊥
+      bad p q = omega arith
+  false-from i (suc n) f e j p q =
+      let o = or-eq-false-eq-eq-false-and-eq-false (t (f i)) (anyOf t (tableFrom (suc i) n f)) .0 e in
+      ⊎-elim
+      (λ (h : i ≡ j). ap (λ (k : ℕ). t (f k)) (sym h) ∙ o .0)
+      (λ (h : i < j). false-from (suc i) n f (o .1) j h (omega arith))
+      (eq-or-lt-of-le p)
+
   any-from : (i n : ℕ) (f : ℕ → A) → anyOf t (tableFrom i (suc n) f) ≡ anyOf t (tableFrom i n f) || t (f (i + n))
   unfolding tableFrom anyOf
   any-from i zero f = ap (λ (k : ℕ). t (f k) || false) (sym (add-zero i)) ∙ or-false (t (f (i + 0)))
@@ -117,9 +131,56 @@ module _ {A : Type 0} (t : A → Bool) where
   pub any-more : (n : ℕ) (f : ℕ → A) → anyOf t (table (n + 1) f) ≡ anyOf t (table n f) || t (f n)
   any-more n f = rw add-one (any-from 0 n f ∙ ap (λ (k : ℕ). anyOf t (table n f) || t (f k)) (zero-add n))
 
+  -- no element passes
+  pub any-false : (n : ℕ) (f : ℕ → A) → anyOf t (table n f) ≡ false → (j : ℕ) → j < n → t (f j) ≡ false
+  any-false n f e j h = false-from 0 n f e j (omega arith) (omega (arith, h))
+
   pub any-none : (f : ℕ → A) → anyOf t (table 0 f) ≡ false
   unfolding tableFrom anyOf
   any-none f = refl
+
+-- what is made of the element that a search finds
+pub find-made : {A B : Type 0} (t : A → Bool) (g : A → B) (n : ℕ) (f : ℕ → A) → given (find t (table n f)) none (λ x. some (g x)) ≡ given (find (λ j. t (f j)) (from 0 n)) none (λ j. some (g (f j)))
+unfolding given
+find-made {A} {B} t g n f = ap (λ (o : Option A). given o none (λ x. some (g x))) (find-table t n f) ∙ go (find (λ j. t (f j)) (from 0 n))
+  where
+    go : (o : Option ℕ) → given (given o none (λ j. some (f j))) none (λ x. some (g x)) ≡ given o none (λ j. some (g (f j)))
+    go none = refl
+    go (some j) = refl
+
+-- ---- searches for a number
+module _ (t s : ℕ → Bool) where
+  alike-from : (i n : ℕ) → ((j : ℕ) → j < i + n → t j ≡ s j) → find t (from i n) ≡ find s (from i n)
+  unfolding tableFrom find
+  alike-from i zero h = refl
+  alike-from i (suc n) h = rw (h i (omega arith), alike-from (suc i) n (λ j q. h j (omega (arith, q))))
+
+  -- two tests that agree below n find the same
+  pub find-alike : (n : ℕ) → ((j : ℕ) → j < n → t j ≡ s j) → find t (from 0 n) ≡ find s (from 0 n)
+  find-alike n h = alike-from 0 n (λ j q. h j (omega (arith, q)))
+
+below-from : (t : ℕ → Bool) (i n r : ℕ) → find t (from i n) ≡ some r → r < i + n
+unfolding tableFrom find
+below-from t i zero r e = absurd (let z : _≡_ {A = ℕ} 0 1 = cc in omega arith)
+below-from t i (suc n) r e = go (t i) e (below-from t (suc i) n r)
+  where
+    go : (b : Bool) → cond b (some i) (find t (from (suc i) n)) ≡ some r → (find t (from (suc i) n) ≡ some r → r < suc i + n) → r < i + suc n
+    go true q h = let p : i ≡ r = cc in omega arith
+    go false q h = omega (arith, h q)
+
+-- what is found is below n
+pub find-below : (t : ℕ → Bool) (n r : ℕ) → find t (from 0 n) ≡ some r → r < n
+find-below t n r e = omega (arith, below-from t 0 n r e)
+
+-- a test of what is made of each element
+module _ {A B : Type 0} (t : B → Bool) (g : A → B) where
+  any-made : (i n : ℕ) (f : ℕ → A) → anyOf (λ x. t (g x)) (tableFrom i n f) ≡ anyOf t (tableFrom i n (λ j. g (f j)))
+  unfolding tableFrom anyOf
+  any-made i zero f = refl
+  any-made i (suc n) f = ap (λ (b : Bool). t (g (f i)) || b) (any-made (suc i) n f)
+
+  pub any-table : (n : ℕ) (f : ℕ → A) → anyOf (λ x. t (g x)) (table n f) ≡ anyOf t (table n (λ j. g (f j)))
+  any-table n f = any-made 0 n f
 
 -- ---- order
 module _ {A : Type 0} (r : A → A → Bool) where

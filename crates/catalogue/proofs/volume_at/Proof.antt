@@ -1,0 +1,35 @@
+-- `catalogue::volume_at` meets its contract: a volume counts where its flag is not 0.
+use mathlib.Core.Path.{_≡_, _∙_, sym}
+use lib.Ieee.{ofBits}
+use borrow.Author.Tests.{eq-eqb, ne-eqb}
+use borrow.Author.Needs.{needs}
+use Rattle.catalogue.proofs.volume_at.Statement.{statement}
+use Rattle.catalogue.proofs.volume_at.Tie as tie
+use Rattle.catalogue.proofs.volume_at.Reads as reads
+use Rattle.catalogue.proofs.volume_at.Lts as lts
+use Rattle.floats.proofs.f32_wide_at.Reads as f32-wide-at-reads
+use Rattle.image.proofs.u32_at.Reads as u32-at-reads
+
+add-u32-at : tie.Need-add-u32-at
+add-u32-at c = search needs
+
+u32-at-requires : tie.Need-u32-at-requires
+u32-at-requires c κs = search needs
+
+returns : tie.Need-returns
+unfolding ofBits
+returns c = rw (eq-eqb _ 0 (sym (c .before .u32-at .ensures) ∙ c .if1 .taken))
+
+add-f32-wide-at : tie.Need-add-f32-wide-at
+add-f32-wide-at c = search needs
+
+f32-wide-at-requires : tie.Need-f32-wide-at-requires
+f32-wide-at-requires c κs = search needs
+
+returns-2 : tie.Need-returns-2
+returns-2 c = rw (ne-eqb _ 0 (λ e. c .before .if1 .left (c .before .before .u32-at .ensures ∙ e))) (c .f32-wide-at .ensures)
+
+pub volume-at-spec : {M : Type 1} → statement M
+volume-at-spec =
+    tie.close
+    (tie.spec add-u32-at u32-at-requires returns add-f32-wide-at f32-wide-at-requires returns-2)
