@@ -1,7 +1,7 @@
 -- Document 01, "Records", "Values and casts", "Resources": floats in bytes, casts to integers, when more is used than available.
 -- A `Float` of `lib.Ieee` is a value and no bits, so an f32 widened to f64 is the same `Float`, and all NaN patterns are one `nan`.
 use Prim.Native.Nat.{ℕ}
-use mathlib.Core.Bool.{Bool, true, false}
+use mathlib.Core.Bool.{Bool, false}
 use mathlib.Core.List.{List, foldl}
 use lib.IntN.{ℤ, pos}
 use lib.Ieee.{Float, nan, inf, fin, binary32, binary64, ofBits, toBits, ofInt, toUnsigned, toSigned, add, mul, lt, le}

@@ -5,6 +5,6 @@ use Rattle.floats.specs.declared.Value.{Value}
 use Rattle.floats.specs.declared.Value.the-variants.{Given, Missing}
 
 -- the value, if there is one
-unfoldable pub valueOf : Value → Option Float
+abbrev pub valueOf : Value → Option Float
 valueOf (Given x) = some x
 valueOf Missing = none
