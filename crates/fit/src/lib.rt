@@ -1,1 +1,146 @@
-// The fit.
+// The fit's image: whether it is refused, its fields, and what each result reached. Document 01, "Records", "Refusals in their order".
+mod layout;
+pub mod refusals;
+
+ghost use mathlib.Core.Path.{_≡_};
+ghost use Prim.Native.Nat.{_+_, _*_, _<_, min};
+ghost use Rattle.image.specs.Bytes.{u8At, i32At};
+ghost use Rattle.fit.specs.Fit.{modeOf, fitOf, skillCount, itemCount, resultCount, skillsAt, levelsAt, itemAt, resultOf};
+ghost use Rattle.fit.specs.Refusals.{fitRefusal};
+ghost use Rattle.fit.specs.Sound.{Sound, Starts};
+ghost use Rattle.fit.specs.Answers.{numberOf, chosenOf};
+
+// What is said of a fit: accepted, or refused by 4, 5 or 6.
+pub enum Verdict {
+    Accepted,
+    BadSize,
+    BadOrder,
+    BadField,
+}
+
+// The ship's mode, where one is chosen.
+pub enum ModeAnswer {
+    Mode(i32),
+    Nothing,
+}
+
+pub fn ship(fit: &[u8]) -> i32
+    requires { ⌜ Sound (now fit) ⌝ }
+    ensures { λ r. ⌜ r ≡ fitOf (now (fit .entry)) .frame .ship ⌝ }
+{
+    image::i32_at(fit, 16)
+}
+
+pub fn mode(fit: &[u8]) -> ModeAnswer
+    requires { ⌜ Sound (now fit) ⌝ }
+    ensures { λ r. ⌜ chosenOf r ≡ modeOf (fitOf (now (fit .entry)) .frame) ⌝ }
+{
+    let flag = image::u32_at(fit, 20);
+    if flag == 0 {
+        return ModeAnswer::Nothing;
+    }
+    ModeAnswer::Mode(image::i32_at(fit, 24))
+}
+
+pub fn skill_count(fit: &[u8]) -> usize
+    requires { ⌜ Sound (now fit) ⌝ }
+    ensures { λ r. ⌜ r ≡ skillCount (now (fit .entry)) ⌝ }
+{
+    layout::skills(fit)
+}
+
+pub fn item_count(fit: &[u8]) -> usize
+    requires { ⌜ Sound (now fit) ⌝ }
+    ensures { λ r. ⌜ r ≡ itemCount (now (fit .entry)) ⌝ }
+{
+    layout::items(fit)
+}
+
+// The items' results; the ship's and the character's stand before them.
+pub fn result_count(fit: &[u8]) -> usize
+    requires { ⌜ Sound (now fit) ⌝ }
+    ensures { λ r. ⌜ r ≡ resultCount (now (fit .entry)) ⌝ }
+{
+    layout::results(fit)
+}
+
+// Items that have a result.
+pub fn pair_count(fit: &[u8]) -> usize
+    requires { ⌜ Sound (now fit) ⌝ }
+    ensures { λ r. ⌜ r ≡ min (itemCount (now (fit .entry))) (resultCount (now (fit .entry))) ⌝ }
+{
+    let f = layout::items(fit);
+    let r = layout::results(fit);
+    if f < r {
+        return f;
+    }
+    r
+}
+
+pub fn skill_id(fit: &[u8], i: usize) -> i32
+    requires { ⌜ Sound (now fit) × (i < skillCount (now fit)) ⌝ }
+    ensures { λ r. ⌜ r ≡ i32At (now (fit .entry)) (skillsAt (now (fit .entry)) + 4 * i) ⌝ }
+{
+    image::i32_at(fit, 28 + 4 * i)
+}
+
+pub fn skill_level(fit: &[u8], i: usize) -> u8
+    requires { ⌜ Sound (now fit) × (i < skillCount (now fit)) ⌝ }
+    ensures { λ r. ⌜ r ≡ u8At (now (fit .entry)) (levelsAt (now (fit .entry)) + i) ⌝ }
+{
+    image::u8_at(fit, layout::levels_at(fit) + i)
+}
+
+pub fn item_type(fit: &[u8], i: usize) -> i32
+    requires { ⌜ Sound (now fit) × (i < itemCount (now fit)) ⌝ }
+    ensures { λ r. ⌜ r ≡ itemAt (now (fit .entry)) i .type ⌝ }
+{
+    image::i32_at(fit, layout::items_at(fit) + 12 * i)
+}
+
+pub fn item_quantity(fit: &[u8], i: usize) -> u32
+    requires { ⌜ Sound (now fit) × (i < itemCount (now fit)) ⌝ }
+    ensures { λ r. ⌜ r ≡ itemAt (now (fit .entry)) i .quantity ⌝ }
+{
+    image::u32_at(fit, layout::items_at(fit) + 12 * i + 4)
+}
+
+pub fn item_slot(fit: &[u8], i: usize) -> u8
+    requires { ⌜ Sound (now fit) × (i < itemCount (now fit)) ⌝ }
+    ensures { λ r. ⌜ r ≡ itemAt (now (fit .entry)) i .slot ⌝ }
+{
+    image::u8_at(fit, layout::items_at(fit) + 12 * i + 8)
+}
+
+pub fn item_index(fit: &[u8], i: usize) -> u16
+    requires { ⌜ Sound (now fit) × (i < itemCount (now fit)) ⌝ }
+    ensures { λ r. ⌜ r ≡ itemAt (now (fit .entry)) i .index ⌝ }
+{
+    image::u16_at(fit, layout::items_at(fit) + 12 * i + 10)
+}
+
+// Result 0 is the ship's, 1 the character's, 2 the first item's.
+pub fn result_state(fit: &[u8], j: usize) -> u8
+    requires { ⌜ Sound (now fit) × (j < resultCount (now fit) + 2) ⌝ }
+    ensures { λ r. ⌜ r ≡ resultOf (now (fit .entry)) j .state ⌝ }
+{
+    image::u8_at(fit, layout::results_at(fit) + 4 * j)
+}
+
+// Where each result's attributes begin among all, and at last how many there are: found once for all lookups.
+pub fn starts(fit: &[u8]) -> [u32; 259]
+    requires { ⌜ Sound (now fit) ⌝ }
+    ensures { λ r. ⌜ Starts (now (fit .entry)) r ⌝ }
+{
+    let n = layout::results(fit) + 2;
+    let first = layout::results_at(fit);
+    let mut s = [0u32; 259];
+    let mut sum: u32 = 0;
+    let mut j: usize = 0;
+    while j < n {
+        sum += layout::count_at(fit, first, j) as u32;
+        j += 1;
+        s[j] = sum;
+    }
+    s
+}

@@ -2,3 +2,4 @@
 pub mod Steps
 pub mod Tables
 pub mod Lengths
+pub mod Elements

@@ -1,0 +1,116 @@
+-- What the decoded lists of a fit hold at each place, and how its results stand in a row. Assumes nothing.
+use Prim.Native.Nat.{ℕ, zero, suc, _+_, _*_, _-_, _≤_, _<_}
+use native.Mathlib.Nat.{add-zero, add-suc, le-refl, le-trans}
+use native.Mathlib.Numerals.{add-one}
+use native.Mathlib.Omega.{arith}
+use mathlib.Core.Path.{_≡_, refl, sym, ap, _∙_}
+use mathlib.Core.List.{List, _∷_, map}
+use mathlib.Core.Option.{Option, none, some}
+use lib.ListN.{length, getD, getElem?, take, drop}
+use Rattle.words.specs.Words.{table, tableFrom, sumOf}
+use Rattle.words.proofs.Tables.{length-table, getD-table, map-table, table-same}
+use Rattle.words.proofs.Elements.{sum-more, sum-none, table-two, elem-table, past-table}
+use Rattle.image.specs.Bytes.{u8At, i32At}
+use Rattle.keys.specs.Keys.{keyAt}
+use Rattle.keys.proofs.Parts.{part-key}
+use Rattle.catalogue.specs.Catalogue.{Id}
+use Rattle.fit.specs.Fit.{Item, Result, Fit, fitOf, skillCount, itemCount, resultCount, skillsAt, levelsAt, itemAt, attributeCount, idsAt, attributeAt, countAt, startAt, resultOf, allResults, resultAt}
+use Rattle.fit.specs.Sound.{Sized}
+
+module _ (b : List ℕ) where
+  pub skill-at : (i : ℕ) (d : Id) → i < skillCount b → getD (fitOf b .skills) i d ≡ i32At b (skillsAt b + 4 * i)
+  unfolding fitOf
+  skill-at i d h = getD-table (skillCount b) _ i d h
+
+  pub level-at : (i d : ℕ) → i < skillCount b → getD (fitOf b .levels) i d ≡ u8At b (levelsAt b + i)
+  unfolding fitOf
+  level-at i d h = getD-table (skillCount b) _ i d h
+
+  pub item-at : (i : ℕ) (d : Item) → i < itemCount b → getD (fitOf b .items) i d ≡ itemAt b i
+  unfolding fitOf
+  item-at i d h = getD-table (itemCount b) (itemAt b) i d h
+
+  pub result-at : (i : ℕ) (d : Result) → i < resultCount b → getD (fitOf b .results) i d ≡ resultOf b (i + 2)
+  unfolding fitOf
+  result-at i d h = getD-table (resultCount b) (λ j. resultOf b (j + 2)) i d h
+
+  pub skills-length : length (fitOf b .skills) ≡ skillCount b
+  unfolding fitOf
+  skills-length = length-table 0 (skillCount b) _
+
+  pub levels-length : length (fitOf b .levels) ≡ skillCount b
+  unfolding fitOf
+  levels-length = length-table 0 (skillCount b) _
+
+  pub items-length : length (fitOf b .items) ≡ itemCount b
+  unfolding fitOf
+  items-length = length-table 0 (itemCount b) _
+
+  pub results-length : length (fitOf b .results) ≡ resultCount b
+  unfolding fitOf
+  results-length = length-table 0 (resultCount b) _
+
+  -- the ship's and the character's result stand before those of the items
+  pub all-results : allResults (fitOf b) ≡ table (resultCount b + 2) (resultOf b)
+  unfolding fitOf
+  all-results = sym (table-two (resultCount b) (resultOf b))
+
+  pub result-some : (n : ℕ) → n < resultCount b + 2 → resultAt (fitOf b) n ≡ some (resultOf b n)
+  unfolding resultAt
+  result-some n h = ap (λ (l : List Result). getElem? l n) all-results ∙ elem-table (resultCount b + 2) (resultOf b) n h
+
+  pub result-none : (n : ℕ) → resultCount b + 2 ≤ n → resultAt (fitOf b) n ≡ none
+  unfolding resultAt
+  result-none n h = ap (λ (l : List Result). getElem? l n) all-results ∙ past-table (resultCount b + 2) (resultOf b) n h
+
+  -- where the next result's attributes begin
+  pub start-next : (j : ℕ) → startAt b (j + 1) ≡ startAt b j + countAt b j
+  unfolding startAt
+  start-next j = rw add-one
+
+  pub start-none : startAt b 0 ≡ 0
+  unfolding startAt
+  start-none = refl
+
+  -- no result's attributes begin before an earlier one's
+  pub start-le : (j n : ℕ) → startAt b j ≤ startAt b (j + n)
+  unfolding startAt
+  start-le j zero = rw add-zero (le-refl (startAt b j))
+  start-le j (suc n) = rw add-suc (le-trans (start-le j n) (omega arith))
+
+  -- each result's attributes end within all
+  pub start-within : Sized b → (j : ℕ) → j < resultCount b + 2 → startAt b j + countAt b j ≤ attributeCount b
+  start-within z j h =
+      let k = resultCount b + 2 - (j + 1) in
+      let e : j + 1 + k ≡ resultCount b + 2 = omega arith in
+      omega (arith, start-le (j + 1) k, ap (startAt b) e, z .counts, start-next j)
+
+  -- the ids of a result's attributes
+  pub attribute-ids : (j : ℕ) → map (λ x. x .id) (resultOf b j .attributes) ≡ table (countAt b j) (λ i. i32At b (idsAt b + 4 * (startAt b j + i)))
+  attribute-ids j = map-table (λ x. x .id) (countAt b j) (λ i. attributeAt b (startAt b j + i))
+
+  -- the ids of the n attributes from number `start` on
+  abbrev pub idsPart : ℕ → ℕ → List ℕ
+  idsPart start n = take (4 * n) (drop (idsAt b + 4 * start) b)
+
+  pub id-at : (start n i : ℕ) → i < n → keyAt (idsPart start n) i ≡ i32At b (idsAt b + 4 * (start + i))
+  id-at start n i h =
+      let e : idsAt b + 4 * start + 4 * i ≡ idsAt b + 4 * (start + i) = omega arith in
+      part-key b (idsAt b + 4 * start) n i h ∙ ap (i32At b) e
+
+  pub ids-all : (start n : ℕ) → table n (keyAt (idsPart start n)) ≡ table n (λ i. i32At b (idsAt b + 4 * (start + i)))
+  ids-all start n = table-same n (keyAt (idsPart start n)) (λ i. i32At b (idsAt b + 4 * (start + i))) (id-at start n)
+
+  sum-starts : (n : ℕ) → sumOf (λ r. length (r .attributes)) (table n (resultOf b)) ≡ startAt b n
+  unfolding startAt
+  sum-starts zero = sum-none (λ r. length (r .attributes)) (resultOf b)
+  sum-starts (suc n) =
+      let m = sum-more (λ r. length (r .attributes)) (resultOf b) n in
+      let l : length (resultOf b n .attributes) ≡ countAt b n = length-table 0 (countAt b n) _ in
+      let q : sumOf (λ r. length (r .attributes)) (table (suc n) (resultOf b)) ≡ sumOf (λ r. length (r .attributes)) (table (n + 1) (resultOf b)) = rw add-one refl in
+      let s = sum-starts n in
+      omega (arith, m, l, q, s)
+
+  -- the counts add up to where the attributes end
+  pub counts-sum : sumOf (λ r. length (r .attributes)) (allResults (fitOf b)) ≡ startAt b (resultCount b + 2)
+  counts-sum = ap (sumOf (λ r. length (r .attributes))) all-results ∙ sum-starts (resultCount b + 2)

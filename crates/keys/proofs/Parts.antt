@@ -1,0 +1,21 @@
+-- Keys in a part of a slice: they are those of the whole from that place on. Assumes nothing.
+use Prim.Native.Nat.{ℕ, _+_, _*_, _≤_, _<_}
+use native.Mathlib.Omega.{arith}
+use mathlib.Core.Path.{_≡_}
+use mathlib.Core.List.{List}
+use lib.ListN.{length, take, drop, length-take, length-drop}
+use Rattle.words.specs.Words.{table}
+use Rattle.words.proofs.Tables.{table-same}
+use Rattle.image.specs.Bytes.{i32At}
+use Rattle.image.proofs.Parts.{part-i32}
+use Rattle.keys.specs.Keys.{keyAt}
+
+module _ (b : List ℕ) (at n : ℕ) where
+  pub part-length : at + n ≤ length b → length (take n (drop at b)) ≡ n
+  part-length h = simp (length-take, length-drop) (omega arith)
+
+  pub part-key : (i : ℕ) → i < n → keyAt (take (4 * n) (drop at b)) i ≡ i32At b (at + 4 * i)
+  part-key i h = part-i32 b at (4 * n) (4 * i) (omega arith)
+
+  pub part-keys : table n (keyAt (take (4 * n) (drop at b))) ≡ table n (λ i. i32At b (at + 4 * i))
+  part-keys = table-same n _ _ part-key
