@@ -90,7 +90,8 @@ fn size_of(catalogue: &[u8]) -> usize
     requires { ⌜ 20 ≤ length (now catalogue) ⌝ }
     ensures { λ r. ⌜ r ≡ sizeOf (now (catalogue .entry)) ⌝ }
 {
-    20 + 8 * count(catalogue, 0)
+    20
+        + 8 * count(catalogue, 0)
         + 8 * count(catalogue, 4)
         + 20 * count(catalogue, 8)
         + 8 * count(catalogue, 12)

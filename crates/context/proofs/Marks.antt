@@ -8,12 +8,8 @@ use mathlib.Core.Option.{Option, none, some}
 use lib.Dec.{leb}
 use borrow.Author.Tests.{leb-true}
 use Rattle.catalogue.specs.Catalogue.{Id, Catalogue}
+use Rattle.context.specs.Gathered.{Below}
 use Rattle.catalogue.specs.Lookups.{marks, lastMark, rackOf, hardpointOf}
-
--- below a limit, where there is one
-abbrev pub Below : ℕ → Option ℕ → Type 0
-Below limit none = Unit {0}
-Below limit (some s) = s < limit
 
 module _ (low high : ℕ) (h : 0 < low) where
   step : (b b′ : Bool) (m : ℕ) (found : Option ℕ) → leb low m ≡ b → leb m high ≡ b′ → Below high found → Below high (cond (b && b′) (some (m - 1)) found)

@@ -10,8 +10,14 @@ use lib.IntN.{ℤ, pos}
 use lib.Ieee.{Float}
 use Rattle.words.specs.Words.{table}
 use Rattle.floats.specs.Floats.{zeroF}
-use Rattle.catalogue.specs.Catalogue.{Id, catalogueOf}
+use Rattle.catalogue.specs.Catalogue.{Id, Catalogue, catalogueOf}
+use Rattle.catalogue.specs.Lookups.{groupOf, categoryOf, volumeOf}
+use Rattle.catalogue.specs.declared.TypeInfo.{TypeInfo}
 use Rattle.fit.specs.Fit.{itemCount, resultCount, itemAt, resultOf, fitOf}
+use Rattle.catalogue.specs.Sound as CatalogueSound
+use Rattle.fit.specs.Sound as Fit
+use Rattle.fit.specs.Sound.{Starts}
+use Rattle.context.specs.declared.Facts.{Facts}
 use Rattle.context.specs.Context.{Pair, pairOf, pairs, Context, context}
 
 -- document 01: pairs are the first min(F, R)
@@ -32,6 +38,12 @@ contextOf catalogue fit = context (catalogueOf catalogue) ((fitOf fit) .frame)
 unfoldable pub slotIn : ℕ → Option ℕ
 slotIn code = cond (ltb code 8) (some code) none
 
+-- both images are accepted, and it is known where each result's attributes begin
+pub record Ready (catalogue fit starts : List ℕ) : Type 0 where
+  pub catalogue-sound : CatalogueSound.Sound catalogue
+  pub fit-sound : Fit.Sound fit
+  pub begins : Starts fit starts
+
 -- ---- an array holds something of each pair, at its position
 module _ (catalogue fit : List ℕ) where
   abbrev pub Groups : List ℤ → Type 0
@@ -48,3 +60,21 @@ module _ (catalogue fit : List ℕ) where
 
   abbrev pub Hardpoints : List ℕ → Type 0
   Hardpoints a = (i : ℕ) → i < pairCount fit → slotIn (getD a i 0) ≡ pairAt catalogue fit i .hardpoint
+
+pub record Gathered (catalogue fit : List ℕ) (facts : Facts) : Type 0 where
+  pub groups : Groups catalogue fit (facts .groups)
+  pub categories : Categories catalogue fit (facts .categories)
+  pub racks : Racks catalogue fit (facts .racks)
+  pub hardpoints : Hardpoints catalogue fit (facts .hardpoints)
+  pub volumes : Volumes catalogue fit (facts .volumes)
+
+-- ---- of one type
+pub record TypeFacts (c : Catalogue) (id : Id) (info : TypeInfo) : Type 0 where
+  pub group : info .group ≡ groupOf c id
+  pub category : info .category ≡ categoryOf c id
+  pub volume : info .volume ≡ volumeOf c id
+
+-- below a limit, where there is a slot
+abbrev pub Below : ℕ → Option ℕ → Type 0
+Below limit none = Unit {0}
+Below limit (some s) = s < limit

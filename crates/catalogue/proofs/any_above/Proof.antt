@@ -45,12 +45,13 @@ loop-again : tie.Need-loop-again Inv-loop μ-loop
 loop-again c =
     let l = c .before .before .before .loop in
     let a = c .before .before .before .before .before .args in
-    let f : ℕ → ℕ = λ j. u32At (a .b .now) (a .at + a .step * j) in
-    (omega arith,
-    c .either .ensures
-    ∙ ap (λ (x : ℕ). l .found || ltb (a .limit) x) (c .before .u32-at .ensures)
-    ∙ ap (λ (t : Bool). t || ltb (a .limit) (f (l .i))) (l .inv .1)
-    ∙ sym (any-more (ltb (a .limit)) (l .i) f))
+    let f : ℕ → ℕ = λ j. u32At (a .b .now) (a .at + a .step * j) in (
+      omega arith,
+      c .either .ensures
+          ∙ ap (λ (x : ℕ). l .found || ltb (a .limit) x) (c .before .u32-at .ensures)
+          ∙ ap (λ (t : Bool). t || ltb (a .limit) (f (l .i))) (l .inv .1)
+          ∙ sym (any-more (ltb (a .limit)) (l .i) f),
+    )
 
 returns : tie.Need-returns Inv-loop μ-loop
 returns c =
