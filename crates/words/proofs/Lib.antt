@@ -1,3 +1,4 @@
--- Laws of the words: what one more element does to each, and tables.
+-- Laws of the words: what one more element does to each, tables, and walks over them.
 pub mod Steps
 pub mod Tables
+pub mod Walks
