@@ -3,3 +3,4 @@ pub mod Blocks
 pub mod Sound
 pub mod Reading
 pub mod Finding
+pub mod Walking

@@ -20,6 +20,13 @@ pub record Run (key : ℕ → ℤ) (n : ℕ) (id : ℤ) (first last : ℕ) : Typ
   pub inside : (k : ℕ) → first ≤ k → k < last → same (key k) id ≡ true
   pub after : (k : ℕ) → last ≤ k → k < n → same (key k) id ≡ false
 
+-- of n keys, those equal to id from the first place on end at the second
+pub record Ends (key : ℕ → ℤ) (n : ℕ) (id : ℤ) (first last : ℕ) : Type 0 where
+  pub ordered : first ≤ last
+  pub within : last ≤ n
+  pub inside : (k : ℕ) → first ≤ k → k < last → same (key k) id ≡ true
+  pub beyond : last < n → same (key last) id ≡ false
+
 -- the bases of a type are those of the span
 abbrev pub SpanOf : List ℕ → Id → Span → Type 0
 SpanOf b t s = Run (λ k. baseAt b k .type) (baseCount b) t (s .from) (s .to)

@@ -20,7 +20,7 @@ ghost use Rattle.keys.specs.Keys.{Sorted, Parts, foundOf};
 ghost use Rattle.catalogue.specs.Sound.{Sound};
 ghost use Rattle.catalogue.specs.Lookups.{nameId, typeOf, effectMark, rackOf, hardpointOf, baseValue};
 ghost use Rattle.catalogue.specs.Answers.{numberOf, idOf, markOf, infoOf, infoOfType, slotOf};
-ghost use Rattle.catalogue.specs.Walks.{SpanOf, spanValue, marked, linkMarks};
+ghost use Rattle.catalogue.specs.Walks.{Ends, SpanOf, spanValue, marked, linkMarks};
 
 // Refusals 1 to 3, or none.
 pub enum Verdict {
@@ -353,4 +353,134 @@ pub fn type_of(catalogue: &[u8], id: i32) -> TypeAnswer
         Found::At(i) => TypeAnswer::Known(type_at(catalogue, i)),
         Found::Nothing => TypeAnswer::Unknown,
     }
+}
+
+// Whether the number at a place is an id.
+fn is_id(catalogue: &[u8], at: usize, id: i32) -> bool
+    requires { ⌜ at + 4 ≤ length (now catalogue) ⌝ }
+    ensures { λ r. ⌜ r ≡ same (i32At (now (catalogue .entry)) at) id ⌝ }
+{
+    image::i32_at(catalogue, at) == id
+}
+
+// How many keys of a block are under an id.
+fn first_key(catalogue: &[u8], b: Block, id: i32) -> usize
+    requires { ⌜ (b .at + 4 * b .n ≤ length (now catalogue)) × Sorted (take (4 * b .n) (drop (b .at) (now catalogue))) (b .n) ⌝ }
+    ensures { λ r. ⌜ Parts (take (4 * b .n) (drop (b .at) (now (catalogue .entry)))) (b .n) id r ⌝ }
+{
+    keys::first_from(keys_of(catalogue, b), b.n, id)
+}
+
+// A mark of a rack is 1 to 6, one of a hardpoint 7 or 8; mark m stands for slot m - 1.
+fn with_mark(found: SlotMarks, mark: u8) -> SlotMarks
+    ensures { λ r. ⌜ (slotOf (r .rack) ≡ marked 1 6 (slotOf (found .rack)) mark) × (slotOf (r .hardpoint) ≡ marked 7 8 (slotOf (found .hardpoint)) mark) ⌝ }
+{
+    if mark < 1 {
+        return found;
+    }
+    if mark <= 6 {
+        let hardpoint = found.hardpoint;
+        return SlotMarks {
+            rack: SlotAnswer::Slot(mark - 1),
+            hardpoint,
+        };
+    }
+    if mark <= 8 {
+        let rack = found.rack;
+        return SlotMarks {
+            rack,
+            hardpoint: SlotAnswer::Slot(mark - 1),
+        };
+    }
+    found
+}
+
+fn effect_at(catalogue: &[u8], i: usize) -> i32
+    requires { ⌜ (length (now catalogue) ≡ sizeOf (now catalogue)) × (i < linkCount (now catalogue)) ⌝ }
+    ensures { λ r. ⌜ r ≡ linkAt (now (catalogue .entry)) i .effect ⌝ }
+{
+    let b = links(catalogue);
+    image::i32_at(catalogue, b.at + 4 * b.n + 4 * i)
+}
+
+fn with_link(catalogue: &[u8], found: SlotMarks, i: usize) -> SlotMarks
+    requires { ⌜ Sound (now catalogue) × (i < linkCount (now catalogue)) ⌝ }
+    ensures { λ r. ⌜ (slotOf (r .rack) ≡ foldl (marked 1 6) (slotOf (found .rack)) (linkMarks (catalogueOf (now (catalogue .entry))) (linkAt (now (catalogue .entry)) i))) × (slotOf (r .hardpoint) ≡ foldl (marked 7 8) (slotOf (found .hardpoint)) (linkMarks (catalogueOf (now (catalogue .entry))) (linkAt (now (catalogue .entry)) i))) ⌝ }
+{
+    let mark = effect_mark(catalogue, effect_at(catalogue, i));
+    match mark {
+        Mark::Known(m) => with_mark(found, m),
+        Mark::Unknown => found,
+    }
+}
+
+// The slot effects EVE marks an item with, in the order of its links.
+pub fn slots_of(catalogue: &[u8], id: i32) -> SlotMarks
+    requires { ⌜ Sound (now catalogue) ⌝ }
+    ensures { λ r. ⌜ (slotOf (r .rack) ≡ rackOf (catalogueOf (now (catalogue .entry))) id) × (slotOf (r .hardpoint) ≡ hardpointOf (catalogueOf (now (catalogue .entry))) id) ⌝ }
+{
+    let b = links(catalogue);
+    let at = b.at;
+    let n = b.n;
+    let mut found = SlotMarks {
+        rack: SlotAnswer::Nothing,
+        hardpoint: SlotAnswer::Nothing,
+    };
+    let mut i = first_key(catalogue, b, id);
+    while i < n {
+        if !is_id(catalogue, at + 4 * i, id) {
+            return found;
+        }
+        found = with_link(catalogue, found, i);
+        i += 1;
+    }
+    found
+}
+
+// The place behind the last of the keys from a place on that are an id.
+fn run_end(catalogue: &[u8], b: Block, first: usize, id: i32) -> usize
+    requires { ⌜ (b .at + 4 * b .n ≤ length (now catalogue)) × (first ≤ b .n) ⌝ }
+    ensures { λ r. ⌜ Ends (λ k. i32At (now (catalogue .entry)) (b .at + 4 * k)) (b .n) id first r ⌝ }
+{
+    let at = b.at;
+    let n = b.n;
+    let mut i = first;
+    while i < n {
+        if !is_id(catalogue, at + 4 * i, id) {
+            return i;
+        }
+        i += 1;
+    }
+    i
+}
+
+// Where the bases of a type stand.
+pub fn bases_of(catalogue: &[u8], id: i32) -> Span
+    requires { ⌜ Sound (now catalogue) ⌝ }
+    ensures { λ r. ⌜ SpanOf (now (catalogue .entry)) id r ⌝ }
+{
+    let b = bases(catalogue);
+    let from = first_key(catalogue, b, id);
+    Span {
+        from,
+        to: run_end(catalogue, b, from, id),
+    }
+}
+
+// What an attribute starts at on the type of a span.
+pub fn base_value(catalogue: &[u8], span: Span, attribute: i32) -> Value
+    requires { ⌜ (length (now catalogue) ≡ sizeOf (now catalogue)) × ((span .from ≤ span .to) × (span .to ≤ baseCount (now catalogue))) ⌝ }
+    ensures { λ r. ⌜ valueOf r ≡ spanValue (now (catalogue .entry)) (span .from) (span .to) attribute ⌝ }
+{
+    let b = bases(catalogue);
+    let at = b.at + 4 * b.n;
+    let to = span.to;
+    let mut i = span.from;
+    while i < to {
+        if is_id(catalogue, at + 8 * i, attribute) {
+            return Value::Given(floats::f32_wide_at(catalogue, at + 8 * i + 4));
+        }
+        i += 1;
+    }
+    Value::Missing
 }

@@ -11,7 +11,7 @@ use mathlib.Core.Logic.{_⊎_, inl, inr, ⊎-elim}
 use lib.Dec.{ltb, leb, eqb}
 use lib.IntN.{ℤ}
 use lib.Signed.{ltZ, leZ, mag}
-use borrow.Author.Tests.{ltb-true, leb-true, eq-eqb, ne-eqb}
+use borrow.Author.Tests.{ltb-true, leb-true, eq-eqb, ne-eqb, eqb-false}
 use Rattle.words.specs.Words.{tableFrom, table, inOrder, same}
 use Rattle.words.proofs.Tables.{order-more, order-one, order-none, order-same, table-same, find-at, find-none}
 use Rattle.image.specs.Bytes.{u32At, i32At, signed32}
@@ -97,10 +97,23 @@ module _ (keys : List ℕ) where
     differs : (k : ℕ) → (rankOf (keyAt keys k) ≡ rankOf id → ⊥) → same (keyAt keys k) id ≡ false
     differs k f = rank-same (keyAt keys k) id (key-range k) range ∙ ne-eqb _ _ f
 
+    -- no key before r is the id
+    pub before-differs : (k : ℕ) → k < r → same (keyAt keys k) id ≡ false
+    before-differs k l = differs k (λ q. omega (arith, parts .under k l, q))
+
+    -- where a key from r on is not the id, no later one is
+    pub after-differs : Sorted keys n → (i k : ℕ) → r ≤ i → same (keyAt keys i) id ≡ false → i ≤ k → k < n → same (keyAt keys k) id ≡ false
+    after-differs sorted i k l e h g =
+        let d : rankOf (keyAt keys i) ≡ rankOf id → ⊥ = eqb-false _ _ (sym (rank-same (keyAt keys i) id (key-range i) range) ∙ e) in
+        differs k (λ q. d (between _ _ _ (parts .over i l (omega arith)) (sorted i k h g) q))
+      where
+        between : (a b c : ℕ) → a ≤ b → b ≤ c → c ≡ a → b ≡ a
+        between a b c p q s = omega arith
+
     pub place-found : r < n → rankOf (keyAt keys r) ≡ rankOf id → some r ≡ placeOf keys n id
     unfolding placeOf
     place-found h e =
-        sym (find-at (λ i. same (keyAt keys i) id) n (λ i. i) r h (λ k l. differs k (λ q. omega (arith, parts .under k l, q)))
+        sym (find-at (λ i. same (keyAt keys i) id) n (λ i. i) r h before-differs
         (rank-same (keyAt keys r) id (key-range r) range ∙ eq-eqb _ _ e))
 
     pub place-none : ((k : ℕ) → r ≤ k → k < n → rankOf id < rankOf (keyAt keys k)) → none ≡ placeOf keys n id

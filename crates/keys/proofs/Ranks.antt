@@ -60,6 +60,13 @@ rank-same (pos a) (negsuc b) p q = sym (ne-eqb (a + 2147483648) (2147483647 - b)
 rank-same (negsuc a) (pos b) p q = sym (ne-eqb (2147483647 - a) (b + 2147483648) (λ h. omega (arith, h)))
 rank-same (negsuc a) (negsuc b) p q = eqb-iff a b (2147483647 - a) (2147483647 - b) (λ h. omega (arith, h, p, q)) (λ h. omega (arith, h, p, q))
 
+pub bits-same : (y z : ℤ) → mag y < 2147483648 → mag z < 2147483648 → same y z ≡ eqb (bits32 y) (bits32 z)
+unfolding bits32 same
+bits-same (pos a) (pos b) p q = refl
+bits-same (pos a) (negsuc b) p q = sym (ne-eqb a (4294967295 - b) (λ h. omega (arith, h, p, q)))
+bits-same (negsuc a) (pos b) p q = sym (ne-eqb (4294967295 - a) b (λ h. omega (arith, h, p, q)))
+bits-same (negsuc a) (negsuc b) p q = eqb-iff a b (4294967295 - a) (4294967295 - b) (λ h. omega (arith, h)) (λ h. omega (arith, h, p, q))
+
 -- ---- of 32 bits
 pub signed-range : (n : ℕ) → mag (signed32 n) < 2147483648
 unfolding signed32

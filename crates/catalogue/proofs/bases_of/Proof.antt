@@ -1,0 +1,44 @@
+-- `catalogue::bases_of` meets its contract: the first base of the type, and the walk to its last.
+use Prim.Native.Nat.{ℕ, _+_, _*_}
+use mathlib.Core.Path.{_≡_}
+use lib.ListN.{take, drop}
+use mir.Syntax.{w32}
+use mir.ValLaws.{toZ-ofZ}
+use Rattle.image.specs.Bytes.{i32At}
+use Rattle.keys.specs.Keys.{Parts}
+use Rattle.catalogue.specs.Catalogue.{basesAt, baseCount}
+use Rattle.catalogue.specs.Walks.{Ends}
+use Rattle.catalogue.proofs.Reading.{bases-sorted}
+use Rattle.catalogue.proofs.Walking.{run-of}
+use borrow.Author.Needs.{needs}
+use Rattle.catalogue.proofs.bases_of.Statement.{statement}
+use Rattle.catalogue.proofs.bases_of.Tie as tie
+use Rattle.catalogue.proofs.bases_of.Reads as reads
+use Rattle.catalogue.proofs.bases_of.Lts as lts
+use Rattle.catalogue.proofs.bases.Reads as bases-reads
+use Rattle.catalogue.proofs.first_key.Reads as first-key-reads
+use Rattle.catalogue.proofs.run_end.Reads as run-end-reads
+
+bases-requires : tie.Need-bases-requires
+bases-requires c κs = search needs
+
+first-key-requires : tie.Need-first-key-requires
+first-key-requires c κs =
+    let a = c .before .before in
+    let e = c .bases .ensures in
+    (search needs, rw (e .0, e .1) (bases-sorted (a .args .catalogue .now) (a .pre)))
+
+run-end-requires : tie.Need-run-end-requires
+run-end-requires c κs = search needs
+
+returns : tie.Need-returns
+returns c =
+    let s = c .before .before .before .before in
+    let b = s .args .catalogue .now in
+    let e = c .before .before .bases .ensures in
+    let z = toZ-ofZ w32 (s .args .id) (s .fits .id) in
+    run-of b (basesAt b) (baseCount b) (s .args .id) (s .fits .id .sfits) (c .before .first-key .result) (rw (e .0, e .1, z) at (c .before .first-key .ensures)) (bases-sorted b (s .pre))
+    (c .run-end .result) (rw (e .0, e .1, z) at (c .run-end .ensures))
+
+pub bases-of-spec : {M : Type 1} → statement M
+bases-of-spec = tie.close (tie.spec bases-requires first-key-requires run-end-requires returns)

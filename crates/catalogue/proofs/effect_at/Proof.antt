@@ -1,0 +1,46 @@
+-- `catalogue::effect_at` meets its contract: the value stands behind all keys.
+use mathlib.Core.Path.{_≡_, _∙_}
+use mir.Syntax.{w32}
+use mir.ValLaws.{toZ-ofZ}
+use borrow.Author.Needs.{needs}
+use Rattle.catalogue.proofs.effect_at.Statement.{statement}
+use Rattle.catalogue.proofs.effect_at.Tie as tie
+use Rattle.catalogue.proofs.effect_at.Reads as reads
+use Rattle.catalogue.proofs.effect_at.Lts as lts
+use Rattle.catalogue.proofs.links.Reads as links-reads
+use Rattle.image.proofs.i32_at.Reads as i32-at-reads
+
+links-requires : tie.Need-links-requires
+links-requires c κs = search needs
+
+mul-i32-at : tie.Need-mul-i32-at
+mul-i32-at c = search needs
+
+add-i32-at : tie.Need-add-i32-at
+add-i32-at c = search needs
+
+mul-i32-at-2 : tie.Need-mul-i32-at-2
+mul-i32-at-2 c = search needs
+
+add-i32-at-2 : tie.Need-add-i32-at-2
+add-i32-at-2 c = search needs
+
+i32-at-requires : tie.Need-i32-at-requires
+i32-at-requires c κs = search needs
+
+returns : tie.Need-returns
+returns c =
+    let e = c .before .before .before .links .ensures in
+    toZ-ofZ w32 (c .i32-at .result) (record { sfits = c .i32-at .ok }) ∙ c .i32-at .ensures ∙ rw (e .0, e .1)
+
+pub effect-at-spec : {M : Type 1} → statement M
+effect-at-spec =
+    tie.close
+    (tie.spec
+    links-requires
+    mul-i32-at
+    add-i32-at
+    mul-i32-at-2
+    add-i32-at-2
+    i32-at-requires
+    returns)

@@ -1,0 +1,65 @@
+-- `catalogue::with_link` meets its contract: the mark of the link's effect, where the effect is there.
+use Prim.Native.Nat.{ℕ}
+use mathlib.Core.Path.{_≡_, _∙_, refl, sym, ap}
+use mathlib.Core.Option.{Option, none, some}
+use mir.Syntax.{w32}
+use mir.ValLaws.{toZ-ofZ}
+use lib.IntN.{ℤ}
+use Rattle.words.specs.Words.{_>>=_}
+use Rattle.catalogue.specs.Catalogue.{catalogueOf, linkAt}
+use Rattle.catalogue.specs.Lookups.{effectMark}
+use Rattle.catalogue.specs.Answers.{markOf}
+use borrow.Author.Needs.{needs}
+use Rattle.catalogue.proofs.with_link.Statement.{statement}
+use Rattle.catalogue.proofs.with_link.Tie as tie
+use Rattle.catalogue.proofs.with_link.Reads as reads
+use Rattle.catalogue.proofs.with_link.Lts as lts
+use Rattle.catalogue.proofs.effect_at.Reads as effect-at-reads
+use Rattle.catalogue.proofs.effect_mark.Reads as effect-mark-reads
+use Rattle.catalogue.proofs.with_mark.Reads as with-mark-reads
+
+effect-at-requires : tie.Need-effect-at-requires
+effect-at-requires c κs = search needs
+
+effect-mark-requires : tie.Need-effect-mark-requires
+effect-mark-requires c κs = search needs
+
+enum-known-mark : tie.Need-enum-known-mark
+enum-known-mark c = search needs
+
+with-mark-requires : tie.Need-with-mark-requires
+with-mark-requires c κs = search needs
+
+enum-told : tie.Need-enum-told
+enum-told c = search needs
+
+-- what the lookup of the link's effect says
+told : (c : tie.After-effect-mark) → let a = c .before .before .before .args in markOf (c .effect-mark .result) ≡ effectMark (catalogueOf (a .catalogue .now)) (linkAt (a .catalogue .now) (a .i) .effect)
+told c =
+    let a = c .before .before .before .args in
+    c .effect-mark .ensures
+    ∙ ap (effectMark (catalogueOf (a .catalogue .now))) (toZ-ofZ w32 (c .before .effect-at .result) (record { sfits = c .before .effect-at .ok }) ∙ c .before .effect-at .ensures)
+
+returns : tie.Need-returns
+unfolding _>>=_
+returns c =
+    let e = sym (told (c .before .before .before .before)) ∙ ap markOf (c .before .before .mark .given .1) in
+    rw e (c .with-mark .ensures)
+
+returns-2 : tie.Need-returns-2
+unfolding _>>=_
+returns-2 c =
+    let e = sym (told (c .before .before)) ∙ ap markOf (c .enum-told .given .1) in
+    rw e (refl, refl)
+
+pub with-link-spec : {M : Type 1} → statement M
+with-link-spec =
+    tie.close
+    (tie.spec
+    effect-at-requires
+    effect-mark-requires
+    enum-known-mark
+    with-mark-requires
+    enum-told
+    returns
+    returns-2)
