@@ -6,16 +6,16 @@ use native.Mathlib.Omega.{arith}
 use mathlib.Core.Path.{_≡_, refl, sym, ap, _∙_}
 use mathlib.Core.List.{List, _∷_, map}
 use mathlib.Core.Option.{Option, none, some}
-use lib.ListN.{length, getD, getElem?, take, drop}
+use lib.ListN.{length, getD, getElem?}
 use Rattle.words.specs.Words.{table, tableFrom, sumOf}
 use Rattle.words.proofs.Tables.{length-table, getD-table, map-table, table-same}
 use Rattle.words.proofs.Elements.{sum-more, sum-none, table-two, elem-table, past-table}
 use Rattle.image.specs.Bytes.{u8At, i32At}
 use Rattle.keys.specs.Keys.{keyAt}
-use Rattle.keys.proofs.Parts.{part-key}
+use Rattle.keys.proofs.Parts.{part-length, part-key}
 use Rattle.catalogue.specs.Catalogue.{Id}
 use Rattle.fit.specs.Fit.{Item, Result, Fit, fitOf, skillCount, itemCount, resultCount, skillsAt, levelsAt, itemAt, attributeCount, idsAt, attributeAt, countAt, startAt, resultOf, allResults, resultAt}
-use Rattle.fit.specs.Sound.{Sized}
+use Rattle.fit.specs.Sound.{Sized, idsPart}
 
 module _ (b : List ℕ) where
   pub skill-at : (i : ℕ) (d : Id) → i < skillCount b → getD (fitOf b .skills) i d ≡ i32At b (skillsAt b + 4 * i)
@@ -89,17 +89,18 @@ module _ (b : List ℕ) where
   pub attribute-ids : (j : ℕ) → map (λ x. x .id) (resultOf b j .attributes) ≡ table (countAt b j) (λ i. i32At b (idsAt b + 4 * (startAt b j + i)))
   attribute-ids j = map-table (λ x. x .id) (countAt b j) (λ i. attributeAt b (startAt b j + i))
 
-  -- the ids of the n attributes from number `start` on
-  abbrev pub idsPart : ℕ → ℕ → List ℕ
-  idsPart start n = take (4 * n) (drop (idsAt b + 4 * start) b)
-
-  pub id-at : (start n i : ℕ) → i < n → keyAt (idsPart start n) i ≡ i32At b (idsAt b + 4 * (start + i))
+  pub id-at : (start n i : ℕ) → i < n → keyAt (idsPart b start n) i ≡ i32At b (idsAt b + 4 * (start + i))
+  unfolding idsPart
   id-at start n i h =
       let e : idsAt b + 4 * start + 4 * i ≡ idsAt b + 4 * (start + i) = omega arith in
       part-key b (idsAt b + 4 * start) n i h ∙ ap (i32At b) e
 
-  pub ids-all : (start n : ℕ) → table n (keyAt (idsPart start n)) ≡ table n (λ i. i32At b (idsAt b + 4 * (start + i)))
-  ids-all start n = table-same n (keyAt (idsPart start n)) (λ i. i32At b (idsAt b + 4 * (start + i))) (id-at start n)
+  pub ids-length : (start n : ℕ) → idsAt b + 4 * (start + n) ≤ length b → length (idsPart b start n) ≡ 4 * n
+  unfolding idsPart
+  ids-length start n h = part-length b (idsAt b + 4 * start) (4 * n) (omega arith)
+
+  pub ids-all : (start n : ℕ) → table n (keyAt (idsPart b start n)) ≡ table n (λ i. i32At b (idsAt b + 4 * (start + i)))
+  ids-all start n = table-same n (keyAt (idsPart b start n)) (λ i. i32At b (idsAt b + 4 * (start + i))) (id-at start n)
 
   sum-starts : (n : ℕ) → sumOf (λ r. length (r .attributes)) (table n (resultOf b)) ≡ startAt b n
   unfolding startAt

@@ -2,3 +2,4 @@
 pub mod Decoded
 pub mod Soundness
 mod Refused
+pub mod Searches

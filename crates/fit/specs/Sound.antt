@@ -1,11 +1,11 @@
 -- Document 01, "Records", Fit: what an image that is not refused is, field by field; and where each result's attributes begin in it.
-use Prim.Native.Nat.{ℕ, _+_, _≤_}
+use Prim.Native.Nat.{ℕ, _+_, _*_, _≤_}
 use mathlib.Core.Path.{_≡_}
 use mathlib.Core.Bool.{Bool, false, _||_}
 use mathlib.Core.List.{List}
 use lib.Dec.{eqb}
-use lib.ListN.{length, getD}
-use Rattle.fit.specs.Fit.{skillCount, itemCount, resultCount, attributeCount, sizeOf, startAt, fitOf}
+use lib.ListN.{length, getD, take, drop}
+use Rattle.fit.specs.Fit.{skillCount, itemCount, resultCount, attributeCount, sizeOf, idsAt, startAt, fitOf}
 use Rattle.fit.specs.Refusals.{fighterBay, droneBay, cargoHold, badOrder, badField}
 
 -- slot kinds whose items have no index: the bays and Cargo
@@ -35,3 +35,7 @@ pub record Sound (b : List ℕ) : Type 0 where
 -- s holds how many attributes stand before those of each result, and at last how many there are
 pub record Starts (b s : List ℕ) : Type 0 where
   pub begins : (j : ℕ) → j ≤ resultCount b + 2 → getD s j 0 ≡ startAt b j
+
+-- the part of the image that holds the ids of the n attributes from number `start` on
+unfoldable pub idsPart : List ℕ → ℕ → ℕ → List ℕ
+idsPart b start n = take (4 * n) (drop (idsAt b + 4 * start) b)

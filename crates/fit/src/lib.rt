@@ -2,13 +2,18 @@
 mod layout;
 pub mod refusals;
 
+use floats::Value;
+use keys::Found;
+
 ghost use mathlib.Core.Path.{_≡_};
 ghost use Prim.Native.Nat.{_+_, _*_, _<_, min};
+ghost use lib.ListN.{getD};
 ghost use Rattle.image.specs.Bytes.{u8At, i32At};
-ghost use Rattle.fit.specs.Fit.{modeOf, fitOf, skillCount, itemCount, resultCount, skillsAt, levelsAt, itemAt, resultOf};
-ghost use Rattle.fit.specs.Refusals.{fitRefusal};
-ghost use Rattle.fit.specs.Sound.{Sound, Starts};
-ghost use Rattle.fit.specs.Answers.{numberOf, chosenOf};
+ghost use Rattle.fit.specs.Fit.{modeOf, fitOf, skillCount, itemCount, resultCount, skillsAt, levelsAt, itemAt, countAt, startAt, resultOf};
+ghost use Rattle.floats.specs.Values.{valueOf};
+ghost use Rattle.fit.specs.Sound.{Sound, Starts, idsPart};
+ghost use Rattle.fit.specs.Answers.{chosenOf};
+ghost use Rattle.fit.specs.Lookups.{value, amount, trained};
 
 // What is said of a fit: accepted, or refused by 4, 5 or 6.
 pub enum Verdict {
@@ -143,4 +148,67 @@ pub fn starts(fit: &[u8]) -> [u32; 259]
         s[j] = sum;
     }
     s
+}
+
+fn wide(n: u32) -> usize
+    ensures { λ r. ⌜ r ≡ n ⌝ }
+{
+    n as usize
+}
+
+// How many attributes stand before those of result j.
+fn start_of(starts: &[u32; 259], j: usize) -> usize
+    requires { ⌜ j < 259 ⌝ }
+    ensures { λ r. ⌜ r ≡ getD (now (starts .entry)) j 0 ⌝ }
+{
+    wide(starts[j])
+}
+
+// The part of the caller's bytes that holds result j's attribute ids.
+pub fn ids_of<'a>(fit: &'a [u8], starts: &[u32; 259], j: usize) -> &'a [u8]
+    requires { ⌜ Sound (now fit) × Starts (now fit) (now starts) × (j < resultCount (now fit) + 2) ⌝ }
+    ensures { λ r. ⌜ now r ≡ idsPart (now (fit .entry)) (startAt (now (fit .entry)) j) (countAt (now (fit .entry)) j) ⌝ }
+{
+    let first = layout::ids_at(fit);
+    let a = first + 4 * start_of(starts, j);
+    let b = first + 4 * start_of(starts, j + 1);
+    &fit[a..b]
+}
+
+// What an attribute of result j reached.
+pub fn value(fit: &[u8], starts: &[u32; 259], j: usize, id: i32) -> Value
+    requires { ⌜ Sound (now fit) × Starts (now fit) (now starts) × (j < resultCount (now fit) + 2) ⌝ }
+    ensures { λ r. ⌜ valueOf r ≡ value (resultOf (now (fit .entry)) j) id ⌝ }
+{
+    let ids = ids_of(fit, starts, j);
+    let found = keys::place_of(ids, ids.len() / 4, id);
+    match found {
+        Found::At(i) => {
+            let at = start_of(starts, j) + i;
+            Value::Given(floats::f64_at(fit, layout::values_at(fit) + 8 * at))
+        }
+        Found::Nothing => Value::Missing,
+    }
+}
+
+// What an attribute of result j reached; one that is missing reads as 0.
+pub fn amount(fit: &[u8], starts: &[u32; 259], j: usize, id: i32) -> f64
+    requires { ⌜ Sound (now fit) × Starts (now fit) (now starts) × (j < resultCount (now fit) + 2) ⌝ }
+    ensures { λ r. ⌜ r ≡ amount (resultOf (now (fit .entry)) j) id ⌝ }
+{
+    floats::amount(value(fit, starts, j, id))
+}
+
+// The level that the character has in a skill; 0 where it is not listed.
+pub fn trained_level(fit: &[u8], id: i32) -> u8
+    requires { ⌜ Sound (now fit) ⌝ }
+    ensures { λ r. ⌜ r ≡ trained (fitOf (now (fit .entry)) .skills) (fitOf (now (fit .entry)) .levels) id ⌝ }
+{
+    let n = layout::skills(fit);
+    let ids = image::part(fit, 28, 4 * n);
+    let found = keys::place_of(ids, n, id);
+    match found {
+        Found::At(i) => image::u8_at(fit, layout::levels_at(fit) + i),
+        Found::Nothing => 0,
+    }
 }

@@ -1,14 +1,17 @@
--- Keys in a part of a slice: they are those of the whole from that place on. Assumes nothing.
+-- Keys in a part of a slice, which are those of the whole from that place on; and where a key can stand. Assumes nothing.
 use Prim.Native.Nat.{ℕ, _+_, _*_, _≤_, _<_}
 use native.Mathlib.Omega.{arith}
 use mathlib.Core.Path.{_≡_}
 use mathlib.Core.List.{List}
+use mathlib.Core.Option.{some}
+use lib.IntN.{ℤ}
 use lib.ListN.{length, take, drop, length-take, length-drop}
-use Rattle.words.specs.Words.{table}
+use Rattle.words.specs.Words.{table, same}
 use Rattle.words.proofs.Tables.{table-same}
+use Rattle.words.proofs.Elements.{found-below}
 use Rattle.image.specs.Bytes.{i32At}
 use Rattle.image.proofs.Parts.{part-i32}
-use Rattle.keys.specs.Keys.{keyAt}
+use Rattle.keys.specs.Keys.{keyAt, placeOf}
 
 module _ (b : List ℕ) (at n : ℕ) where
   pub part-length : at + n ≤ length b → length (take n (drop at b)) ≡ n
@@ -19,3 +22,8 @@ module _ (b : List ℕ) (at n : ℕ) where
 
   pub part-keys : table n (keyAt (take (4 * n) (drop at b))) ≡ table n (λ i. i32At b (at + 4 * i))
   part-keys = table-same n _ _ part-key
+
+-- an id stands at one of the n places
+pub place-below : (keys : List ℕ) (n : ℕ) (id : ℤ) (i : ℕ) → placeOf keys n id ≡ some i → i < n
+unfolding placeOf
+place-below keys n id i e = found-below (λ k. same (keyAt keys k) id) n i e

@@ -32,6 +32,20 @@ module _ (s t : ℕ → Bool) where
   pub find-same : (n : ℕ) → ((j : ℕ) → j < n → s j ≡ t j) → find s (from 0 n) ≡ find t (from 0 n)
   find-same n h = same-find 0 n (λ j p q. h j (omega (arith, q)))
 
+module _ (t : ℕ → Bool) where
+  found-from : (a n i : ℕ) → find t (from a n) ≡ some i → i < a + n
+  unfolding tableFrom find
+  found-from a zero i e = absurd (let z : _≡_ {A = ℕ} 0 1 = cc in omega arith)
+  found-from a (suc n) i e = go (t a) (found-from (suc a) n i) e
+    where
+      go : (b : Bool) → (find t (from (suc a) n) ≡ some i → i < suc a + n) → cond b (some a) (find t (from (suc a) n)) ≡ some i → i < a + suc n
+      go true f q = let z : a ≡ i = cc in omega arith
+      go false f q = let h = f q in omega arith
+
+  -- what is found among the numbers below n is below n
+  pub found-below : (n i : ℕ) → find t (from 0 n) ≡ some i → i < n
+  found-below n i e = let h = found-from 0 n i e in omega arith
+
 -- ---- tests
 module _ {A : Type 0} (t : A → Bool) (f : ℕ → A) where
   -- where none passes, this one does not

@@ -1,5 +1,6 @@
 -- `refusals::disordered` meets its contract: the keys of the part are those of the whole.
 use Rattle.keys.proofs.Parts.{part-length}
+use Rattle.fit.specs.Sound.{idsPart}
 use Rattle.fit.proofs.Decoded.{ids-all}
 use Rattle.keys.specs.Keys.{keyAt}
 use lib.Signed.{ltZ}
@@ -42,6 +43,7 @@ ascend-requires c κs =
 
 -- src/refusals.rt:70:1
 returns : tie.Need-returns
+unfolding idsPart
 returns c =
     let a = c .before .before .before .args in
     let b = a .fit .now in
