@@ -4,3 +4,4 @@ pub mod Filled
 pub mod Marks
 pub mod Ids
 pub mod Types
+pub mod Gathering

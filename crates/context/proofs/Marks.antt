@@ -28,9 +28,13 @@ module _ (low high : ℕ) (h : 0 < low) where
   unfolding lastMark
   mark-below c t = last-below (marks c t) none tt
 
-pub rack-below : (c : Catalogue) (t : Id) → Below 6 (rackOf c t)
+weaken : (o : Option ℕ) → Below 6 o → Below 8 o
+weaken none h = tt
+weaken (some s) h = omega arith
+
+pub rack-below : (c : Catalogue) (t : Id) → Below 8 (rackOf c t)
 unfolding rackOf
-rack-below c t = mark-below 1 6 (omega arith) c t
+rack-below c t = weaken (lastMark c 1 6 t) (mark-below 1 6 (omega arith) c t)
 
 pub hardpoint-below : (c : Catalogue) (t : Id) → Below 8 (hardpointOf c t)
 unfolding hardpointOf

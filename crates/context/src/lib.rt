@@ -50,6 +50,58 @@ fn code(slot: SlotAnswer) -> u8
     }
 }
 
+// The rack and the hardpoint that a type asks for, as bytes.
+struct Codes {
+    rack: u8,
+    hardpoint: u8,
+}
+
+fn slot_codes(catalogue: &[u8], id: i32) -> Codes
+    requires { ⌜ Catalogue.Sound (now catalogue) ⌝ }
+    ensures { λ r. ⌜ (slotIn (r .rack) ≡ rackOf (catalogueOf (now (catalogue .entry))) id) × (slotIn (r .hardpoint) ≡ hardpointOf (catalogueOf (now (catalogue .entry))) id) ⌝ }
+{
+    let marks = catalogue::slots_of(catalogue, id);
+    let rack = marks.rack;
+    let hardpoint = marks.hardpoint;
+    Codes {
+        rack: code(rack),
+        hardpoint: code(hardpoint),
+    }
+}
+
+pub fn gather(catalogue: &[u8], fit: &[u8]) -> Facts
+    requires { ⌜ Catalogue.Sound (now catalogue) × Fit.Sound (now fit) ⌝ }
+    ensures { λ r. ⌜ Gathered (now (catalogue .entry)) (now (fit .entry)) r ⌝ }
+{
+    let n = fit::pair_count(fit);
+    let mut groups = [0i32; 256];
+    let mut categories = [0i32; 256];
+    let mut racks = [0u8; 256];
+    let mut hardpoints = [0u8; 256];
+    let mut volumes = [0f64; 256];
+    let mut i: usize = 0;
+    while i < n {
+        let id = fit::item_type(fit, i);
+        let t = type_facts(catalogue, id);
+        let s = slot_codes(catalogue, id);
+        let group = t.group;
+        let category = t.category;
+        groups[i] = group;
+        categories[i] = category;
+        racks[i] = s.rack;
+        hardpoints[i] = s.hardpoint;
+        volumes[i] = t.volume;
+        i += 1;
+    }
+    Facts {
+        groups: groups,
+        categories: categories,
+        racks: racks,
+        hardpoints: hardpoints,
+        volumes: volumes,
+    }
+}
+
 // Two ids are the same.
 pub fn same_id(a: i32, b: i32) -> bool
     ensures { λ r. ⌜ r ≡ same a b ⌝ }

@@ -109,10 +109,12 @@ loop-again c =
     let s = f .before .before .before .before .before .before .args in
     let b = s .catalogue .now in
     let z = toZ w32 (ofZ w32 (s .id)) in
-    let e = sym (linked f) ∙ not-false _ (c .before .if1 .left) in
-    (omega arith, omega arith,
-    c .with-link .ensures .0 ∙ ap (λ (o : Option ℕ). foldl (marked 1 6) o (linkMarks (catalogueOf b) (linkAt b (l .i)))) (l .inv .2) ∙ sym (last-more b z 1 6 (l .i) e),
-    c .with-link .ensures .1 ∙ ap (λ (o : Option ℕ). foldl (marked 7 8) o (linkMarks (catalogueOf b) (linkAt b (l .i)))) (l .inv .3) ∙ sym (last-more b z 7 8 (l .i) e))
+    let e = sym (linked f) ∙ not-false _ (c .before .if1 .left) in (
+      omega arith,
+      omega arith,
+      c .with-link .ensures .0 ∙ ap (λ (o : Option ℕ). foldl (marked 1 6) o (linkMarks (catalogueOf b) (linkAt b (l .i)))) (l .inv .2) ∙ sym (last-more b z 1 6 (l .i) e),
+      c .with-link .ensures .1 ∙ ap (λ (o : Option ℕ). foldl (marked 7 8) o (linkMarks (catalogueOf b) (linkAt b (l .i)))) (l .inv .3) ∙ sym (last-more b z 7 8 (l .i) e),
+    )
 
 returns-2 : tie.Need-returns-2 Inv-loop μ-loop
 unfolding rackOf hardpointOf

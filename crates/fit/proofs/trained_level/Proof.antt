@@ -55,9 +55,11 @@ place-of-requires : tie.Need-place-of-requires
 place-of-requires c κs =
     let b = c .before .before .before .args .fit .now in
     let n = c .before .skills .result in
-    let l = part-length b 28 (4 * n) (omega arith) in
-    (omega (arith, l, ap length (c .part .ensures)), subst (λ (l : List ℕ). Sorted l n) (sym (c .part .ensures))
-    (subst (λ (k : ℕ). Sorted (take (4 * k) (drop 28 b)) k) (sym (c .before .skills .ensures)) (skills-sorted b (c .before .before .before .pre))))
+    let l = part-length b 28 (4 * n) (omega arith) in (
+      omega (arith, l, ap length (c .part .ensures)),
+      subst (λ (l : List ℕ). Sorted l n) (sym (c .part .ensures))
+          (subst (λ (k : ℕ). Sorted (take (4 * k) (drop 28 b)) k) (sym (c .before .skills .ensures)) (skills-sorted b (c .before .before .before .pre))),
+    )
 
 -- src/lib.rt:196:19
 enum-known-found : tie.Need-enum-known-found

@@ -64,9 +64,11 @@ place-of-requires : tie.Need-place-of-requires
 place-of-requires c κs =
     let a = c .before .before .args in
     let b = a .fit .now in
-    let n : length (c .ids-of .result .now) / 4 ≡ countAt b (a .j) = omega (arith, long c) in
-    (omega arith, subst (λ (l : List ℕ). Sorted l (length (c .ids-of .result .now) / 4)) (sym (c .ids-of .ensures))
-    (subst (λ (k : ℕ). Sorted (idsPart b (startAt b (a .j)) (countAt b (a .j))) k) (sym n) (ids-sorted b (c .before .before .pre .0) (a .j) (c .before .before .pre .2))))
+    let n : length (c .ids-of .result .now) / 4 ≡ countAt b (a .j) = omega (arith, long c) in (
+      omega arith,
+      subst (λ (l : List ℕ). Sorted l (length (c .ids-of .result .now) / 4)) (sym (c .ids-of .ensures))
+          (subst (λ (k : ℕ). Sorted (idsPart b (startAt b (a .j)) (countAt b (a .j))) k) (sym n) (ids-sorted b (c .before .before .pre .0) (a .j) (c .before .before .pre .2))),
+    )
 
 -- src/lib.rt:180:19
 enum-known-found : tie.Need-enum-known-found
