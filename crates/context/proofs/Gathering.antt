@@ -5,8 +5,7 @@ use mathlib.Core.Path.{_≡_}
 use mathlib.Core.List.{List}
 use lib.ListN.{length, getD, set}
 use lib.IntN.{ℤ, pos}
-use lib.Ieee.{Float}
-use Rattle.floats.specs.Floats.{zeroF}
+use lib.Ieee.{Float, nan}
 use Rattle.context.specs.Gathered.{pairAt, slotIn}
 use Rattle.context.proofs.Filled.{filled-none, filled-more}
 
@@ -16,7 +15,7 @@ pub record Filled (catalogue fit : List ℕ) (i : ℕ) (groups categories : List
   pub categories-held : (k : ℕ) → k < i → getD categories k (pos 0) ≡ pairAt catalogue fit k .category
   pub racks-held : (k : ℕ) → k < i → slotIn (getD racks k 0) ≡ pairAt catalogue fit k .rack
   pub hardpoints-held : (k : ℕ) → k < i → slotIn (getD hardpoints k 0) ≡ pairAt catalogue fit k .hardpoint
-  pub volumes-held : (k : ℕ) → k < i → getD volumes k zeroF ≡ pairAt catalogue fit k .volume
+  pub volumes-held : (k : ℕ) → k < i → getD volumes k nan ≡ pairAt catalogue fit k .volume
 
 module _ (catalogue fit : List ℕ) (groups categories : List ℤ) (racks hardpoints : List ℕ) (volumes : List Float) where
   pub gathered-none : Filled catalogue fit 0 groups categories racks hardpoints volumes
@@ -25,7 +24,7 @@ module _ (catalogue fit : List ℕ) (groups categories : List ℤ) (racks hardpo
     categories-held = filled-none (λ k v. v ≡ pairAt catalogue fit k .category) (pos 0) categories;
     racks-held = filled-none (λ k v. slotIn v ≡ pairAt catalogue fit k .rack) 0 racks;
     hardpoints-held = filled-none (λ k v. slotIn v ≡ pairAt catalogue fit k .hardpoint) 0 hardpoints;
-    volumes-held = filled-none (λ k v. v ≡ pairAt catalogue fit k .volume) zeroF volumes;
+    volumes-held = filled-none (λ k v. v ≡ pairAt catalogue fit k .volume) nan volumes;
   }
 
   pub gathered-more : (i : ℕ) (g c : ℤ) (r h : ℕ) (v : Float)
@@ -39,5 +38,5 @@ module _ (catalogue fit : List ℕ) (groups categories : List ℤ) (racks hardpo
     categories-held = filled-more (λ k v. v ≡ pairAt catalogue fit k .category) (pos 0) categories i c lc (f .categories-held) ec;
     racks-held = filled-more (λ k v. slotIn v ≡ pairAt catalogue fit k .rack) 0 racks i r lr (f .racks-held) er;
     hardpoints-held = filled-more (λ k v. slotIn v ≡ pairAt catalogue fit k .hardpoint) 0 hardpoints i h lh (f .hardpoints-held) eh;
-    volumes-held = filled-more (λ k v. v ≡ pairAt catalogue fit k .volume) zeroF volumes i v lv (f .volumes-held) ev;
+    volumes-held = filled-more (λ k v. v ≡ pairAt catalogue fit k .volume) nan volumes i v lv (f .volumes-held) ev;
   }

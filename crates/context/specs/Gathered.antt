@@ -7,9 +7,8 @@ use mathlib.Core.Option.{Option, none, some}
 use lib.Dec.{ltb}
 use lib.ListN.{getD}
 use lib.IntN.{ℤ, pos}
-use lib.Ieee.{Float}
+use lib.Ieee.{Float, nan}
 use Rattle.words.specs.Words.{table}
-use Rattle.floats.specs.Floats.{zeroF}
 use Rattle.catalogue.specs.Catalogue.{Id, Catalogue, catalogueOf}
 use Rattle.catalogue.specs.Lookups.{groupOf, categoryOf, volumeOf}
 use Rattle.catalogue.specs.declared.TypeInfo.{TypeInfo}
@@ -53,7 +52,7 @@ module _ (catalogue fit : List ℕ) where
   Categories a = (i : ℕ) → i < pairCount fit → getD a i (pos 0) ≡ pairAt catalogue fit i .category
 
   abbrev pub Volumes : List Float → Type 0
-  Volumes a = (i : ℕ) → i < pairCount fit → getD a i zeroF ≡ pairAt catalogue fit i .volume
+  Volumes a = (i : ℕ) → i < pairCount fit → getD a i nan ≡ pairAt catalogue fit i .volume
 
   abbrev pub Racks : List ℕ → Type 0
   Racks a = (i : ℕ) → i < pairCount fit → slotIn (getD a i 0) ≡ pairAt catalogue fit i .rack
