@@ -3,7 +3,7 @@ use mathlib.Core.Path.{_≡_, refl, ap, sym, subst, _∙_}
 use mathlib.Core.Bool.{Bool, true, false, cond}
 use mathlib.Core.List.{List, [], _∷_, _++_, append-nil, append-assoc}
 use mathlib.Core.Option.{Option, none, some}
-use Prim.Native.Nat.{ℕ, zero, suc, _+_, _*_, _/_, _<_, _≤_}
+use Prim.Native.Nat.{ℕ, suc, _+_, _*_, _/_, _<_, _≤_}
 use native.Mathlib.Nat.{zero-add}
 use native.Mathlib.Numerals.{add-one}
 use native.Mathlib.Omega.{arith}
@@ -46,15 +46,19 @@ pub wrote-none : (b : List ℕ) (n : ℕ) → Wrote b n b n []
 unfolding putAll
 wrote-none b n = record { count = omega arith; bytes = refl }
 
+pub wrote-one : {b a : List ℕ} {n k : ℕ} (e : Entry) → k ≡ n + 1 → a ≡ putAt b n e → Wrote b n a k (e ∷ [])
+unfolding putAll
+wrote-one e p q = record { count = p; bytes = q }
+
 -- where there is room for the entry
 pub wrote-room : {b a : List ℕ} {n k : ℕ} (e : Entry) → n < length b / 24 → k ≡ n + 1 → a ≡ put b (24 * n) (entryBytes e) → Wrote b n a k (e ∷ [])
-unfolding putAll putAt
-wrote-room {b} {a} {n} {k} e h p q = record { count = p; bytes = rw (lt-ltb n (length b / 24) h) q }
+unfolding putAt
+wrote-room {b} {a} {n} {k} e h p q = wrote-one e p (rw (lt-ltb n (length b / 24) h) q)
 
 -- where there is none
 pub wrote-full : {b : List ℕ} {n k : ℕ} (e : Entry) → length b / 24 ≤ n → k ≡ n + 1 → Wrote b n b k (e ∷ [])
-unfolding putAll putAt
-wrote-full {b} {n} {k} e h p = record { count = p; bytes = rw (le-ltb n (length b / 24) h) refl }
+unfolding putAt
+wrote-full {b} {n} {k} e h p = wrote-one e p (rw (le-ltb n (length b / 24) h))
 
 pub wrote-append : {b a a′ : List ℕ} {n k k′ : ℕ} {es fs : List Entry} → Wrote b n a k es → Wrote a k a′ k′ fs → Wrote b n a′ k′ (es ++ fs)
 wrote-append {b} {a} {a′} {n} {k} {k′} {es} {fs} v w =
@@ -133,7 +137,11 @@ module _ {A : Type 0} (f : A → List Entry) (g : ℕ → A) where
       → Wrote b n a′ k′ (each (table (i + 1) g) f)
   unfolding each
   wrote-table-next i v w =
-      wrote-same (sym (ap (λ (m : List A). each m f) (table-more i g) ∙ each-append f (table i g) (g i ∷ []) ∙ ap (λ (r : List Entry). each (table i g) f ++ r) (append-nil (f (g i))))) (wrote-append v w)
+      let more : each (table (i + 1) g) f ≡ each (table i g) f ++ f (g i) =
+      ap (λ (m : List A). each m f) (table-more i g)
+      ∙ each-append f (table i g) (g i ∷ [])
+      ∙ ap (λ (r : List Entry). each (table i g) f ++ r) (append-nil (f (g i))) in
+      wrote-same (sym more) (wrote-append v w)
 
   pub wrote-table-all : {b a : List ℕ} {n k i m : ℕ} → i ≤ m → m ≤ i → Wrote b n a k (each (table i g) f) → Wrote b n a k (each (table m g) f)
   wrote-table-all {b} {a} {n} {k} {i} {m} p q w = let e : i ≡ m = omega arith in wrote-same (ap (λ (j : ℕ). each (table j g) f) e) w

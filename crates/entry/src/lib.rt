@@ -57,13 +57,13 @@ pub struct Entry {
 }
 
 // What stands in an entry beside its target: the rule's number, its sub, and the four words of its payload.
-pub struct Packed {
-    pub code: u8,
-    pub sub: u8,
-    pub w0: u32,
-    pub w1: u32,
-    pub w2: u32,
-    pub w3: u32,
+struct Packed {
+    code: u8,
+    sub: u8,
+    w0: u32,
+    w1: u32,
+    w2: u32,
+    w3: u32,
 }
 
 fn words(code: u8, sub: u8, w0: u32, w1: u32, w2: u32, w3: u32) -> Packed
@@ -93,6 +93,7 @@ fn of_id(code: u8, sub: u8, id: i32, a: u32, b: u32) -> Packed
     words(code, sub, image::bits(id), a, b, 0)
 }
 
+// The two words of 64 bits.
 fn low32(x: u64) -> u32
     ensures { λ r. ⌜ r ≡ x % 2 ^ 32 ⌝ }
 {
@@ -113,7 +114,7 @@ fn resource(resource: u8, used: f64, available: f64) -> Packed
     words(1, resource, low32(u), high32(u), low32(a), high32(a))
 }
 
-// The rules by their numbers, from Rust's order.
+// The rules by their numbers, in Rust's order.
 fn pack(rule: Rule) -> Packed
     ensures { λ r. ⌜ fieldsOf r ≡ fields rule ⌝ }
 {
@@ -184,11 +185,12 @@ pub fn emit(out: &mut [u8], n: usize, e: Entry) -> usize
     requires { ⌜ n < 4294967296 ⌝ }
     ensures { λ r. ⌜ Wrote (now (out .entry)) n (now (out .exit)) r (e ∷ []) ⌝ }
 {
+    let next = n + 1;
     if n < out.len() / 24 {
         write(out, 24 * n, e);
-        n + 1
+        next
     } else {
-        n + 1
+        next
     }
 }
 

@@ -1,4 +1,5 @@
--- `entry::pack` meets its contract: in each arm the callee's fields are those of the case that was matched.
+-- `entry::pack` meets its contract: in each arm the callee's fields are those of the case that was matched. That an id fits its
+-- type, and so comes back from its bits, is told with the case.
 use mathlib.Core.Path.{_∙_, sym, ap}
 use mir.Syntax.{w32}
 use mir.ValLaws.{toZ-ofZ}

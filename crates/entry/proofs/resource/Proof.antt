@@ -25,7 +25,10 @@ words-requires : tie.Need-words-requires
 words-requires c κs = search needs
 
 returns : tie.Need-returns
-returns c = cc
+returns c =
+    let a = c .before .before in
+    let u = a .before .before in
+    rw (u .low32 .ensures, a .before .high32 .ensures, a .low322 .ensures, c .before .high322 .ensures, u .before .f64-bits2 .ensures, u .before .before .f64-bits .ensures) at (c .words .ensures)
 
 pub resource-spec : {M : Type 1} → statement M
 resource-spec =
