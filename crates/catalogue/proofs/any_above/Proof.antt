@@ -1,5 +1,5 @@
 -- `catalogue::any_above` meets its contract. The invariant: the verdict so far is that of the first i numbers.
-use Prim.Native.Nat.{ℕ, _+_, _-_, _*_, _≤_, _<_}
+use Prim.Native.Nat.{ℕ, _+_, _-_, _*_, _≤_}
 use native.Mathlib.Omega.{arith}
 use mathlib.Core.Path.{_≡_, sym, ap, _∙_}
 use mathlib.Core.Bool.{Bool, _||_}
@@ -45,12 +45,13 @@ loop-again : tie.Need-loop-again Inv-loop μ-loop
 loop-again c =
     let l = c .before .before .before .loop in
     let a = c .before .before .before .before .before .args in
-    let f : ℕ → ℕ = λ j. u32At (a .b .now) (a .at + a .step * j) in
-    (omega arith,
-    c .either .ensures
-    ∙ ap (λ (x : ℕ). l .found || ltb (a .limit) x) (c .before .u32-at .ensures)
-    ∙ ap (λ (t : Bool). t || ltb (a .limit) (f (l .i))) (l .inv .1)
-    ∙ sym (any-more (ltb (a .limit)) (l .i) f))
+    let f : ℕ → ℕ = λ j. u32At (a .b .now) (a .at + a .step * j) in (
+      omega arith,
+      c .either .ensures
+          ∙ ap (λ (x : ℕ). l .found || ltb (a .limit) x) (c .before .u32-at .ensures)
+          ∙ ap (λ (t : Bool). t || ltb (a .limit) (f (l .i))) (l .inv .1)
+          ∙ sym (any-more (ltb (a .limit)) (l .i) f),
+    )
 
 returns : tie.Need-returns Inv-loop μ-loop
 returns c =

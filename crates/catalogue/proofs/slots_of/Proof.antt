@@ -1,5 +1,5 @@
 -- `catalogue::slots_of` meets its contract. The invariant: what is found is the last mark of the links so far.
-use Prim.Native.Nat.{ℕ, _+_, _-_, _*_, _≤_, _<_}
+use Prim.Native.Nat.{ℕ, _-_, _*_, _≤_, _<_}
 use native.Mathlib.Omega.{arith}
 use mathlib.Core.Path.{_≡_, _∙_, sym, ap}
 use mathlib.Core.Bool.{false}
@@ -21,12 +21,6 @@ use Rattle.catalogue.proofs.Walking.{none-before, none-after, lastTo, l
 use borrow.Author.Needs.{needs}
 use Rattle.catalogue.proofs.slots_of.Statement.{statement}
 use Rattle.catalogue.proofs.slots_of.Tie as tie
-use Rattle.catalogue.proofs.slots_of.Reads as reads
-use Rattle.catalogue.proofs.slots_of.Lts as lts
-use Rattle.catalogue.proofs.first_key.Reads as first-key-reads
-use Rattle.catalogue.proofs.is_id.Reads as is-id-reads
-use Rattle.catalogue.proofs.links.Reads as links-reads
-use Rattle.catalogue.proofs.with_link.Reads as with-link-reads
 
 abbrev Inv-loop : tie.InvT-loop
 Inv-loop catalogue id at n found₀ i₀ found i =
@@ -109,10 +103,12 @@ loop-again c =
     let s = f .before .before .before .before .before .before .args in
     let b = s .catalogue .now in
     let z = toZ w32 (ofZ w32 (s .id)) in
-    let e = sym (linked f) ∙ not-false _ (c .before .if1 .left) in
-    (omega arith, omega arith,
-    c .with-link .ensures .0 ∙ ap (λ (o : Option ℕ). foldl (marked 1 6) o (linkMarks (catalogueOf b) (linkAt b (l .i)))) (l .inv .2) ∙ sym (last-more b z 1 6 (l .i) e),
-    c .with-link .ensures .1 ∙ ap (λ (o : Option ℕ). foldl (marked 7 8) o (linkMarks (catalogueOf b) (linkAt b (l .i)))) (l .inv .3) ∙ sym (last-more b z 7 8 (l .i) e))
+    let e = sym (linked f) ∙ not-false _ (c .before .if1 .left) in (
+      omega arith,
+      omega arith,
+      c .with-link .ensures .0 ∙ ap (λ (o : Option ℕ). foldl (marked 1 6) o (linkMarks (catalogueOf b) (linkAt b (l .i)))) (l .inv .2) ∙ sym (last-more b z 1 6 (l .i) e),
+      c .with-link .ensures .1 ∙ ap (λ (o : Option ℕ). foldl (marked 7 8) o (linkMarks (catalogueOf b) (linkAt b (l .i)))) (l .inv .3) ∙ sym (last-more b z 7 8 (l .i) e),
+    )
 
 returns-2 : tie.Need-returns-2 Inv-loop μ-loop
 unfolding rackOf hardpointOf
