@@ -1,10 +1,10 @@
 -- The keys of a block, read in their part as in the whole, and the refusals as tests of tables. Assumes nothing.
-use Prim.Native.Nat.{ℕ, _+_, _*_, _≤_, _<_}
+use Prim.Native.Nat.{ℕ, _+_, _*_}
 use native.Mathlib.Omega.{arith}
-use mathlib.Core.Path.{_≡_, refl, sym, ap, _∙_}
-use mathlib.Core.Bool.{Bool, true, false, not, _||_}
-use mathlib.Core.List.{List, map}
-use lib.ListN.{length, take, drop}
+use mathlib.Core.Path.{_≡_, ap}
+use mathlib.Core.Bool.{Bool, not, _||_}
+use mathlib.Core.List.{List}
+use lib.ListN.{take, drop}
 use lib.Dec.{ltb}
 use lib.Signed.{ltZ, leZ}
 use lib.IntN.{ℤ}

@@ -1,22 +1,38 @@
 -- Lookups as searches for a number: the index of the first record that matches. Assumes nothing.
-use Prim.Native.Nat.{ℕ, _+_, _*_, _≤_, _<_}
+use Prim.Native.Nat.{ℕ, _+_, _*_, _<_}
 use native.Mathlib.Omega.{arith}
-use mathlib.Core.Path.{_≡_, refl, sym, ap, _∙_}
-use mathlib.Core.Bool.{Bool, true, false}
+use mathlib.Core.Path.{_≡_, sym, ap, _∙_}
 use mathlib.Core.List.{List}
 use mathlib.Core.Option.{Option, none, some}
 use lib.Dec.{eqb}
-use lib.IntN.{ℤ, pos}
+use lib.IntN.{pos}
 use borrow.Author.Tests.{ne-eqb}
-use Rattle.words.specs.Words.{table, from, find, given, same}
-use Rattle.words.proofs.Tables.{find-made, find-alike, find-none}
-use Rattle.image.specs.Bytes.{u32At, i32At, signed32}
-use Rattle.catalogue.specs.Catalogue.{Id, Catalogue, catalogueOf, nameCount, effectCount, typeCount, linkCount, baseCount, namesAt, nameAt, effectAt, typeAt}
-use Rattle.catalogue.specs.Lookups.{nameId, typeOf, effectMark}
+use Rattle.words.specs.Words.{from, find, given, same}
+use Rattle.words.proofs.Tables.{given-made, find-made, find-alike, find-none}
+use Rattle.floats.specs.Floats.{zeroF}
+use Rattle.image.specs.Bytes.{i32At}
+use Rattle.catalogue.specs.Catalogue.{Id, Catalogue, catalogueOf, nameCount, effectCount, typeCount, namesAt, nameAt, effectAt, typeAt}
+use Rattle.catalogue.specs.Lookups.{nameId, typeOf, groupOf, categoryOf, volumeOf, effectMark}
 use Rattle.catalogue.specs.Answers.{infoOfType}
+use Rattle.catalogue.specs.declared.TypeInfo.{TypeInfo}
 use Rattle.catalogue.specs.Sound.{Sound}
 use Rattle.catalogue.proofs.Reading.{signed-small, number-small}
 
+-- ---- what the answer o for a type says of its group, category and volume
+module _ (c : Catalogue) (t : Id) (o : Option TypeInfo) (told : o ≡ given (typeOf c t) none (λ x. some (infoOfType x))) where
+  pub group-told : groupOf c t ≡ given o (pos 0) (λ x. x .group)
+  unfolding groupOf
+  group-told = rw told (sym (given-made (typeOf c t) infoOfType (pos 0) (λ x. x .group)))
+
+  pub category-told : categoryOf c t ≡ given o (pos 0) (λ x. x .category)
+  unfolding categoryOf
+  category-told = rw told (sym (given-made (typeOf c t) infoOfType (pos 0) (λ x. x .category)))
+
+  pub volume-told : volumeOf c t ≡ given o zeroF (λ x. x .volume)
+  unfolding volumeOf
+  volume-told = rw told (sym (given-made (typeOf c t) infoOfType zeroF (λ x. x .volume)))
+
+-- ---- searches
 module _ (b : List ℕ) where
   pub effect-search : (e : Id) → effectMark (catalogueOf b) e ≡ given (find (λ j. same (effectAt b j .id) e) (from 0 (effectCount b))) none (λ j. some (effectAt b j .mark))
   unfolding effectMark catalogueOf

@@ -1,23 +1,22 @@
 -- What a sound catalogue lets a reader rely on: sorted keys, and fields within their limits. Assumes nothing.
 use Prim.Native.Nat.{ℕ, _+_, _*_, _≤_, _<_}
 use native.Mathlib.Omega.{arith}
-use mathlib.Core.Path.{_≡_, refl, sym, ap, _∙_}
-use mathlib.Core.Bool.{Bool, true, false, not, _||_}
+use mathlib.Core.Path.{_≡_, sym, ap, _∙_}
+use mathlib.Core.Bool.{true, false, not, _||_}
 use mathlib.Core.List.{List}
 use mathlib.Mathlib.Data.Bool.Basic.{or-eq-false-eq-eq-false-and-eq-false as neither}
 use lib.ListN.{take, drop}
 use lib.Dec.{ltb}
-use lib.IntN.{ℤ, pos}
+use lib.IntN.{pos}
 use lib.Signed.{ltZ, leZ}
 use borrow.Author.Tests.{lt-ltb, ltb-false, not-false}
-use Rattle.words.specs.Words.{table, inOrder}
+use Rattle.words.specs.Words.{inOrder}
 use Rattle.words.proofs.Tables.{any-false}
-use Rattle.image.specs.Bytes.{u32At, i32At, signed32}
+use Rattle.image.specs.Bytes.{i32At, signed32}
 use Rattle.image.proofs.Parts.{part-i32}
 use Rattle.keys.specs.Keys.{Sorted, keyAt, rankOf}
 use Rattle.keys.proofs.Orders.{ascending-sorted, descending-sorted, any-le}
-use Rattle.catalogue.specs.Catalogue.{catalogueOf, nameCount, effectCount, typeCount, linkCount, baseCount, namesAt, effectsAt, typesAt, linksAt, basesAt, nameAt, effectAt, typeAt}
-use Rattle.catalogue.specs.Refusals.{badOrder, badField}
+use Rattle.catalogue.specs.Catalogue.{nameCount, effectCount, typeCount, linkCount, baseCount, namesAt, effectsAt, typesAt, linksAt, basesAt, nameAt, effectAt}
 use Rattle.catalogue.specs.Sound.{Sound}
 use Rattle.catalogue.proofs.Blocks.{keys-part, names-ascend, effects-ascend, types-ascend, links-rise, bases-rise, bad-order, name-over, mark-over, flag-over, bad-field}
 

@@ -1,17 +1,16 @@
 -- Links and bases: the run of one type, its marks in order, its first value of an attribute. Assumes nothing.
-use Prim.Native.Nat.{ℕ, zero, suc, _+_, _-_, _*_, _≤_, _<_}
+use Prim.Native.Nat.{ℕ, _+_, _-_, _*_, _≤_, _<_}
 use native.Mathlib.Omega.{arith}
 use mathlib.Core.Path.{_≡_, refl, sym, ap, _∙_}
-use mathlib.Core.Bool.{Bool, true, false, _&&_, cond, and-false}
+use mathlib.Core.Bool.{Bool, true, false, and-false}
 use mathlib.Core.List.{List, [], _∷_, _++_, foldl, foldl-append, append-nil}
 use mathlib.Core.Option.{Option, none, some}
 use lib.ListN.{take, drop}
 use lib.Dec.{leb}
 use lib.IntN.{ℤ}
-use lib.Ieee.{Float}
 use lib.Signed.{mag}
 use borrow.Author.Tests.{le-leb, lt-leb}
-use Rattle.words.specs.Words.{table, tableFrom, each, only, find, given, same}
+use Rattle.words.specs.Words.{table, each, only, given, same}
 use Rattle.words.proofs.Steps.{each-append}
 use Rattle.words.proofs.Walks.{only-none, only-more, only-skip, find-done, find-turn, find-run}
 use Rattle.image.specs.Bytes.{i32At}

@@ -2,23 +2,23 @@
 use floats::Value;
 use keys::Found;
 ghost use mathlib.Core.Path.{_≡_};
-ghost use mathlib.Core.Bool.{_||_};
+ghost use mathlib.Core.Bool.{_||_, cond};
 ghost use mathlib.Core.List.{foldl};
-ghost use mathlib.Core.Bool.{cond};
 ghost use mathlib.Core.Option.{none, some};
 ghost use Prim.Native.Nat.{ℕ, _+_, _*_, _<_, _≤_};
 ghost use lib.ListN.{length, take, drop};
 ghost use lib.Dec.{ltb, eqb};
 ghost use lib.Signed.{ltZ, leZ};
 ghost use Rattle.words.specs.Words.{table, from, anyOf, inOrder, find, given, same};
+ghost use Rattle.image.specs.Bytes.{u32At, i32At};
+ghost use Rattle.keys.specs.Keys.{Sorted, Parts, foundOf};
 ghost use Rattle.floats.specs.Floats.{zeroF, f32At};
 ghost use Rattle.floats.specs.Values.{valueOf};
-ghost use Rattle.image.specs.Bytes.{u32At, i32At};
-ghost use Rattle.catalogue.specs.Catalogue.{catalogueOf, sizeOf, nameCount, effectCount, typeCount, linkCount, baseCount, namesAt, effectsAt, typesAt, linksAt, basesAt, nameAt, effectAt, typeAt, linkAt, baseAt};
+ghost use Rattle.catalogue.specs.Catalogue.{catalogueOf, sizeOf, nameCount, effectCount, typeCount, linkCount, baseCount};
+ghost use Rattle.catalogue.specs.Catalogue.{namesAt, effectsAt, typesAt, linksAt, basesAt, nameAt, effectAt, typeAt, linkAt};
 ghost use Rattle.catalogue.specs.Refusals.{badLength, badOrder, badField, catalogueRefusal};
-ghost use Rattle.keys.specs.Keys.{Sorted, Parts, foundOf};
+ghost use Rattle.catalogue.specs.Lookups.{nameId, typeOf, effectMark, rackOf, hardpointOf};
 ghost use Rattle.catalogue.specs.Sound.{Sound};
-ghost use Rattle.catalogue.specs.Lookups.{nameId, typeOf, effectMark, rackOf, hardpointOf, baseValue};
 ghost use Rattle.catalogue.specs.Answers.{numberOf, idOf, markOf, infoOf, infoOfType, slotOf};
 ghost use Rattle.catalogue.specs.Walks.{Ends, SpanOf, spanValue, marked, linkMarks};
 
@@ -77,6 +77,8 @@ struct Block {
     at: usize,
     n: usize,
 }
+
+// ---- where the blocks are
 
 fn count(catalogue: &[u8], at: usize) -> usize
     requires { ⌜ at + 4 ≤ length (now catalogue) ⌝ }
@@ -151,6 +153,8 @@ fn bases(catalogue: &[u8]) -> Block
         n: count(catalogue, 16),
     }
 }
+
+// ---- refusals
 
 // Refusal 1.
 fn bad_length(catalogue: &[u8]) -> bool
@@ -268,6 +272,8 @@ pub fn verdict_of(catalogue: &[u8]) -> Verdict
     Verdict::Accepted
 }
 
+// ---- lookups of one record
+
 // Where an id stands among the keys of a block.
 fn find_key(catalogue: &[u8], b: Block, id: i32) -> Found
     requires { ⌜ (b .at + 4 * b .n ≤ length (now catalogue)) × Sorted (take (4 * b .n) (drop (b .at) (now catalogue))) (b .n) ⌝ }
@@ -344,6 +350,7 @@ fn type_at(catalogue: &[u8], i: usize) -> TypeInfo
     }
 }
 
+// `get_type`: what a type is.
 pub fn type_of(catalogue: &[u8], id: i32) -> TypeAnswer
     requires { ⌜ Sound (now catalogue) ⌝ }
     ensures { λ r. ⌜ infoOf r ≡ given (typeOf (catalogueOf (now (catalogue .entry))) id) none (λ x. some (infoOfType x)) ⌝ }
@@ -354,6 +361,8 @@ pub fn type_of(catalogue: &[u8], id: i32) -> TypeAnswer
         Found::Nothing => TypeAnswer::Unknown,
     }
 }
+
+// ---- walks over the links and the bases of a type
 
 // Whether the number at a place is an id.
 fn is_id(catalogue: &[u8], at: usize, id: i32) -> bool
@@ -373,7 +382,8 @@ fn first_key(catalogue: &[u8], b: Block, id: i32) -> usize
 
 // A mark of a rack is 1 to 6, one of a hardpoint 7 or 8; mark m stands for slot m - 1.
 fn with_mark(found: SlotMarks, mark: u8) -> SlotMarks
-    ensures { λ r. ⌜ (slotOf (r .rack) ≡ marked 1 6 (slotOf (found .rack)) mark) × (slotOf (r .hardpoint) ≡ marked 7 8 (slotOf (found .hardpoint)) mark) ⌝ }
+    ensures rack { λ r. ⌜ slotOf (r .rack) ≡ marked 1 6 (slotOf (found .rack)) mark ⌝ }
+    ensures hardpoint { λ r. ⌜ slotOf (r .hardpoint) ≡ marked 7 8 (slotOf (found .hardpoint)) mark ⌝ }
 {
     if mark < 1 {
         return found;
@@ -405,7 +415,8 @@ fn effect_at(catalogue: &[u8], i: usize) -> i32
 
 fn with_link(catalogue: &[u8], found: SlotMarks, i: usize) -> SlotMarks
     requires { ⌜ Sound (now catalogue) × (i < linkCount (now catalogue)) ⌝ }
-    ensures { λ r. ⌜ (slotOf (r .rack) ≡ foldl (marked 1 6) (slotOf (found .rack)) (linkMarks (catalogueOf (now (catalogue .entry))) (linkAt (now (catalogue .entry)) i))) × (slotOf (r .hardpoint) ≡ foldl (marked 7 8) (slotOf (found .hardpoint)) (linkMarks (catalogueOf (now (catalogue .entry))) (linkAt (now (catalogue .entry)) i))) ⌝ }
+    ensures rack { λ r. ⌜ slotOf (r .rack) ≡ foldl (marked 1 6) (slotOf (found .rack)) (linkMarks (catalogueOf (now (catalogue .entry))) (linkAt (now (catalogue .entry)) i)) ⌝ }
+    ensures hardpoint { λ r. ⌜ slotOf (r .hardpoint) ≡ foldl (marked 7 8) (slotOf (found .hardpoint)) (linkMarks (catalogueOf (now (catalogue .entry))) (linkAt (now (catalogue .entry)) i)) ⌝ }
 {
     let mark = effect_mark(catalogue, effect_at(catalogue, i));
     match mark {
@@ -417,7 +428,8 @@ fn with_link(catalogue: &[u8], found: SlotMarks, i: usize) -> SlotMarks
 // The slot effects EVE marks an item with, in the order of its links.
 pub fn slots_of(catalogue: &[u8], id: i32) -> SlotMarks
     requires { ⌜ Sound (now catalogue) ⌝ }
-    ensures { λ r. ⌜ (slotOf (r .rack) ≡ rackOf (catalogueOf (now (catalogue .entry))) id) × (slotOf (r .hardpoint) ≡ hardpointOf (catalogueOf (now (catalogue .entry))) id) ⌝ }
+    ensures rack { λ r. ⌜ slotOf (r .rack) ≡ rackOf (catalogueOf (now (catalogue .entry))) id ⌝ }
+    ensures hardpoint { λ r. ⌜ slotOf (r .hardpoint) ≡ hardpointOf (catalogueOf (now (catalogue .entry))) id ⌝ }
 {
     let b = links(catalogue);
     let at = b.at;

@@ -139,14 +139,15 @@ module _ {A : Type 0} (t : A → Bool) where
   unfolding tableFrom anyOf
   any-none f = refl
 
+-- what is made of what is made
+pub given-made : {A B C : Type 0} (o : Option A) (g : A → B) (z : C) (h : B → C) → given (given o none (λ x. some (g x))) z h ≡ given o z (λ x. h (g x))
+unfolding given
+given-made none g z h = refl
+given-made (some x) g z h = refl
+
 -- what is made of the element that a search finds
 pub find-made : {A B : Type 0} (t : A → Bool) (g : A → B) (n : ℕ) (f : ℕ → A) → given (find t (table n f)) none (λ x. some (g x)) ≡ given (find (λ j. t (f j)) (from 0 n)) none (λ j. some (g (f j)))
-unfolding given
-find-made {A} {B} t g n f = ap (λ (o : Option A). given o none (λ x. some (g x))) (find-table t n f) ∙ go (find (λ j. t (f j)) (from 0 n))
-  where
-    go : (o : Option ℕ) → given (given o none (λ j. some (f j))) none (λ x. some (g x)) ≡ given o none (λ j. some (g (f j)))
-    go none = refl
-    go (some j) = refl
+find-made {A} {B} t g n f = ap (λ (o : Option A). given o none (λ x. some (g x))) (find-table t n f) ∙ given-made (find (λ j. t (f j)) (from 0 n)) f none (λ x. some (g x))
 
 -- ---- searches for a number
 module _ (t s : ℕ → Bool) where

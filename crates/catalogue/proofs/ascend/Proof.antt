@@ -1,5 +1,5 @@
 -- `catalogue::ascend` meets its contract: the keys in their part are those in the whole.
-use Prim.Native.Nat.{ℕ, _*_}
+use Prim.Native.Nat.{ℕ}
 use native.Mathlib.Omega.{arith}
 use mathlib.Core.Path.{_∙_, ap}
 use mathlib.Core.List.{List}

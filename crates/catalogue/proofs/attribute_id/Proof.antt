@@ -3,7 +3,7 @@ use mathlib.Core.Path.{_≡_, _∙_, sym, ap}
 use mathlib.Core.Option.{Option, none, some}
 use Prim.Native.Nat.{ℕ, _+_, _*_}
 use native.Mathlib.Omega.{arith}
-use lib.IntN.{ℤ, pos}
+use lib.IntN.{pos}
 use mir.Syntax.{w32}
 use mir.ValLaws.{toZ-ofZ, toZ-pos}
 use Rattle.words.specs.Words.{find, from, same, given}
@@ -17,11 +17,6 @@ use Rattle.catalogue.proofs.Finding.{name-search, name-none}
 use borrow.Author.Needs.{needs}
 use Rattle.catalogue.proofs.attribute_id.Statement.{statement}
 use Rattle.catalogue.proofs.attribute_id.Tie as tie
-use Rattle.catalogue.proofs.attribute_id.Reads as reads
-use Rattle.catalogue.proofs.attribute_id.Lts as lts
-use Rattle.catalogue.proofs.find_key.Reads as find-key-reads
-use Rattle.catalogue.proofs.id_at.Reads as id-at-reads
-use Rattle.catalogue.proofs.names.Reads as names-reads
 
 found : (c : tie.After-find-key) → let a = c .before .before .before .before .args in foundOf (c .find-key .result) ≡ find (λ j. same (i32At (a .catalogue .now) (namesAt (a .catalogue .now) + 4 * j)) (pos (a .name))) (from 0 (nameCount (a .catalogue .now)))
 found c =

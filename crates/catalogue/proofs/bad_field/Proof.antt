@@ -4,12 +4,6 @@ use borrow.Author.Needs.{needs}
 use Rattle.catalogue.proofs.Blocks.{name-over, mark-over, flag-over, bad-field}
 use Rattle.catalogue.proofs.bad_field.Statement.{statement}
 use Rattle.catalogue.proofs.bad_field.Tie as tie
-use Rattle.catalogue.proofs.bad_field.Reads as reads
-use Rattle.catalogue.proofs.bad_field.Lts as lts
-use Rattle.catalogue.proofs.any_above.Reads as any-above-reads
-use Rattle.catalogue.proofs.effects.Reads as effects-reads
-use Rattle.catalogue.proofs.names.Reads as names-reads
-use Rattle.catalogue.proofs.types.Reads as types-reads
 
 names : (c : tie.After-any-above) → c .any-above .result ≡ name-over (c .before .before .before .args .catalogue .now)
 names c = c .any-above .ensures ∙ simp (c .before .names .ensures .0, c .before .names .ensures .1)

@@ -4,14 +4,12 @@ use mathlib.Core.Bool.{false}
 use lib.ListN.{length}
 use lib.Dec.{eqb}
 use native.Mathlib.Omega.{arith}
-use borrow.Author.Tests.{lt-ltb, le-ltb, eq-eqb, ne-eqb}
+use borrow.Author.Tests.{lt-ltb, le-ltb, ne-eqb}
 use borrow.Author.Needs.{needs}
 use Rattle.catalogue.specs.Catalogue.{sizeOf}
 use Rattle.catalogue.specs.Refusals.{badLength}
 use Rattle.catalogue.proofs.bad_length.Statement.{statement}
 use Rattle.catalogue.proofs.bad_length.Tie as tie
-use Rattle.catalogue.proofs.bad_length.Reads as reads
-use Rattle.catalogue.proofs.bad_length.Lts as lts
 
 returns : tie.Need-returns
 unfolding badLength

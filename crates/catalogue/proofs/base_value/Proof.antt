@@ -1,25 +1,19 @@
 -- `catalogue::base_value` meets its contract. The invariant: what is left holds the first match.
 use borrow.Author.Needs.{needs}
-use Prim.Native.Nat.{ℕ, _+_, _-_, _*_, _≤_, _<_}
+use Prim.Native.Nat.{_-_, _≤_}
 use native.Mathlib.Omega.{arith}
-use mathlib.Core.Path.{_≡_, _∙_, refl, sym, ap, subst}
-use mathlib.Core.Option.{Option, none, some}
+use mathlib.Core.Path.{_≡_, _∙_, refl, sym, ap}
+use mathlib.Core.Option.{some}
 use lib.Ieee.{Float}
 use mir.Syntax.{w32}
 use mir.Val.{toZ, ofZ}
 use mir.ValLaws.{toZ-ofZ}
 use Rattle.words.specs.Words.{same}
-use Rattle.image.specs.Bytes.{i32At}
-use Rattle.catalogue.specs.Catalogue.{baseAt, baseCount}
+use Rattle.catalogue.specs.Catalogue.{baseAt}
 use Rattle.catalogue.specs.Walks.{spanValue}
 use Rattle.catalogue.proofs.Walking.{span-none, span-here, span-next}
 use Rattle.catalogue.proofs.base_value.Statement.{statement}
 use Rattle.catalogue.proofs.base_value.Tie as tie
-use Rattle.catalogue.proofs.base_value.Reads as reads
-use Rattle.catalogue.proofs.base_value.Lts as lts
-use Rattle.catalogue.proofs.bases.Reads as bases-reads
-use Rattle.catalogue.proofs.is_id.Reads as is-id-reads
-use Rattle.floats.proofs.f32_wide_at.Reads as f32-wide-at-reads
 
 abbrev Inv-loop : tie.InvT-loop
 Inv-loop catalogue attribute at to i₀ i = (i₀ ≤ i) × (i ≤ to) × (spanValue catalogue i₀ to (toZ w32 attribute) ≡ spanValue catalogue i to (toZ w32 attribute))

@@ -1,23 +1,12 @@
 -- `catalogue::bases_of` meets its contract: the first base of the type, and the walk to its last.
-use Prim.Native.Nat.{ℕ, _+_, _*_}
-use mathlib.Core.Path.{_≡_}
-use lib.ListN.{take, drop}
 use mir.Syntax.{w32}
 use mir.ValLaws.{toZ-ofZ}
-use Rattle.image.specs.Bytes.{i32At}
-use Rattle.keys.specs.Keys.{Parts}
 use Rattle.catalogue.specs.Catalogue.{basesAt, baseCount}
-use Rattle.catalogue.specs.Walks.{Ends}
 use Rattle.catalogue.proofs.Reading.{bases-sorted}
 use Rattle.catalogue.proofs.Walking.{run-of}
 use borrow.Author.Needs.{needs}
 use Rattle.catalogue.proofs.bases_of.Statement.{statement}
 use Rattle.catalogue.proofs.bases_of.Tie as tie
-use Rattle.catalogue.proofs.bases_of.Reads as reads
-use Rattle.catalogue.proofs.bases_of.Lts as lts
-use Rattle.catalogue.proofs.bases.Reads as bases-reads
-use Rattle.catalogue.proofs.first_key.Reads as first-key-reads
-use Rattle.catalogue.proofs.run_end.Reads as run-end-reads
 
 bases-requires : tie.Need-bases-requires
 bases-requires c κs = search needs

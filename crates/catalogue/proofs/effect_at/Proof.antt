@@ -1,14 +1,10 @@
 -- `catalogue::effect_at` meets its contract: the value stands behind all keys.
-use mathlib.Core.Path.{_≡_, _∙_}
+use mathlib.Core.Path.{_∙_}
 use mir.Syntax.{w32}
 use mir.ValLaws.{toZ-ofZ}
 use borrow.Author.Needs.{needs}
 use Rattle.catalogue.proofs.effect_at.Statement.{statement}
 use Rattle.catalogue.proofs.effect_at.Tie as tie
-use Rattle.catalogue.proofs.effect_at.Reads as reads
-use Rattle.catalogue.proofs.effect_at.Lts as lts
-use Rattle.catalogue.proofs.links.Reads as links-reads
-use Rattle.image.proofs.i32_at.Reads as i32-at-reads
 
 links-requires : tie.Need-links-requires
 links-requires c κs = search needs

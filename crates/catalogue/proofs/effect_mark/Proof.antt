@@ -14,11 +14,6 @@ use Rattle.catalogue.proofs.Finding.{effect-search}
 use borrow.Author.Needs.{needs}
 use Rattle.catalogue.proofs.effect_mark.Statement.{statement}
 use Rattle.catalogue.proofs.effect_mark.Tie as tie
-use Rattle.catalogue.proofs.effect_mark.Reads as reads
-use Rattle.catalogue.proofs.effect_mark.Lts as lts
-use Rattle.catalogue.proofs.effects.Reads as effects-reads
-use Rattle.catalogue.proofs.find_key.Reads as find-key-reads
-use Rattle.catalogue.proofs.mark_at.Reads as mark-at-reads
 
 found : (c : tie.After-find-key) → let a = c .before .before .before .args in foundOf (c .find-key .result) ≡ find (λ j. same (effectAt (a .catalogue .now) j .id) (a .id)) (from 0 (effectCount (a .catalogue .now)))
 found c =

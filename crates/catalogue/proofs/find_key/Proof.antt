@@ -1,7 +1,7 @@
 -- `catalogue::find_key` meets its contract: the search of the keys in their part.
 use Prim.Native.Nat.{ℕ}
 use native.Mathlib.Omega.{arith}
-use mathlib.Core.Path.{_≡_, _∙_, sym, ap, ap₂, subst}
+use mathlib.Core.Path.{_∙_, sym, ap₂, subst}
 use mathlib.Core.List.{List}
 use lib.IntN.{ℤ}
 use mir.Syntax.{w32}

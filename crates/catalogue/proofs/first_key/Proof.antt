@@ -1,20 +1,14 @@
 -- `catalogue::first_key` meets its contract: the search of the keys in their part.
-use Prim.Native.Nat.{ℕ, _*_}
+use Prim.Native.Nat.{ℕ}
 use native.Mathlib.Omega.{arith}
-use mathlib.Core.Path.{_≡_, sym, subst}
+use mathlib.Core.Path.{sym, subst}
 use mathlib.Core.List.{List}
-use lib.IntN.{ℤ}
-use lib.ListN.{take, drop}
 use mir.Syntax.{w32}
 use mir.ValLaws.{toZ-ofZ}
-use Rattle.keys.specs.Keys.{Sorted, Parts}
+use Rattle.keys.specs.Keys.{Sorted}
 use borrow.Author.Needs.{needs}
 use Rattle.catalogue.proofs.first_key.Statement.{statement}
 use Rattle.catalogue.proofs.first_key.Tie as tie
-use Rattle.catalogue.proofs.first_key.Reads as reads
-use Rattle.catalogue.proofs.first_key.Lts as lts
-use Rattle.catalogue.proofs.keys_of.Reads as keys-of-reads
-use Rattle.keys.proofs.first_from.Reads as first-from-reads
 
 keys-of-requires : tie.Need-keys-of-requires
 keys-of-requires c κs = search needs

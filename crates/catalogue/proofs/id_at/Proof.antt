@@ -1,14 +1,10 @@
 -- `catalogue::id_at` meets its contract: the value stands behind all keys.
-use mathlib.Core.Path.{_≡_, _∙_}
+use mathlib.Core.Path.{_∙_}
 use mir.Syntax.{w32}
 use mir.ValLaws.{toZ-ofZ}
 use borrow.Author.Needs.{needs}
 use Rattle.catalogue.proofs.id_at.Statement.{statement}
 use Rattle.catalogue.proofs.id_at.Tie as tie
-use Rattle.catalogue.proofs.id_at.Reads as reads
-use Rattle.catalogue.proofs.id_at.Lts as lts
-use Rattle.catalogue.proofs.names.Reads as names-reads
-use Rattle.image.proofs.i32_at.Reads as i32-at-reads
 
 names-requires : tie.Need-names-requires
 names-requires c κs = search needs

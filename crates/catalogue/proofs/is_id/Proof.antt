@@ -1,5 +1,5 @@
 -- `catalogue::is_id` meets its contract: two signed numbers are equal where their bits are.
-use mathlib.Core.Path.{_≡_, _∙_, sym, ap, ap₂}
+use mathlib.Core.Path.{_∙_, sym, ap, ap₂}
 use lib.Dec.{eqb}
 use lib.IntN.{ℤ}
 use Rattle.words.specs.Words.{same}
@@ -8,9 +8,6 @@ use Rattle.keys.proofs.Ranks.{bits-same}
 use borrow.Author.Needs.{needs}
 use Rattle.catalogue.proofs.is_id.Statement.{statement}
 use Rattle.catalogue.proofs.is_id.Tie as tie
-use Rattle.catalogue.proofs.is_id.Reads as reads
-use Rattle.catalogue.proofs.is_id.Lts as lts
-use Rattle.image.proofs.i32_at.Reads as i32-at-reads
 
 i32-at-requires : tie.Need-i32-at-requires
 i32-at-requires c κs = search needs

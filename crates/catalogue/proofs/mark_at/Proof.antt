@@ -6,10 +6,6 @@ use Rattle.catalogue.proofs.Reading.{mark-small}
 use borrow.Author.Needs.{needs}
 use Rattle.catalogue.proofs.mark_at.Statement.{statement}
 use Rattle.catalogue.proofs.mark_at.Tie as tie
-use Rattle.catalogue.proofs.mark_at.Reads as reads
-use Rattle.catalogue.proofs.mark_at.Lts as lts
-use Rattle.catalogue.proofs.effects.Reads as effects-reads
-use Rattle.image.proofs.u32_at.Reads as u32-at-reads
 
 effects-requires : tie.Need-effects-requires
 effects-requires c κs = search needs

@@ -1,9 +1,8 @@
 -- `catalogue::run_end` meets its contract. The invariant: each key so far is the id.
 use Prim.Native.Nat.{ℕ, _+_, _-_, _*_, _≤_, _<_}
 use native.Mathlib.Omega.{arith}
-use mathlib.Core.Path.{_≡_, _∙_, sym, ap, subst}
+use mathlib.Core.Path.{_≡_, _∙_, sym}
 use mathlib.Core.Bool.{true}
-use lib.IntN.{ℤ}
 use mir.Syntax.{w32}
 use mir.Val.{toZ}
 use mir.ValLaws.{toZ-ofZ}
@@ -13,9 +12,6 @@ use Rattle.words.specs.Words.{same}
 use Rattle.image.specs.Bytes.{i32At}
 use Rattle.catalogue.proofs.run_end.Statement.{statement}
 use Rattle.catalogue.proofs.run_end.Tie as tie
-use Rattle.catalogue.proofs.run_end.Reads as reads
-use Rattle.catalogue.proofs.run_end.Lts as lts
-use Rattle.catalogue.proofs.is_id.Reads as is-id-reads
 
 abbrev Inv-loop : tie.InvT-loop
 Inv-loop catalogue first id at n i₀ i = (first ≤ i) × (i ≤ n) × ((k : ℕ) → k < i → first ≤ k → same (i32At catalogue (at + 4 * k)) (toZ w32 id) ≡ true)

@@ -1,5 +1,5 @@
 -- `catalogue::slots_of` meets its contract. The invariant: what is found is the last mark of the links so far.
-use Prim.Native.Nat.{ℕ, _+_, _-_, _*_, _≤_, _<_}
+use Prim.Native.Nat.{ℕ, _-_, _*_, _≤_, _<_}
 use native.Mathlib.Omega.{arith}
 use mathlib.Core.Path.{_≡_, _∙_, sym, ap}
 use mathlib.Core.Bool.{false}
@@ -21,12 +21,6 @@ use Rattle.catalogue.proofs.Walking.{none-before, none-after, lastTo, l
 use borrow.Author.Needs.{needs}
 use Rattle.catalogue.proofs.slots_of.Statement.{statement}
 use Rattle.catalogue.proofs.slots_of.Tie as tie
-use Rattle.catalogue.proofs.slots_of.Reads as reads
-use Rattle.catalogue.proofs.slots_of.Lts as lts
-use Rattle.catalogue.proofs.first_key.Reads as first-key-reads
-use Rattle.catalogue.proofs.is_id.Reads as is-id-reads
-use Rattle.catalogue.proofs.links.Reads as links-reads
-use Rattle.catalogue.proofs.with_link.Reads as with-link-reads
 
 abbrev Inv-loop : tie.InvT-loop
 Inv-loop catalogue id at n found₀ i₀ found i =

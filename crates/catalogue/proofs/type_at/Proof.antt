@@ -1,16 +1,10 @@
 -- `catalogue::type_at` meets its contract: field by field.
-use Prim.Native.Nat.{ℕ, _+_, _*_}
-use mathlib.Core.Path.{_≡_, _∙_, sym, ap}
+use mathlib.Core.Path.{_∙_}
 use mir.Syntax.{w32}
 use mir.ValLaws.{toZ-ofZ}
 use borrow.Author.Needs.{needs}
 use Rattle.catalogue.proofs.type_at.Statement.{statement}
 use Rattle.catalogue.proofs.type_at.Tie as tie
-use Rattle.catalogue.proofs.type_at.Reads as reads
-use Rattle.catalogue.proofs.type_at.Lts as lts
-use Rattle.catalogue.proofs.types.Reads as types-reads
-use Rattle.catalogue.proofs.volume_at.Reads as volume-at-reads
-use Rattle.image.proofs.i32_at.Reads as i32-at-reads
 
 types-requires : tie.Need-types-requires
 types-requires c κs = search needs

@@ -15,11 +15,6 @@ use Rattle.catalogue.proofs.Finding.{type-search}
 use borrow.Author.Needs.{needs}
 use Rattle.catalogue.proofs.type_of.Statement.{statement}
 use Rattle.catalogue.proofs.type_of.Tie as tie
-use Rattle.catalogue.proofs.type_of.Reads as reads
-use Rattle.catalogue.proofs.type_of.Lts as lts
-use Rattle.catalogue.proofs.types.Reads as types-reads
-use Rattle.catalogue.proofs.find_key.Reads as find-key-reads
-use Rattle.catalogue.proofs.type_at.Reads as type-at-reads
 
 found : (c : tie.After-find-key) → let a = c .before .before .before .args in foundOf (c .find-key .result) ≡ find (λ j. same (typeAt (a .catalogue .now) j .id) (a .id)) (from 0 (typeCount (a .catalogue .now)))
 found c =

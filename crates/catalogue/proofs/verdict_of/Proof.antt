@@ -1,14 +1,9 @@
 -- `catalogue::verdict_of` meets its contract: each test is that of its refusal, in their order.
-use mathlib.Core.Path.{_≡_, _∙_, sym}
+use mathlib.Core.Path.{_∙_, sym}
 use borrow.Author.Needs.{needs}
 use Rattle.catalogue.proofs.Sound.{fits-size, refused-1, refused-2, refused-3, refused-none}
 use Rattle.catalogue.proofs.verdict_of.Statement.{statement}
 use Rattle.catalogue.proofs.verdict_of.Tie as tie
-use Rattle.catalogue.proofs.verdict_of.Reads as reads
-use Rattle.catalogue.proofs.verdict_of.Lts as lts
-use Rattle.catalogue.proofs.bad_field.Reads as bad-field-reads
-use Rattle.catalogue.proofs.bad_length.Reads as bad-length-reads
-use Rattle.catalogue.proofs.bad_order.Reads as bad-order-reads
 
 bad-length-requires : tie.Need-bad-length-requires
 bad-length-requires c κs = search needs

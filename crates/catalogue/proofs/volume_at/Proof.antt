@@ -1,14 +1,10 @@
 -- `catalogue::volume_at` meets its contract: a volume counts where its flag is not 0.
-use mathlib.Core.Path.{_≡_, _∙_, sym}
+use mathlib.Core.Path.{_∙_, sym}
 use lib.Ieee.{ofBits}
 use borrow.Author.Tests.{eq-eqb, ne-eqb}
 use borrow.Author.Needs.{needs}
 use Rattle.catalogue.proofs.volume_at.Statement.{statement}
 use Rattle.catalogue.proofs.volume_at.Tie as tie
-use Rattle.catalogue.proofs.volume_at.Reads as reads
-use Rattle.catalogue.proofs.volume_at.Lts as lts
-use Rattle.floats.proofs.f32_wide_at.Reads as f32-wide-at-reads
-use Rattle.image.proofs.u32_at.Reads as u32-at-reads
 
 add-u32-at : tie.Need-add-u32-at
 add-u32-at c = search needs

@@ -1,10 +1,7 @@
 -- `catalogue::with_link` meets its contract: the mark of the link's effect, where the effect is there.
-use Prim.Native.Nat.{ℕ}
 use mathlib.Core.Path.{_≡_, _∙_, refl, sym, ap}
-use mathlib.Core.Option.{Option, none, some}
 use mir.Syntax.{w32}
 use mir.ValLaws.{toZ-ofZ}
-use lib.IntN.{ℤ}
 use Rattle.words.specs.Words.{_>>=_}
 use Rattle.catalogue.specs.Catalogue.{catalogueOf, linkAt}
 use Rattle.catalogue.specs.Lookups.{effectMark}
@@ -12,11 +9,6 @@ use Rattle.catalogue.specs.Answers.{markOf}
 use borrow.Author.Needs.{needs}
 use Rattle.catalogue.proofs.with_link.Statement.{statement}
 use Rattle.catalogue.proofs.with_link.Tie as tie
-use Rattle.catalogue.proofs.with_link.Reads as reads
-use Rattle.catalogue.proofs.with_link.Lts as lts
-use Rattle.catalogue.proofs.effect_at.Reads as effect-at-reads
-use Rattle.catalogue.proofs.effect_mark.Reads as effect-mark-reads
-use Rattle.catalogue.proofs.with_mark.Reads as with-mark-reads
 
 effect-at-requires : tie.Need-effect-at-requires
 effect-at-requires c κs = search needs

@@ -3,8 +3,6 @@ use native.Mathlib.Omega.{arith}
 use Rattle.catalogue.proofs.Walking.{marked-low, marked-high, marked-in}
 use Rattle.catalogue.proofs.with_mark.Statement.{statement}
 use Rattle.catalogue.proofs.with_mark.Tie as tie
-use Rattle.catalogue.proofs.with_mark.Reads as reads
-use Rattle.catalogue.proofs.with_mark.Lts as lts
 
 returns : tie.Need-returns
 returns c = let m = c .before .args .mark in (marked-low 1 6 _ m (omega arith), marked-low 7 8 _ m (omega arith))
