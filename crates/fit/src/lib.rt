@@ -4,7 +4,6 @@ pub mod refusals;
 
 use floats::Value;
 use keys::Found;
-
 ghost use mathlib.Core.Path.{_≡_};
 ghost use Prim.Native.Nat.{_+_, _*_, _<_, min};
 ghost use lib.ListN.{getD};

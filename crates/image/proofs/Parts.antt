@@ -1,9 +1,9 @@
 -- A number read from a part of a slice is the one that stands there in the whole. Assumes nothing.
 use Prim.Native.Nat.{ℕ, _+_, _≤_, _<_}
 use native.Mathlib.Omega.{arith}
-use mathlib.Core.Path.{_≡_, ap, ap₂, _∙_}
+use mathlib.Core.Path.{_≡_, ap, _∙_}
 use mathlib.Core.List.{List}
-use lib.ListN.{getD, take, drop}
+use lib.ListN.{take, drop}
 use lib.Seq.{getD-take, getD-drop}
 use Rattle.image.specs.Bytes.{u8At, u32At, signed32, i32At}
 
