@@ -4,17 +4,17 @@ use native.Mathlib.Nat.{add-zero, add-suc, le-refl, le-trans}
 use native.Mathlib.Numerals.{add-one}
 use native.Mathlib.Omega.{arith}
 use mathlib.Core.Path.{_≡_, refl, sym, ap, _∙_}
-use mathlib.Core.List.{List, _∷_, map}
-use mathlib.Core.Option.{Option, none, some}
+use mathlib.Core.List.{List, map}
+use mathlib.Core.Option.{none, some}
 use lib.ListN.{length, getD, getElem?}
-use Rattle.words.specs.Words.{table, tableFrom, sumOf}
+use Rattle.words.specs.Words.{table, sumOf}
 use Rattle.words.proofs.Tables.{length-table, getD-table, map-table, table-same}
 use Rattle.words.proofs.Elements.{sum-more, sum-none, table-two, elem-table, past-table}
 use Rattle.image.specs.Bytes.{u8At, i32At}
 use Rattle.keys.specs.Keys.{keyAt}
 use Rattle.keys.proofs.Parts.{part-length, part-key}
 use Rattle.catalogue.specs.Catalogue.{Id}
-use Rattle.fit.specs.Fit.{Item, Result, Fit, fitOf, skillCount, itemCount, resultCount, skillsAt, levelsAt, itemAt, attributeCount, idsAt, attributeAt, countAt, startAt, resultOf, allResults, resultAt}
+use Rattle.fit.specs.Fit.{Item, Result, fitOf, skillCount, itemCount, resultCount, skillsAt, levelsAt, itemAt, attributeCount, idsAt, attributeAt, countAt, startAt, resultOf, allResults, resultAt}
 use Rattle.fit.specs.Sound.{Sized, idsPart}
 
 module _ (b : List ℕ) where
@@ -54,6 +54,14 @@ module _ (b : List ℕ) where
   pub all-results : allResults (fitOf b) ≡ table (resultCount b + 2) (resultOf b)
   unfolding fitOf
   all-results = sym (table-two (resultCount b) (resultOf b))
+
+  pub hull-is : fitOf b .frame .hull ≡ resultOf b 0
+  unfolding fitOf
+  hull-is = refl
+
+  pub character-is : fitOf b .frame .character ≡ resultOf b 1
+  unfolding fitOf
+  character-is = refl
 
   pub result-some : (n : ℕ) → n < resultCount b + 2 → resultAt (fitOf b) n ≡ some (resultOf b n)
   unfolding resultAt

@@ -1,7 +1,7 @@
 -- What the tests of the code say in terms of the definitions: the mode by its bits, and each refusal from its parts. Assumes nothing.
-use Prim.Native.Nat.{ℕ, _+_, _*_, _-_, _≤_, _<_, _^_}
+use Prim.Native.Nat.{ℕ, _+_, _*_, _-_, _^_}
 use native.Mathlib.Omega.{arith}
-use mathlib.Core.Path.{_≡_, refl, sym, ap, _∙_}
+use mathlib.Core.Path.{_≡_, refl, sym, ap, ap₂, _∙_}
 use mathlib.Core.Bool.{Bool, true, false, not, cond, _&&_, _||_}
 use mathlib.Core.List.{List}
 use lib.Dec.{ltb, eqb}
@@ -10,8 +10,9 @@ use lib.Signed.{ltZ}
 use borrow.Author.Tests.{ltb-false, ne-eqb}
 use Rattle.words.specs.Words.{anyOf, inOrder, table, same}
 use Rattle.image.specs.Bytes.{u32At, i32At, signed32}
-use Rattle.fit.specs.Fit.{fitOf, skillCount, skillsAt, allResults}
+use Rattle.fit.specs.Fit.{fitOf, skillCount, skillsAt, idsAt, countAt, startAt, resultOf, allResults}
 use Rattle.fit.specs.Refusals.{badItem, badResult, badOrder, badField}
+use Rattle.fit.proofs.Decoded.{attribute-ids}
 use Rattle.fit.proofs.Soundness.{badMode, disordered}
 
 -- a number of 32 bits is 0 where its bits are
@@ -35,3 +36,9 @@ module _ (b : List ℕ) where
   pub order-parts : badOrder (fitOf b) ≡ not (inOrder ltZ (table (skillCount b) (λ i. i32At b (skillsAt b + 4 * i)))) || anyOf disordered (allResults (fitOf b))
   unfolding badOrder fitOf
   order-parts = refl
+
+  -- what the order of the ids from a result's start on says of the result
+  pub result-told : (j start n : ℕ) → start ≡ startAt b j → n ≡ countAt b j → not (inOrder ltZ (table n (λ i. i32At b (idsAt b + 4 * (start + i))))) ≡ disordered (resultOf b j)
+  result-told j start n p q =
+      ap₂ (λ (st k : ℕ). not (inOrder ltZ (table k (λ i. i32At b (idsAt b + 4 * (st + i)))))) p q
+      ∙ ap (λ (ids : List ℤ). not (inOrder ltZ ids)) (sym (attribute-ids b j))

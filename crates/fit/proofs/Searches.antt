@@ -1,6 +1,5 @@
 -- What a search through a part of the image finds: a result's value, and a trained level. Assumes nothing.
-use Prim.Native.Nat.{ℕ, zero, suc, _+_, _*_, _≤_, _<_}
-use native.Mathlib.Omega.{arith}
+use Prim.Native.Nat.{ℕ, zero, suc, _+_, _*_, _<_}
 use mathlib.Core.Path.{_≡_, refl, sym, ap, _∙_}
 use mathlib.Core.Bool.{Bool, true, false, cond}
 use mathlib.Core.List.{List}
@@ -8,7 +7,7 @@ use mathlib.Core.Option.{Option, none, some}
 use lib.ListN.{take, drop}
 use lib.Signed.{ltZ}
 use lib.Ieee.{Float}
-use Rattle.words.specs.Words.{table, tableFrom, from, find, given, same, inOrder}
+use Rattle.words.specs.Words.{tableFrom, from, find, given, same, inOrder}
 use Rattle.words.proofs.Tables.{find-table}
 use Rattle.words.proofs.Elements.{find-same}
 use Rattle.image.specs.Bytes.{u8At, i32At}
@@ -17,7 +16,7 @@ use Rattle.keys.specs.Keys.{keyAt, Sorted, placeOf}
 use Rattle.keys.proofs.Orders.{ascending-sorted}
 use Rattle.keys.proofs.Parts.{part-key, part-keys}
 use Rattle.catalogue.specs.Catalogue.{Id}
-use Rattle.fit.specs.Fit.{fitOf, skillCount, resultCount, skillsAt, levelsAt, idsAt, valuesAt, countAt, startAt, attributeAt, resultOf}
+use Rattle.fit.specs.Fit.{fitOf, skillCount, resultCount, skillsAt, levelsAt, valuesAt, countAt, startAt, attributeAt, resultOf}
 use Rattle.fit.specs.Lookups.{value, trained}
 use Rattle.fit.specs.Sound.{Sound, idsPart}
 use Rattle.fit.proofs.Decoded.{attribute-ids, id-at, ids-all}

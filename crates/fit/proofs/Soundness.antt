@@ -1,18 +1,18 @@
 -- A fit is sound exactly where it is not refused, and what soundness says of each field. Assumes nothing.
-use Prim.Native.Nat.{ℕ, zero, suc, _+_, _*_, _≤_, _<_}
+use Prim.Native.Nat.{ℕ, zero, _+_, _≤_, _<_}
 use native.Mathlib.Omega.{arith}
-use mathlib.Core.Path.{_≡_, refl, sym, ap, _∙_, subst}
-use mathlib.Core.Bool.{Bool, true, false, not, cond, _&&_, _||_, true≢false}
+use mathlib.Core.Path.{_≡_, refl, sym, ap, _∙_}
+use mathlib.Core.Bool.{Bool, true, false, not, cond, _&&_, _||_}
 use mathlib.Core.List.{List, map}
 use lib.ListN.{length}
 use lib.Dec.{ltb, eqb}
 use lib.IntN.{pos}
 use lib.Signed.{ltZ}
 use borrow.Author.Tests.{ltb-false, le-ltb, eq-eqb, eqb-true, ne-eqb, not-false}
-use Rattle.words.specs.Words.{table, anyOf, inOrder, sumOf, firstOf, same}
+use Rattle.words.specs.Words.{anyOf, inOrder, sumOf, firstOf, same}
 use Rattle.words.proofs.Elements.{or-left, or-right, none-at}
 use Rattle.image.specs.Bytes.{u32At, i32At}
-use Rattle.fit.specs.Fit.{Fit, Item, Result, fitOf, skillCount, itemCount, resultCount, attributeCount, sizeOf, startAt, itemAt, resultOf, allResults}
+use Rattle.fit.specs.Fit.{Fit, Item, Result, fitOf, skillCount, itemCount, resultCount, attributeCount, sizeOf, itemAt, resultOf, allResults}
 use Rattle.fit.specs.Refusals.{booster, badSize, badOrder, badItem, badResult, badField, fitRefusals, fitRefusal}
 use Rattle.fit.specs.Sound.{inBay, Sized, Sound}
 use Rattle.fit.proofs.Decoded.{all-results, counts-sum}

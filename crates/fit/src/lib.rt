@@ -8,11 +8,21 @@ ghost use mathlib.Core.Path.{_≡_};
 ghost use Prim.Native.Nat.{_+_, _*_, _<_, min};
 ghost use lib.ListN.{getD};
 ghost use Rattle.image.specs.Bytes.{u8At, i32At};
-ghost use Rattle.fit.specs.Fit.{modeOf, fitOf, skillCount, itemCount, resultCount, skillsAt, levelsAt, itemAt, countAt, startAt, resultOf};
 ghost use Rattle.floats.specs.Values.{valueOf};
+ghost use Rattle.fit.specs.Fit.{modeOf, fitOf, skillCount, itemCount, resultCount, skillsAt, levelsAt, itemAt, countAt, startAt, resultOf};
 ghost use Rattle.fit.specs.Sound.{Sound, Starts, idsPart};
 ghost use Rattle.fit.specs.Answers.{chosenOf};
 ghost use Rattle.fit.specs.Lookups.{value, amount, trained};
+
+// Slot kinds by their numbers in the image.
+pub const RIG: u8 = 3;
+pub const SUBSYSTEM: u8 = 4;
+pub const FIGHTER_TUBE: u8 = 6;
+pub const FIGHTER_BAY: u8 = 7;
+pub const IMPLANT: u8 = 8;
+pub const BOOSTER: u8 = 9;
+pub const DRONE_BAY: u8 = 10;
+pub const CARGO: u8 = 11;
 
 // What is said of a fit: accepted, or refused by 4, 5 or 6.
 pub enum Verdict {
@@ -149,6 +159,7 @@ pub fn starts(fit: &[u8]) -> [u32; 259]
     s
 }
 
+// An index from 32 bits.
 fn wide(n: u32) -> usize
     ensures { λ r. ⌜ r ≡ n ⌝ }
 {

@@ -1,4 +1,8 @@
 // Refusals 4 to 6 of document 01: each is one pass over the whole fit.
+use super::BOOSTER;
+use super::CARGO;
+use super::DRONE_BAY;
+use super::FIGHTER_BAY;
 use super::Verdict;
 use super::layout;
 ghost use mathlib.Core.Path.{_≡_};
@@ -128,27 +132,27 @@ fn bad_mode(flag: u32, mode: u32) -> bool
 fn in_bay(slot: u8) -> bool
     ensures { λ r. ⌜ r ≡ inBay slot ⌝ }
 {
-    if slot == 7 {
+    if slot == FIGHTER_BAY {
         return true;
     }
-    if slot == 10 {
+    if slot == DRONE_BAY {
         return true;
     }
-    slot == 11
+    slot == CARGO
 }
 
 // An item's slot kind, the byte after it, and its index.
 fn bad_place(slot: u8, zero: u8, index: u16) -> bool
     ensures { λ r. ⌜ ((i : Item) → i .slot ≡ slot → i .zero ≡ zero → i .index ≡ index → r ≡ badItem i) ⌝ }
 {
-    if 11 < slot {
+    if CARGO < slot {
         return true;
     }
     if zero != 0 {
         return true;
     }
     if 255 < index {
-        if slot != 9 {
+        if slot != BOOSTER {
             return true;
         }
         return false;

@@ -1,7 +1,7 @@
 -- Keys in a part of a slice, which are those of the whole from that place on; and where a key can stand. Assumes nothing.
 use Prim.Native.Nat.{ℕ, _+_, _*_, _≤_, _<_}
 use native.Mathlib.Omega.{arith}
-use mathlib.Core.Path.{_≡_}
+use mathlib.Core.Path.{_≡_, _∙_, ap, ap₂, sym, subst}
 use mathlib.Core.List.{List}
 use mathlib.Core.Option.{some}
 use lib.IntN.{ℤ}
@@ -11,7 +11,7 @@ use Rattle.words.proofs.Tables.{table-same}
 use Rattle.words.proofs.Elements.{found-below}
 use Rattle.image.specs.Bytes.{i32At}
 use Rattle.image.proofs.Parts.{part-i32}
-use Rattle.keys.specs.Keys.{keyAt, placeOf}
+use Rattle.keys.specs.Keys.{keyAt, Sorted, placeOf}
 
 module _ (b : List ℕ) (at n : ℕ) where
   pub part-length : at + n ≤ length b → length (take n (drop at b)) ≡ n
@@ -27,3 +27,11 @@ module _ (b : List ℕ) (at n : ℕ) where
 pub place-below : (keys : List ℕ) (n : ℕ) (id : ℤ) (i : ℕ) → placeOf keys n id ≡ some i → i < n
 unfolding placeOf
 place-below keys n id i e = found-below (λ k. same (keyAt keys k) id) n i e
+
+-- the same keys, as many, the same id
+module _ (l m : List ℕ) (k n : ℕ) (e : l ≡ m) (q : k ≡ n) where
+  pub place-alike : (y z : ℤ) → y ≡ z → placeOf l k y ≡ placeOf m n z
+  place-alike y z h = ap₂ (λ (x : List ℕ) (i : ℕ). placeOf x i y) e q ∙ ap (placeOf m n) h
+
+  pub sorted-alike : Sorted m n → Sorted l k
+  sorted-alike s = subst (λ (x : List ℕ). Sorted x k) (sym e) (subst (λ (i : ℕ). Sorted m i) (sym q) s)

@@ -5,10 +5,10 @@ use native.Mathlib.Numerals.{add-one}
 use native.Mathlib.Omega.{arith}
 use mathlib.Core.Path.{_≡_, refl, sym, ap, _∙_, subst}
 use mathlib.Core.Bool.{Bool, true, false, _||_, cond}
-use mathlib.Core.List.{List, [], _∷_, _++_}
-use mathlib.Core.Option.{Option, none, some}
+use mathlib.Core.List.{List, [], _∷_}
+use mathlib.Core.Option.{none, some}
 use mathlib.Core.Logic.{⊎-elim}
-use lib.ListN.{length, getElem?}
+use lib.ListN.{getElem?}
 use Rattle.words.specs.Words.{tableFrom, table, from, find, anyOf, sumOf}
 use Rattle.words.proofs.Steps.{sum-append}
 use Rattle.words.proofs.Tables.{table-more, any-more}

@@ -1,20 +1,16 @@
 -- `fit::ids_of` meets its contract: a result's ids end where those of the next begin.
-use Rattle.fit.proofs.Soundness.{sound-sized}
-use Rattle.fit.proofs.Decoded.{start-next, start-within}
-use Rattle.fit.specs.Fit.{attributeCount, idsAt, countAt, startAt}
-use Rattle.fit.specs.Sound.{idsPart}
+use Prim.Native.Nat.{ℕ, _+_, _*_, _-_, _≤_}
 use native.Mathlib.Omega.{arith}
 use mathlib.Core.Path.{_≡_, _∙_, ap₂}
 use mathlib.Core.List.{List}
 use lib.ListN.{take, drop}
-use Prim.Native.Nat.{ℕ, _+_, _*_, _-_, _≤_, _<_}
 use borrow.Author.Needs.{needs}
+use Rattle.fit.specs.Fit.{attributeCount, idsAt, countAt, startAt}
+use Rattle.fit.specs.Sound.{idsPart}
+use Rattle.fit.proofs.Soundness.{sound-sized}
+use Rattle.fit.proofs.Decoded.{start-next, start-within}
 use Rattle.fit.proofs.ids_of.Statement.{statement}
 use Rattle.fit.proofs.ids_of.Tie as tie
-use Rattle.fit.proofs.ids_of.Reads as reads
-use Rattle.fit.proofs.ids_of.Lts as lts
-use Rattle.fit.proofs.layout.ids_at.Reads as ids-at-reads
-use Rattle.fit.proofs.start_of.Reads as start-of-reads
 
 -- the part from the first id to where the next ones begin
 cut : (b : List ℕ) (start n first x y : ℕ) → first ≡ idsAt b → x ≡ start → y ≡ start + n
@@ -39,51 +35,39 @@ ends c =
     let p = c .before .before .before .before .pre in
     c .start-of2 .ensures ∙ p .1 .begins (a .j + 1) (omega arith) ∙ start-next (a .fit .now) (a .j)
 
--- src/lib.rt:166:9
 ids-at-requires : tie.Need-ids-at-requires
 ids-at-requires c κs = search needs
 
--- src/lib.rt:167:25
 start-of-requires : tie.Need-start-of-requires
 start-of-requires c κs = search needs
 
--- src/lib.rt:167:21
 mul-a : tie.Need-mul-a
 mul-a c = omega (arith, begins c)
 
--- src/lib.rt:167:13
 add-a : tie.Need-add-a
 add-a c = omega (arith, begins c)
 
--- src/lib.rt:168:42
 add-start-of : tie.Need-add-start-of
 add-start-of c = search needs
 
--- src/lib.rt:168:25
 start-of-requires-2 : tie.Need-start-of-requires-2
 start-of-requires-2 c κs = search needs
 
--- src/lib.rt:168:21
 mul-b : tie.Need-mul-b
 mul-b c = omega (arith, begins (c .before), ends c)
 
--- src/lib.rt:168:13
 add-b : tie.Need-add-b
 add-b c = omega (arith, begins (c .before), ends c)
 
--- src/lib.rt:169:5
 sub-result : tie.Need-sub-result
 sub-result c = omega (arith, begins (c .before), ends c)
 
--- src/lib.rt:169:5
 part-result-start : tie.Need-part-result-start
 part-result-start c = omega (arith, begins (c .before), ends c)
 
--- src/lib.rt:169:5
 part-result-end : tie.Need-part-result-end
 part-result-end c = omega (arith, begins (c .before), ends c)
 
--- src/lib.rt:162:1
 returns : tie.Need-returns
 returns c =
     let a = c .before .before .before .before .before .args in

@@ -1,36 +1,26 @@
 -- `fit::item_index` meets its contract: the byte is read where its block begins.
-use Rattle.image.specs.Bytes.{u16At}
-use mathlib.Core.Path.{_∙_, ap}
 use Prim.Native.Nat.{ℕ, _+_, _*_}
+use mathlib.Core.Path.{_∙_, ap}
 use borrow.Author.Needs.{needs}
+use Rattle.image.specs.Bytes.{u16At}
 use Rattle.fit.proofs.item_index.Statement.{statement}
 use Rattle.fit.proofs.item_index.Tie as tie
-use Rattle.fit.proofs.item_index.Reads as reads
-use Rattle.fit.proofs.item_index.Lts as lts
-use Rattle.fit.proofs.layout.items_at.Reads as items-at-reads
-use Rattle.image.proofs.u16_at.Reads as u16-at-reads
 
--- src/lib.rt:119:24
 items-at-requires : tie.Need-items-at-requires
 items-at-requires c κs = search needs
 
--- src/lib.rt:119:48
 mul-u16-at : tie.Need-mul-u16-at
 mul-u16-at c = search needs
 
--- src/lib.rt:119:24
 add-u16-at : tie.Need-add-u16-at
 add-u16-at c = search needs
 
--- src/lib.rt:119:24
 add-u16-at-2 : tie.Need-add-u16-at-2
 add-u16-at-2 c = search needs
 
--- src/lib.rt:119:5
 u16-at-requires : tie.Need-u16-at-requires
 u16-at-requires c κs = search needs
 
--- src/lib.rt:115:1
 returns : tie.Need-returns
 returns c = let a = c .before .before .before .args in c .u16-at .ensures ∙ ap (λ (k : ℕ). u16At (a .fit .now) (k + 12 * a .i + 10)) (c .before .items-at .ensures)
 

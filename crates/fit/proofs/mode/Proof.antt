@@ -1,33 +1,25 @@
 -- `fit::mode` meets its contract: the flag says whether the mode is given.
-use Rattle.fit.specs.Fit.{fitOf, modeOf}
-use Rattle.image.specs.Bytes.{i32At}
-use borrow.Author.Tests.{eq-eqb, ne-eqb}
+use mathlib.Core.Path.{_≡_, _∙_, sym}
 use mir.Val.{toZ, ofZ}
 use mir.ValLaws.{toZ-ofZ}
 use mir.Syntax.{w32}
-use mathlib.Core.Path.{_≡_, _∙_, ap, sym}
+use borrow.Author.Tests.{eq-eqb, ne-eqb}
 use borrow.Author.Needs.{needs}
+use Rattle.image.specs.Bytes.{i32At}
+use Rattle.fit.specs.Fit.{fitOf, modeOf}
 use Rattle.fit.proofs.mode.Statement.{statement}
 use Rattle.fit.proofs.mode.Tie as tie
-use Rattle.fit.proofs.mode.Reads as reads
-use Rattle.fit.proofs.mode.Lts as lts
-use Rattle.image.proofs.i32_at.Reads as i32-at-reads
-use Rattle.image.proofs.u32_at.Reads as u32-at-reads
 
--- src/lib.rt:38:9
 u32-at-requires : tie.Need-u32-at-requires
 u32-at-requires c κs = search needs
 
--- src/lib.rt:40:9
 returns : tie.Need-returns
 unfolding fitOf modeOf
 returns c = simp (sym (c .before .u32-at .ensures), eq-eqb _ 0 (c .if1 .taken))
 
--- src/lib.rt:42:22
 i32-at-requires : tie.Need-i32-at-requires
 i32-at-requires c κs = search needs
 
--- src/lib.rt:34:1
 returns-2 : tie.Need-returns-2
 unfolding fitOf modeOf
 returns-2 c =

@@ -1,32 +1,23 @@
 -- `fit::result_state` meets its contract: the byte is read where its block begins.
-use Rattle.image.specs.Bytes.{u8At}
-use mathlib.Core.Path.{_∙_, ap}
 use Prim.Native.Nat.{ℕ, _+_, _*_}
+use mathlib.Core.Path.{_∙_, ap}
 use borrow.Author.Needs.{needs}
+use Rattle.image.specs.Bytes.{u8At}
 use Rattle.fit.proofs.result_state.Statement.{statement}
 use Rattle.fit.proofs.result_state.Tie as tie
-use Rattle.fit.proofs.result_state.Reads as reads
-use Rattle.fit.proofs.result_state.Lts as lts
-use Rattle.fit.proofs.layout.results_at.Reads as results-at-reads
-use Rattle.image.proofs.u8_at.Reads as u8-at-reads
 
--- src/lib.rt:127:23
 results-at-requires : tie.Need-results-at-requires
 results-at-requires c κs = search needs
 
--- src/lib.rt:127:49
 mul-u8-at : tie.Need-mul-u8-at
 mul-u8-at c = search needs
 
--- src/lib.rt:127:23
 add-u8-at : tie.Need-add-u8-at
 add-u8-at c = search needs
 
--- src/lib.rt:127:5
 u8-at-requires : tie.Need-u8-at-requires
 u8-at-requires c κs = search needs
 
--- src/lib.rt:123:1
 returns : tie.Need-returns
 returns c = let a = c .before .before .before .args in c .u8-at .ensures ∙ ap (λ (k : ℕ). u8At (a .fit .now) (k + 4 * a .j)) (c .before .results-at .ensures)
 

@@ -1,28 +1,20 @@
 -- `fit::skill_level` meets its contract: the byte is read where its block begins.
-use Rattle.image.specs.Bytes.{u8At}
+use Prim.Native.Nat.{ℕ, _+_}
 use mathlib.Core.Path.{_∙_, ap}
-use Prim.Native.Nat.{ℕ, _+_, _*_}
 use borrow.Author.Needs.{needs}
+use Rattle.image.specs.Bytes.{u8At}
 use Rattle.fit.proofs.skill_level.Statement.{statement}
 use Rattle.fit.proofs.skill_level.Tie as tie
-use Rattle.fit.proofs.skill_level.Reads as reads
-use Rattle.fit.proofs.skill_level.Lts as lts
-use Rattle.fit.proofs.layout.levels_at.Reads as levels-at-reads
-use Rattle.image.proofs.u8_at.Reads as u8-at-reads
 
--- src/lib.rt:91:23
 levels-at-requires : tie.Need-levels-at-requires
 levels-at-requires c κs = search needs
 
--- src/lib.rt:91:23
 add-u8-at : tie.Need-add-u8-at
 add-u8-at c = search needs
 
--- src/lib.rt:91:5
 u8-at-requires : tie.Need-u8-at-requires
 u8-at-requires c κs = search needs
 
--- src/lib.rt:87:1
 returns : tie.Need-returns
 returns c = let a = c .before .before .before .args in c .u8-at .ensures ∙ ap (λ (k : ℕ). u8At (a .fit .now) (k + a .i)) (c .before .levels-at .ensures)
 

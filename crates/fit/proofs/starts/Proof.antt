@@ -1,23 +1,18 @@
 -- `fit::starts` meets its contract. The invariant: all places up to j hold where their result's attributes begin.
-use Rattle.fit.proofs.Decoded.{start-none, start-next, start-within}
-use Rattle.fit.proofs.Soundness.{sound-sized}
-use Rattle.fit.specs.Fit.{attributeCount, countAt, startAt}
+use Prim.Native.Nat.{ℕ, _+_, _-_, _≤_, _<_}
+use native.Mathlib.Nat.{eq-or-lt-of-le}
+use native.Mathlib.Omega.{arith}
 use mathlib.Core.List.{List}
 use mathlib.Core.Logic.{⊎-elim}
-use native.Mathlib.Nat.{eq-or-lt-of-le}
+use mathlib.Core.Path.{_≡_, refl, _∙_, ap, sym}
 use lib.ListN.{length, getD, set, replicate, length-set}
 use lib.Seq.{getD-set-same, getD-set-other}
 use borrow.Author.Needs.{needs}
-use native.Mathlib.Omega.{arith}
-use mathlib.Core.Path.{_≡_, refl, _∙_, ap, sym}
-use Prim.Native.Nat.{ℕ, _+_, _*_, _-_, _≤_, _<_}
+use Rattle.fit.specs.Fit.{attributeCount, countAt, startAt}
+use Rattle.fit.proofs.Decoded.{start-none, start-next, start-within}
+use Rattle.fit.proofs.Soundness.{sound-sized}
 use Rattle.fit.proofs.starts.Statement.{statement}
 use Rattle.fit.proofs.starts.Tie as tie
-use Rattle.fit.proofs.starts.Reads as reads
-use Rattle.fit.proofs.starts.Lts as lts
-use Rattle.fit.proofs.layout.count_at.Reads as count-at-reads
-use Rattle.fit.proofs.layout.results.Reads as results-reads
-use Rattle.fit.proofs.layout.results_at.Reads as results-at-reads
 
 abbrev Inv-loop : tie.InvT-loop
 Inv-loop fit n first s₀ sum₀ j₀ s sum j = (j ≤ n) × (sum ≡ startAt fit j) × (length s ≡ 259) × ((k : ℕ) → k ≤ j → getD s k 0 ≡ startAt fit k)
@@ -44,53 +39,41 @@ next b s j v l f e k h =
 within : (c : tie.After-count-at Inv-loop μ-loop) → let b = c .before .before .before .before .before .before .args .fit .now in startAt b (c .before .before .loop .j) + countAt b (c .before .before .loop .j) ≤ attributeCount b
 within c = let b = c .before .before .before .before .before .before .args .fit .now in start-within b (sound-sized b (c .before .before .before .before .before .before .pre)) (c .before .before .loop .j) (omega arith)
 
--- src/lib.rt:135:13
 results-requires : tie.Need-results-requires Inv-loop μ-loop
 results-requires c κs = search needs
 
--- src/lib.rt:135:13
 add-n : tie.Need-add-n Inv-loop μ-loop
 add-n c = omega arith
 
--- src/lib.rt:136:9
 results-at-requires : tie.Need-results-at-requires Inv-loop μ-loop
 results-at-requires c κs = search needs
 
--- src/lib.rt:140:5
 loop-holds : tie.Need-loop-holds Inv-loop μ-loop
 loop-holds c =
     let b = c .before .before .before .args .fit .now in
     (omega arith, sym (start-none b), refl, first b (replicate 259 0) refl)
 
--- src/lib.rt:141:16
 count-at-requires : tie.Need-count-at-requires Inv-loop μ-loop
 count-at-requires c κs = omega arith
 
--- src/lib.rt:141:16
 cast-sum : tie.Need-cast-sum Inv-loop μ-loop
 cast-sum c = omega arith
 
--- src/lib.rt:141:9
 add-sum : tie.Need-add-sum Inv-loop μ-loop
 add-sum c = omega (arith, within c)
 
--- src/lib.rt:142:9
 add-j : tie.Need-add-j Inv-loop μ-loop
 add-j c = omega arith
 
--- src/lib.rt:143:9
 mul-s : tie.Need-mul-s Inv-loop μ-loop
 mul-s c = omega arith
 
--- src/lib.rt:143:9
 array-write-s : tie.Need-array-write-s Inv-loop μ-loop
 array-write-s c = omega arith
 
--- src/lib.rt:140:5
 loop-less : tie.Need-loop-less Inv-loop μ-loop
 loop-less c = omega arith
 
--- src/lib.rt:140:5
 loop-again : tie.Need-loop-again Inv-loop μ-loop
 loop-again c =
     let l = c .before .before .loop in
@@ -98,7 +81,6 @@ loop-again c =
     let e : l .sum + c .count-at .result ≡ startAt b (l .j + 1) = omega (arith, start-next b (l .j)) in
     (omega arith, e, simp length-set (l .inv .2), next b (l .s) (l .j) (l .sum + c .count-at .result) (omega arith) (l .inv .3) e)
 
--- src/lib.rt:131:1
 returns : tie.Need-returns Inv-loop μ-loop
 returns c = record { begins = λ k h. c .before .loop .inv .3 k (omega (arith, h)) }
 

@@ -1,35 +1,26 @@
 -- `layout::count_at` meets its contract: the results begin where the caller says.
-use Rattle.image.specs.Bytes.{u16At}
-use mathlib.Core.Path.{_∙_, ap}
 use Prim.Native.Nat.{ℕ, _+_, _*_}
+use mathlib.Core.Path.{_∙_, ap}
 use borrow.Author.Needs.{needs}
+use Rattle.image.specs.Bytes.{u16At}
 use Rattle.fit.proofs.layout.count_at.Statement.{statement}
 use Rattle.fit.proofs.layout.count_at.Tie as tie
-use Rattle.fit.proofs.layout.count_at.Reads as reads
-use Rattle.fit.proofs.layout.count_at.Lts as lts
-use Rattle.image.proofs.u16_at.Reads as u16-at-reads
 
--- src/layout.rt:85:32
 mul-u16-at : tie.Need-mul-u16-at
 mul-u16-at c = search needs
 
--- src/layout.rt:85:24
 add-u16-at : tie.Need-add-u16-at
 add-u16-at c = search needs
 
--- src/layout.rt:85:24
 add-u16-at-2 : tie.Need-add-u16-at-2
 add-u16-at-2 c = search needs
 
--- src/layout.rt:85:5
 u16-at-requires : tie.Need-u16-at-requires
 u16-at-requires c κs = search needs
 
--- src/layout.rt:85:5
 cast-result : tie.Need-cast-result
 cast-result c = search needs
 
--- src/layout.rt:81:1
 returns : tie.Need-returns
 returns c =
     let a = c .before .before .args in

@@ -1,22 +1,16 @@
 -- `refusals::any_bad_result` meets its contract. The invariant: the verdict so far is that of the first j results.
-use Rattle.fit.proofs.Decoded.{all-results}
-use Rattle.fit.specs.Refusals.{badResult}
-use Rattle.fit.specs.Fit.{resultCount, resultOf}
+use Prim.Native.Nat.{ℕ, _+_, _-_, _≤_}
+use native.Mathlib.Omega.{arith}
+use mathlib.Core.Path.{_≡_, _∙_, ap, sym}
+use borrow.Author.Needs.{needs}
 use Rattle.words.proofs.Elements.{any-turn}
 use Rattle.words.proofs.Tables.{any-none}
 use Rattle.words.specs.Words.{anyOf, table}
-use borrow.Author.Needs.{needs}
-use native.Mathlib.Omega.{arith}
-use mathlib.Core.Path.{_≡_, _∙_, ap, sym}
-use Prim.Native.Nat.{ℕ, _+_, _*_, _-_, _≤_, _<_}
+use Rattle.fit.specs.Refusals.{badResult}
+use Rattle.fit.specs.Fit.{resultCount, resultOf}
+use Rattle.fit.proofs.Decoded.{all-results}
 use Rattle.fit.proofs.refusals.any_bad_result.Statement.{statement}
 use Rattle.fit.proofs.refusals.any_bad_result.Tie as tie
-use Rattle.fit.proofs.refusals.any_bad_result.Reads as reads
-use Rattle.fit.proofs.refusals.any_bad_result.Lts as lts
-use Rattle.fit.proofs.layout.results.Reads as results-reads
-use Rattle.fit.proofs.layout.results_at.Reads as results-at-reads
-use Rattle.fit.proofs.refusals.bad_result.Reads as bad-result-reads
-use Rattle.fit.proofs.refusals.either.Reads as either-reads
 
 abbrev Inv-loop : tie.InvT-loop
 Inv-loop fit n first bad₀ j₀ bad j = (j ≤ n) × (bad ≡ anyOf badResult (table j (resultOf fit)))
@@ -24,46 +18,36 @@ Inv-loop fit n first bad₀ j₀ bad j = (j ≤ n) × (bad ≡ anyOf badResult (
 abbrev μ-loop : tie.MeasureT-loop
 μ-loop fit n first bad₀ j₀ bad j = n - j
 
--- src/refusals.rt:205:13
 results-requires : tie.Need-results-requires Inv-loop μ-loop
 results-requires c κs = search needs
 
--- src/refusals.rt:205:13
 add-n : tie.Need-add-n Inv-loop μ-loop
 add-n c = omega arith
 
--- src/refusals.rt:206:9
 results-at-requires : tie.Need-results-at-requires Inv-loop μ-loop
 results-at-requires c κs = search needs
 
--- src/refusals.rt:209:5
 loop-holds : tie.Need-loop-holds Inv-loop μ-loop
 loop-holds c = (omega arith, sym (any-none badResult (resultOf (c .before .before .before .args .fit .now))))
 
--- src/refusals.rt:210:27
 bad-result-requires : tie.Need-bad-result-requires Inv-loop μ-loop
 bad-result-requires c κs = omega arith
 
--- src/refusals.rt:210:9
 either-requires : tie.Need-either-requires Inv-loop μ-loop
 either-requires c κs = tt
 
--- src/refusals.rt:211:9
 add-j : tie.Need-add-j Inv-loop μ-loop
 add-j c = omega arith
 
--- src/refusals.rt:209:5
 loop-less : tie.Need-loop-less Inv-loop μ-loop
 loop-less c = omega arith
 
--- src/refusals.rt:209:5
 loop-again : tie.Need-loop-again Inv-loop μ-loop
 loop-again c =
     let l = c .before .before .before .loop in
     let b = c .before .before .before .before .before .before .before .args .fit .now in
     (omega arith, any-turn badResult (resultOf b) (l .j) (l .bad) (c .either .result) (c .before .bad-result .result) (l .inv .1) (c .before .bad-result .ensures) (c .either .ensures))
 
--- src/refusals.rt:201:1
 returns : tie.Need-returns Inv-loop μ-loop
 returns c =
     let l = c .before .loop in

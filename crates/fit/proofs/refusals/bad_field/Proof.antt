@@ -1,31 +1,21 @@
 -- `refusals::bad_field` meets its contract: one test after the other.
+use Prim.Native.Nat.{ℕ}
+use mathlib.Core.Bool.{not, _&&_, _||_}
+use mathlib.Core.Path.{ap₂, _≡_, _∙_, sym}
+use lib.Dec.{ltb, eqb}
+use borrow.Author.Needs.{needs}
+use Rattle.fit.specs.Fit.{fitOf}
 use Rattle.fit.proofs.Refused.{mode-bits, field-parts}
 use Rattle.fit.proofs.Soundness.{badMode}
-use Rattle.fit.specs.Fit.{fitOf}
-use lib.Dec.{ltb, eqb}
-use mathlib.Core.Bool.{not, _&&_, _||_}
-use mathlib.Core.Path.{ap₂}
-use Prim.Native.Nat.{ℕ}
-use mathlib.Core.Path.{_≡_, _∙_, ap, sym}
-use borrow.Author.Needs.{needs}
 use Rattle.fit.proofs.refusals.bad_field.Statement.{statement}
 use Rattle.fit.proofs.refusals.bad_field.Tie as tie
-use Rattle.fit.proofs.refusals.bad_field.Reads as reads
-use Rattle.fit.proofs.refusals.bad_field.Lts as lts
-use Rattle.fit.proofs.refusals.any_bad_item.Reads as any-bad-item-reads
-use Rattle.fit.proofs.refusals.any_bad_result.Reads as any-bad-result-reads
-use Rattle.fit.proofs.refusals.bad_mode.Reads as bad-mode-reads
-use Rattle.image.proofs.u32_at.Reads as u32-at-reads
 
--- src/refusals.rt:221:9
 u32-at-requires : tie.Need-u32-at-requires
 u32-at-requires c κs = search needs
 
--- src/refusals.rt:222:9
 u32-at-requires-2 : tie.Need-u32-at-requires-2
 u32-at-requires-2 c κs = search needs
 
--- src/refusals.rt:223:8
 bad-mode-requires : tie.Need-bad-mode-requires
 bad-mode-requires c κs = search needs
 
@@ -36,25 +26,20 @@ mode-told c =
     ∙ ap₂ (λ (x y : ℕ). ltb 1 x || (eqb x 0 && not (eqb y 0))) (c .before .before .u32-at .ensures) (c .before .u32-at2 .ensures)
     ∙ sym (mode-bits (c .before .before .before .before .args .fit .now))
 
--- src/refusals.rt:224:9
 returns : tie.Need-returns
-returns c = sym (field-parts (c .before .before .before .before .before .args .fit .now) ∙ rw (sym (mode-told (c .before)), c .if1 .taken))
+returns c = sym (field-parts _ ∙ rw (sym (mode-told (c .before)), c .if1 .taken))
 
--- src/refusals.rt:226:8
 any-bad-item-requires : tie.Need-any-bad-item-requires
 any-bad-item-requires c κs = search needs
 
--- src/refusals.rt:227:9
 returns-2 : tie.Need-returns-2
-returns-2 c = sym (field-parts (c .before .before .before .before .before .before .before .args .fit .now) ∙ rw (sym (mode-told (c .before .before .before)), c .before .before .if1 .left, sym (c .before .any-bad-item .ensures), c .if2 .taken))
+returns-2 c = sym (field-parts _ ∙ rw (sym (mode-told (c .before .before .before)), c .before .before .if1 .left, sym (c .before .any-bad-item .ensures), c .if2 .taken))
 
--- src/refusals.rt:229:5
 any-bad-result-requires : tie.Need-any-bad-result-requires
 any-bad-result-requires c κs = search needs
 
--- src/refusals.rt:217:1
 returns-3 : tie.Need-returns-3
-returns-3 c = sym (field-parts (c .before .before .before .before .before .before .before .before .args .fit .now) ∙ rw (sym (mode-told (c .before .before .before .before)), c .before .before .before .if1 .left, sym (c .before .before .any-bad-item .ensures), c .before .if2 .left, sym (c .any-bad-result .ensures)))
+returns-3 c = sym (field-parts _ ∙ rw (sym (mode-told (c .before .before .before .before)), c .before .before .before .if1 .left, sym (c .before .before .any-bad-item .ensures), c .before .if2 .left, sym (c .any-bad-result .ensures)))
 
 pub bad-field-spec : {M : Type 1} → statement M
 bad-field-spec =

@@ -2,18 +2,13 @@
 use borrow.Author.Tests.{lt-ltb, le-ltb, eq-eqb, ne-eqb}
 use Rattle.fit.proofs.refusals.bad_mode.Statement.{statement}
 use Rattle.fit.proofs.refusals.bad_mode.Tie as tie
-use Rattle.fit.proofs.refusals.bad_mode.Reads as reads
-use Rattle.fit.proofs.refusals.bad_mode.Lts as lts
 
--- src/refusals.rt:117:9
 returns : tie.Need-returns
 returns c = simp (lt-ltb 1 (c .before .args .flag) (c .if1 .taken))
 
--- src/refusals.rt:120:9
 returns-2 : tie.Need-returns-2
 returns-2 c = simp (le-ltb 1 (c .before .before .args .flag) (c .before .if1 .left), eq-eqb (c .before .before .args .flag) 0 (c .if2 .taken))
 
--- src/refusals.rt:113:1
 returns-3 : tie.Need-returns-3
 returns-3 c = simp (le-ltb 1 (c .before .before .args .flag) (c .before .if1 .left), ne-eqb (c .before .before .args .flag) 0 (c .if2 .left))
 

@@ -1,46 +1,35 @@
 -- `refusals::bad_order` meets its contract: the skill ids are the keys of a part, and the results follow.
-use Rattle.fit.proofs.Refused.{order-parts}
-use Rattle.fit.specs.Fit.{skillCount, skillsAt}
+use Prim.Native.Nat.{ℕ, _+_, _*_}
+use native.Mathlib.Omega.{arith}
+use mathlib.Core.List.{List}
+use mathlib.Core.Path.{_≡_, _∙_, ap, sym}
+use lib.Signed.{ltZ}
+use lib.ListN.{length}
+use borrow.Author.Needs.{needs}
+use Rattle.words.specs.Words.{inOrder, table}
+use Rattle.image.specs.Bytes.{i32At}
 use Rattle.keys.proofs.Parts.{part-length, part-keys}
 use Rattle.keys.specs.Keys.{keyAt}
-use Rattle.image.specs.Bytes.{i32At}
-use Rattle.words.specs.Words.{inOrder, table}
-use lib.Signed.{ltZ}
-use lib.ListN.{length, take, drop}
-use mathlib.Core.List.{List}
-use native.Mathlib.Omega.{arith}
-use mathlib.Core.Path.{_≡_, _∙_, ap, sym}
-use Prim.Native.Nat.{ℕ, _+_, _*_, _-_, _≤_, _<_}
-use borrow.Author.Needs.{needs}
+use Rattle.fit.specs.Fit.{skillCount, skillsAt}
+use Rattle.fit.proofs.Refused.{order-parts}
 use Rattle.fit.proofs.refusals.bad_order.Statement.{statement}
 use Rattle.fit.proofs.refusals.bad_order.Tie as tie
-use Rattle.fit.proofs.refusals.bad_order.Reads as reads
-use Rattle.fit.proofs.refusals.bad_order.Lts as lts
-use Rattle.fit.proofs.layout.skills.Reads as skills-reads
-use Rattle.fit.proofs.refusals.any_disordered.Reads as any-disordered-reads
-use Rattle.image.proofs.part.Reads as part-reads
-use Rattle.keys.proofs.ascend.Reads as ascend-reads
 
--- src/refusals.rt:104:9
 skills-requires : tie.Need-skills-requires
 skills-requires c κs = search needs
 
--- src/refusals.rt:105:36
 mul-part : tie.Need-mul-part
 mul-part c = search needs
 
--- src/refusals.rt:105:9
 part-requires : tie.Need-part-requires
 part-requires c κs = search needs
 
--- src/refusals.rt:106:8
 ascend-requires : tie.Need-ascend-requires
 ascend-requires c κs =
     let b = c .before .before .before .args .fit .now in
     let n = c .before .skills .result in
     omega (arith, ap length (c .part .ensures), part-length b 28 (4 * n) (omega arith))
 
--- src/refusals.rt:107:9
 any-disordered-requires : tie.Need-any-disordered-requires
 any-disordered-requires c κs = search needs
 
@@ -53,13 +42,11 @@ skills-told c =
     ∙ ap (inOrder ltZ) (ap (λ (l : List ℕ). table n (keyAt l)) (c .before .part .ensures) ∙ part-keys b 28 n)
     ∙ ap (λ (k : ℕ). inOrder ltZ (table k (λ i. i32At b (28 + 4 * i)))) (c .before .before .skills .ensures)
 
--- src/refusals.rt:107:9
 returns : tie.Need-returns
-returns c = sym (order-parts (c .before .before .before .before .before .before .args .fit .now) ∙ rw (sym (skills-told (c .before .before)), c .before .if1 .taken, sym (c .any-disordered .ensures)))
+returns c = sym (order-parts _ ∙ rw (sym (skills-told (c .before .before)), c .before .if1 .taken, sym (c .any-disordered .ensures)))
 
--- src/refusals.rt:100:1
 returns-2 : tie.Need-returns-2
-returns-2 c = sym (order-parts (c .before .before .before .before .before .args .fit .now) ∙ rw (sym (skills-told (c .before)), c .if1 .left))
+returns-2 c = sym (order-parts _ ∙ rw (sym (skills-told (c .before)), c .if1 .left))
 
 pub bad-order-spec : {M : Type 1} → statement M
 bad-order-spec =

@@ -1,30 +1,23 @@
 -- `refusals::bad_result` meets its contract: the results begin where the caller says.
+use Prim.Native.Nat.{ℕ, _+_, _*_}
+use mathlib.Core.Path.{_≡_, _∙_, ap, sym}
+use borrow.Author.Tests.{lt-ltb, le-ltb}
+use borrow.Author.Needs.{needs}
+use Rattle.image.specs.Bytes.{u8At}
 use Rattle.fit.specs.Refusals.{badResult}
 use Rattle.fit.specs.Fit.{resultOf}
-use Rattle.image.specs.Bytes.{u8At}
-use borrow.Author.Tests.{lt-ltb, le-ltb, eq-eqb, ne-eqb}
-use mathlib.Core.Path.{_≡_, _∙_, ap, sym}
-use Prim.Native.Nat.{ℕ, _+_, _*_, _-_, _≤_, _<_}
-use borrow.Author.Needs.{needs}
 use Rattle.fit.proofs.refusals.bad_result.Statement.{statement}
 use Rattle.fit.proofs.refusals.bad_result.Tie as tie
-use Rattle.fit.proofs.refusals.bad_result.Reads as reads
-use Rattle.fit.proofs.refusals.bad_result.Lts as lts
-use Rattle.image.proofs.u8_at.Reads as u8-at-reads
 
--- src/refusals.rt:192:22
 mul-at : tie.Need-mul-at
 mul-at c = search needs
 
--- src/refusals.rt:192:14
 add-at : tie.Need-add-at
 add-at c = search needs
 
--- src/refusals.rt:193:9
 u8-at-requires : tie.Need-u8-at-requires
 u8-at-requires c κs = search needs
 
--- src/refusals.rt:195:9
 returns : tie.Need-returns
 unfolding badResult
 returns c =
@@ -33,15 +26,12 @@ returns c =
     let e : c .before .u8-at .result ≡ resultOf b (a .j) .state = c .before .u8-at .ensures ∙ ap (λ (k : ℕ). u8At b (k + 4 * a .j)) (c .before .before .before .pre .0) in
     simp (sym e, lt-ltb _ _ (c .if1 .taken))
 
--- src/refusals.rt:197:34
 add-u8-at : tie.Need-add-u8-at
 add-u8-at c = search needs
 
--- src/refusals.rt:197:9
 u8-at-requires-2 : tie.Need-u8-at-requires-2
 u8-at-requires-2 c κs = search needs
 
--- src/refusals.rt:188:1
 returns-2 : tie.Need-returns-2
 unfolding badResult
 returns-2 c =

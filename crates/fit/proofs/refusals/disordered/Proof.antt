@@ -1,47 +1,37 @@
 -- `refusals::disordered` meets its contract: the keys of the part are those of the whole.
-use Rattle.keys.proofs.Parts.{part-length}
-use Rattle.fit.specs.Sound.{idsPart}
-use Rattle.fit.proofs.Decoded.{ids-all}
-use Rattle.keys.specs.Keys.{keyAt}
-use lib.Signed.{ltZ}
-use lib.ListN.{length, take, drop}
+use Prim.Native.Nat.{ℕ, _+_, _*_}
+use native.Mathlib.Omega.{arith}
 use mathlib.Core.Bool.{not}
 use mathlib.Core.List.{List}
-use Rattle.words.specs.Words.{inOrder, table}
-use native.Mathlib.Omega.{arith}
-use mathlib.Core.Path.{_≡_, _∙_, ap, sym}
-use Prim.Native.Nat.{ℕ, _+_, _*_, _-_, _≤_, _<_}
+use mathlib.Core.Path.{_∙_, ap}
+use lib.Signed.{ltZ}
+use lib.ListN.{length, take, drop}
 use borrow.Author.Needs.{needs}
+use Rattle.words.specs.Words.{inOrder, table}
+use Rattle.keys.proofs.Parts.{part-length}
+use Rattle.keys.specs.Keys.{keyAt}
+use Rattle.fit.specs.Sound.{idsPart}
+use Rattle.fit.proofs.Decoded.{ids-all}
 use Rattle.fit.proofs.refusals.disordered.Statement.{statement}
 use Rattle.fit.proofs.refusals.disordered.Tie as tie
-use Rattle.fit.proofs.refusals.disordered.Reads as reads
-use Rattle.fit.proofs.refusals.disordered.Lts as lts
-use Rattle.image.proofs.part.Reads as part-reads
-use Rattle.keys.proofs.ascend.Reads as ascend-reads
 
--- src/refusals.rt:74:40
 mul-part : tie.Need-mul-part
 mul-part c = search needs
 
--- src/refusals.rt:74:32
 add-part : tie.Need-add-part
 add-part c = search needs
 
--- src/refusals.rt:74:51
 mul-part-2 : tie.Need-mul-part-2
 mul-part-2 c = search needs
 
--- src/refusals.rt:74:9
 part-requires : tie.Need-part-requires
 part-requires c κs = search needs
 
--- src/refusals.rt:75:9
 ascend-requires : tie.Need-ascend-requires
 ascend-requires c κs =
     let a = c .before .before .args in
     omega (arith, ap length (c .part .ensures), part-length (a .fit .now) (a .first + 4 * a .start) (4 * a .n) (omega arith))
 
--- src/refusals.rt:70:1
 returns : tie.Need-returns
 unfolding idsPart
 returns c =
