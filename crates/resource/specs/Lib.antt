@@ -1,1 +1,2 @@
 pub mod Resource
+pub mod Rows

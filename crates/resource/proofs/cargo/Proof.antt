@@ -1,0 +1,62 @@
+-- `resource::cargo` meets its contract, by whether name 21 has an id.
+use mathlib.Core.Path.{_≡_, sym, ap, _∙_}
+use Prim.Native.Nat.{ℕ}
+use mir.Syntax.{w32}
+use mir.ValLaws.{toZ-ofZ}
+use Rattle.catalogue.specs.Answers.{idOf}
+use Rattle.fit.specs.Fit.{resultOf}
+use Rattle.fit.specs.Lookups.{amount}
+use Rattle.resource.proofs.Named.{cargo-some, cargo-none}
+use borrow.Author.Needs.{needs}
+use Rattle.resource.proofs.cargo.Statement.{statement}
+use Rattle.resource.proofs.cargo.Tie as tie
+
+attribute-id-requires : tie.Need-attribute-id-requires
+attribute-id-requires c κs = search needs
+
+enum-known-capacity : tie.Need-enum-known-capacity
+enum-known-capacity c = search needs
+
+cargo-used-requires : tie.Need-cargo-used-requires
+cargo-used-requires c κs = search needs
+
+amount-requires : tie.Need-amount-requires
+amount-requires c κs = search needs
+
+resource-requires : tie.Need-resource-requires
+resource-requires c κs = search needs
+
+enum-told : tie.Need-enum-told
+enum-told c = search needs
+
+same-length : tie.Need-same-length
+same-length c = search needs
+
+returns : tie.Need-returns
+returns c =
+    let s = c .before .before .before .before .before .before .before .before .before .before .before .before .before in
+    let q = c .before .before .before .before .before .before .before .capacity .given in
+    let fit = s .args .fit .now in
+    cargo-some (s .args .catalogue .now) fit (s .args .volumes .now) (s .pre .1) (q .0 .0) _ _ (sym (c .before .before .before .before .before .before .before .before .before .attribute-id .ensures) ∙ ap idOf (q .1))
+    (c .before .before .before .before .before .cargo-used .ensures)
+    (c .before .before .before .before .amount .ensures ∙ ap (amount (resultOf fit 0)) (toZ-ofZ w32 (q .0 .0) (search needs)))
+    (c .before .before .resource .ensures)
+
+returns-2 : tie.Need-returns-2
+returns-2 c =
+    let s = c .before .before .before .before .before .before in
+    cargo-none (s .args .catalogue .now) (s .args .fit .now) (sym (c .before .before .attribute-id .ensures) ∙ ap idOf (c .enum-told .given .1))
+
+pub cargo-spec : {M : Type 1} → statement M
+cargo-spec =
+    tie.close
+    (tie.spec
+    attribute-id-requires
+    enum-known-capacity
+    cargo-used-requires
+    amount-requires
+    resource-requires
+    enum-told
+    same-length
+    returns
+    returns-2)

@@ -1,0 +1,67 @@
+-- `resource::launched_drones` meets its contract, by whether name 20 has an id.
+use mathlib.Core.Path.{_≡_, sym, ap, _∙_}
+use Prim.Native.Nat.{ℕ}
+use mir.Syntax.{w32}
+use mir.ValLaws.{toZ-ofZ}
+use Rattle.floats.specs.Floats.{ofNat}
+use Rattle.catalogue.specs.Answers.{idOf}
+use Rattle.fit.specs.Fit.{resultOf}
+use Rattle.fit.specs.Lookups.{amount}
+use Rattle.resource.proofs.Named.{drones-some, drones-none}
+use borrow.Author.Needs.{needs}
+use Rattle.resource.proofs.launched_drones.Statement.{statement}
+use Rattle.resource.proofs.launched_drones.Tie as tie
+
+attribute-id-requires : tie.Need-attribute-id-requires
+attribute-id-requires c κs = search needs
+
+enum-known-max-active : tie.Need-enum-known-max-active
+enum-known-max-active c = search needs
+
+launched-requires : tie.Need-launched-requires
+launched-requires c κs = search needs
+
+nearest-u64-to-f64-requires : tie.Need-nearest-u64-to-f64-requires
+nearest-u64-to-f64-requires c κs = search needs
+
+amount-requires : tie.Need-amount-requires
+amount-requires c κs = search needs
+
+resource-requires : tie.Need-resource-requires
+resource-requires c κs = search needs
+
+enum-told : tie.Need-enum-told
+enum-told c = search needs
+
+same-length : tie.Need-same-length
+same-length c = search needs
+
+returns : tie.Need-returns
+returns c =
+    let s = c .before .before .before .before .before .before .before .before .before .before .before .before .before .before in
+    let q = c .before .before .before .before .before .before .before .before .max-active .given in
+    let fit = s .args .fit .now in
+    drones-some (s .args .catalogue .now) fit (q .0 .0) _ _ (sym (c .before .before .before .before .before .before .before .before .before .before .attribute-id .ensures) ∙ ap idOf (q .1))
+    (c .before .before .before .before .before .nearest-u64-to-f64 .ensures ∙ ap ofNat (c .before .before .before .before .before .before .launched .ensures))
+    (c .before .before .before .before .amount .ensures ∙ ap (amount (resultOf fit 1)) (toZ-ofZ w32 (q .0 .0) (search needs)))
+    (c .before .before .resource .ensures)
+
+returns-2 : tie.Need-returns-2
+returns-2 c =
+    let s = c .before .before .before .before .before .before in
+    drones-none (s .args .catalogue .now) (s .args .fit .now) (sym (c .before .before .attribute-id .ensures) ∙ ap idOf (c .enum-told .given .1))
+
+pub launched-drones-spec : {M : Type 1} → statement M
+launched-drones-spec =
+    tie.close
+    (tie.spec
+    attribute-id-requires
+    enum-known-max-active
+    launched-requires
+    nearest-u64-to-f64-requires
+    amount-requires
+    resource-requires
+    enum-told
+    same-length
+    returns
+    returns-2)

@@ -1,0 +1,75 @@
+-- `resource::load_at` meets its contract: the source's row is the definition's.
+use Prim.Native.Nat.{ℕ, _+_, _*_, _<_}
+use mathlib.Core.Path.{_≡_, ap, _∙_}
+use lib.ListN.{getD}
+use Rattle.entry.proofs.Wrote.{wrote-same}
+use Rattle.context.specs.Gathered.{contextOf}
+use Rattle.resource.specs.Resource.{LOADS}
+use Rattle.resource.specs.Rows.{loadOf}
+use Rattle.resource.proofs.Rows.{rows, row-same, row-kind, row-load, row-output}
+use borrow.Author.Needs.{needs}
+use Rattle.resource.proofs.load_at.Statement.{statement}
+use Rattle.resource.proofs.load_at.Tie as tie
+
+mul-kind : tie.Need-mul-kind
+mul-kind c = search needs
+
+array-read-kind : tie.Need-array-read-kind
+array-read-kind c = search needs
+
+mul-wide : tie.Need-mul-wide
+mul-wide c = search needs
+
+add-wide : tie.Need-add-wide
+add-wide c = search needs
+
+array-read-wide : tie.Need-array-read-wide
+array-read-wide c = search needs
+
+wide-requires : tie.Need-wide-requires
+wide-requires c κs = search needs
+
+mul-wide-2 : tie.Need-mul-wide-2
+mul-wide-2 c = search needs
+
+add-wide-2 : tie.Need-add-wide-2
+add-wide-2 c = search needs
+
+array-read-wide-2 : tie.Need-array-read-wide-2
+array-read-wide-2 c = search needs
+
+wide-requires-2 : tie.Need-wide-requires-2
+wide-requires-2 c κs = search needs
+
+load-row-requires : tie.Need-load-row-requires
+load-row-requires c κs = search needs
+
+same-length : tie.Need-same-length
+same-length c = search needs
+
+returns : tie.Need-returns
+returns c =
+    let s = c .before .before .before .before .before .before .before .before .before in
+    let i = s .args .i in
+    let x = contextOf (s .args .catalogue .now) (s .args .fit .now) in
+    let h : i < 10 = s .pre .1 in
+    let e : (getD rows (3 * i) 0, c .before .before .before .before .before .wide .result, c .before .before .before .before .wide2 .result) ≡ getD LOADS i (0, 0, 0) = row-same (row-kind i h) (c .before .before .before .before .before .wide .ensures ∙ row-load i h) (c .before .before .before .before .wide2 .ensures ∙ row-output i h) in
+    wrote-same (ap (loadOf x) e) (c .before .before .load-row .ensures)
+
+pub load-at-spec : {M : Type 1} → statement M
+load-at-spec =
+    tie.close
+    (tie.spec
+    mul-kind
+    array-read-kind
+    mul-wide
+    add-wide
+    array-read-wide
+    wide-requires
+    mul-wide-2
+    add-wide-2
+    array-read-wide-2
+    wide-requires-2
+    load-row-requires
+    same-length
+    returns)
