@@ -1,0 +1,121 @@
+-- What a call gives, from the first of its conditions that holds. By cases on that number. Assumes nothing.
+use Prim.Native.Nat.{ℕ, zero, suc, _+_, _*_, _-_, _/_, _%_, _^_, _≤_, _<_, suc-le-suc, zero-le}
+use native.Mathlib.Omega.{arith}
+use mathlib.Core.Path.{_≡_, refl, sym, ap, _∙_}
+use mathlib.Core.Bool.{Bool, true, false, not, cond}
+use mathlib.Core.List.{List, [], _∷_, _++_}
+use mathlib.Core.Logic.{_⊎_, _↔_, inl, inr}
+use mathlib.Core.Option.{Option, none, some, Option·some-injective}
+use lib.Dec.{T, ltb, nltb→le}
+use lib.ListN.{length, getD, drop, getElem?, length-append, length-drop}
+use lib.Seq.{getD-append-add, getD-drop}
+use Rattle.words.specs.Words.{each, firstOf}
+use Rattle.entry.specs.declared.Entry.{Entry}
+use Rattle.entry.specs.Entries.{entryBytes, written}
+use Rattle.fitcheck.specs.Calls.{answerBy, answer, buffered, returned}
+use Rattle.promises.specs.Answers.{Outcome, outcome, Conditions, First, None, Answers}
+use Rattle.promises.proofs.Entries.{entry-at, entries-length}
+
+-- ---- the first that holds
+first-is : (n : ℕ) (l : Conditions) → First n l → firstOf l ≡ n
+unfolding firstOf
+first-is n [] h = absurd h
+first-is n (x ∷ l) h = go (x .1) (first-is n l) h
+  where
+    go : (b : Bool) → (First n l → firstOf l ≡ n) → ((x .0 ≡ n) × T b) ⊎ (T (not b) × First n l) → cond b (x .0) (firstOf l) ≡ n
+    go true f (inl h) = h .0
+    go true f (inr h) = absurd (h .0)
+    go false f (inl h) = absurd (h .1)
+    go false f (inr h) = f (h .1)
+
+is-first : (n : ℕ) → 0 < n → (l : Conditions) → firstOf l ≡ n → First n l
+unfolding firstOf
+is-first n p [] e = absurd (omega arith)
+is-first n p (x ∷ l) e = go (x .1) (is-first n p l) e
+  where
+    go : (b : Bool) → (firstOf l ≡ n → First n l) → cond b (x .0) (firstOf l) ≡ n → ((x .0 ≡ n) × T b) ⊎ (T (not b) × First n l)
+    go true f e = inl (e, tt)
+    go false f e = inr (tt, f e)
+
+none-is : (l : Conditions) → None l → firstOf l ≡ 0
+unfolding firstOf
+none-is [] h = refl
+none-is (x ∷ l) h = go (x .1) (h .0) (none-is l (h .1))
+  where
+    go : (b : Bool) → T (not b) → firstOf l ≡ 0 → cond b (x .0) (firstOf l) ≡ 0
+    go true h e = absurd h
+    go false h e = e
+
+-- every number is one of 1 to 10
+abbrev pub Numbered : Conditions → Type 0
+Numbered [] = Unit {0}
+Numbered (x ∷ l) = (0 < x .0) × (x .0 ≤ 10) × Numbered l
+
+is-none : (l : Conditions) → Numbered l → firstOf l ≡ 0 → None l
+unfolding firstOf
+is-none [] h e = tt
+is-none (x ∷ l) h e = go (x .1) (is-none l (h .2)) e
+  where
+    go : (b : Bool) → (firstOf l ≡ 0 → None l) → cond b (x .0) (firstOf l) ≡ 0 → T (not b) × None l
+    go true f e = absurd (omega arith)
+    go false f e = (tt, f e)
+
+first-small : (l : Conditions) → Numbered l → firstOf l ≤ 10
+unfolding firstOf
+first-small [] h = zero-le
+first-small (x ∷ l) h = go (x .1) (first-small l (h .2))
+  where
+    go : (b : Bool) → firstOf l ≤ 10 → cond b (x .0) (firstOf l) ≤ 10
+    go true k = h .1
+    go false k = k
+
+-- ---- an element by its place
+elem-at : {A : Type 0} (l : List A) (i : ℕ) (x : A) → getElem? l i ≡ some x → (i < length l) × (getD l i x ≡ x)
+elem-at [] i x e = absurd (let z : _≡_ {A = ℕ} 0 1 = cc in omega arith)
+elem-at (y ∷ l) zero x e = (suc-le-suc zero-le, Option·some-injective y x e)
+elem-at (y ∷ l) (suc i) x e = let h = elem-at l i x e in (suc-le-suc (h .0), h .1)
+
+-- ---- the call
+module _ (l : Conditions) (numbered : Numbered l) (es : List Entry) (before : List ℕ)
+    (small : None l → length es < 2 ^ 32) (room : None l → 24 * length es ≤ length before) where
+  go : (k : ℕ) → firstOf l ≡ k → Answers l es before (outcome before (answerBy k es))
+  unfolding answerBy buffered returned written
+  go zero e =
+      let n = is-none l numbered e in
+      let s = small n in
+      let r = room n in
+      let w = entries-length es in
+      record {
+        refused = λ m p. (λ h. absurd (omega arith), λ h. absurd (let q = first-is m l h in omega arith));
+        answered = (λ h. n, λ h. omega arith);
+        numbered = omega arith;
+        nothing = λ p. absurd (omega arith);
+        counted = λ h. omega arith;
+        entries = λ h i x q.
+            let a = elem-at es i x q in
+            entry-at x es (drop (24 * length es) before) i (a .0) ∙ ap entryBytes (a .1);
+        others = λ h i p.
+            let k = i - length (each es entryBytes) in
+            let q : i ≡ length (each es entryBytes) + k = omega arith in
+            let q′ : 24 * length es + k ≡ i = omega arith in
+            ap (λ (j : ℕ). getD (each es entryBytes ++ drop (24 * length es) before) j 0) q
+            ∙ getD-append-add (each es entryBytes) (drop (24 * length es) before) k 0 ∙ getD-drop (24 * length es) before k 0
+            ∙ ap (λ (j : ℕ). getD before j 0) q′;
+        length-kept = length-append (each es entryBytes) (drop (24 * length es) before) ∙ (let d = length-drop (24 * length es) before in omega arith);
+      }
+  go (suc k) e =
+      let s = first-small l numbered in
+      record {
+        refused = λ m p. (λ h. is-first m p l (let q : suc k ≡ m = omega arith in e ∙ q), λ h. (let q = first-is m l h in omega arith));
+        answered = (λ h. absurd (omega arith), λ h. absurd (let q = none-is l h in omega arith));
+        numbered = omega arith;
+        nothing = λ p. (omega arith, refl);
+        counted = λ h. absurd (omega arith);
+        entries = λ h. absurd (omega arith);
+        others = λ h. absurd (omega arith);
+        length-kept = refl;
+      }
+
+  pub answers : Answers l es before (outcome before (answer l es))
+  unfolding answer
+  answers = go (firstOf l) refl
