@@ -36,7 +36,7 @@ module _ {A : Type 0} where
       go f (inl q) = List·Memᴰ·head q
       go f (inr t) = List·Memᴰ·tail (f t)
 
-mem-contains : (x : Id) (l : List Id) → List·Memᴰ x l → T (contains x l)
+pub mem-contains : (x : Id) (l : List Id) → List·Memᴰ x l → T (contains x l)
 unfolding contains anyOf
 mem-contains x [] m = absurd (List·Memᴰ·not-nil m)
 mem-contains x (y ∷ l) m = go (List·Memᴰ·cases-cons m) (mem-contains x l)

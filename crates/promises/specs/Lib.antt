@@ -1,2 +1,6 @@
 pub mod Answers
 pub mod Compare
+pub mod Walks
+pub mod Halls
+pub mod Names
+pub mod Promises
