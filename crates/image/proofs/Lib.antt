@@ -1,2 +1,3 @@
 -- Laws of numbers in bytes.
 pub mod Signs
+pub mod Stores

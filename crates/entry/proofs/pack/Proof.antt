@@ -1,0 +1,306 @@
+-- `entry::pack` meets its contract: in each arm the callee's fields are those of the case that was matched.
+use mathlib.Core.Path.{_∙_, sym, ap}
+use mir.Syntax.{w32}
+use mir.ValLaws.{toZ-ofZ}
+use Rattle.entry.specs.Entries.{fields}
+use borrow.Author.Needs.{needs}
+use Rattle.entry.proofs.pack.Statement.{statement}
+use Rattle.entry.proofs.pack.Tie as tie
+
+enum-known-rule : tie.Need-enum-known-rule
+enum-known-rule c = search needs
+
+resource-requires : tie.Need-resource-requires
+resource-requires c κs = search needs
+
+enum-known-rule-2 : tie.Need-enum-known-rule-2
+enum-known-rule-2 c = search needs
+
+words-requires : tie.Need-words-requires
+words-requires c κs = search needs
+
+enum-known-rule-3 : tie.Need-enum-known-rule-3
+enum-known-rule-3 c = search needs
+
+words-requires-2 : tie.Need-words-requires-2
+words-requires-2 c κs = search needs
+
+enum-told : tie.Need-enum-told
+enum-told c = search needs
+
+plain-requires : tie.Need-plain-requires
+plain-requires c κs = search needs
+
+enum-told-2 : tie.Need-enum-told-2
+enum-told-2 c = search needs
+
+plain-requires-2 : tie.Need-plain-requires-2
+plain-requires-2 c κs = search needs
+
+enum-told-3 : tie.Need-enum-told-3
+enum-told-3 c = search needs
+
+plain-requires-3 : tie.Need-plain-requires-3
+plain-requires-3 c κs = search needs
+
+enum-told-4 : tie.Need-enum-told-4
+enum-told-4 c = search needs
+
+plain-requires-4 : tie.Need-plain-requires-4
+plain-requires-4 c κs = search needs
+
+enum-told-5 : tie.Need-enum-told-5
+enum-told-5 c = search needs
+
+plain-requires-5 : tie.Need-plain-requires-5
+plain-requires-5 c κs = search needs
+
+enum-known-rule-4 : tie.Need-enum-known-rule-4
+enum-known-rule-4 c = search needs
+
+cast-words : tie.Need-cast-words
+cast-words c = search needs
+
+words-requires-3 : tie.Need-words-requires-3
+words-requires-3 c κs = search needs
+
+enum-told-6 : tie.Need-enum-told-6
+enum-told-6 c = search needs
+
+plain-requires-6 : tie.Need-plain-requires-6
+plain-requires-6 c κs = search needs
+
+enum-known-rule-5 : tie.Need-enum-known-rule-5
+enum-known-rule-5 c = search needs
+
+cast-of-id : tie.Need-cast-of-id
+cast-of-id c = search needs
+
+cast-of-id-2 : tie.Need-cast-of-id-2
+cast-of-id-2 c = search needs
+
+of-id-requires : tie.Need-of-id-requires
+of-id-requires c κs = search needs
+
+enum-known-rule-6 : tie.Need-enum-known-rule-6
+enum-known-rule-6 c = search needs
+
+cast-words-2 : tie.Need-cast-words-2
+cast-words-2 c = search needs
+
+cast-words-3 : tie.Need-cast-words-3
+cast-words-3 c = search needs
+
+words-requires-4 : tie.Need-words-requires-4
+words-requires-4 c κs = search needs
+
+enum-told-7 : tie.Need-enum-told-7
+enum-told-7 c = search needs
+
+plain-requires-7 : tie.Need-plain-requires-7
+plain-requires-7 c κs = search needs
+
+enum-told-8 : tie.Need-enum-told-8
+enum-told-8 c = search needs
+
+plain-requires-8 : tie.Need-plain-requires-8
+plain-requires-8 c κs = search needs
+
+enum-told-9 : tie.Need-enum-told-9
+enum-told-9 c = search needs
+
+plain-requires-9 : tie.Need-plain-requires-9
+plain-requires-9 c κs = search needs
+
+enum-told-10 : tie.Need-enum-told-10
+enum-told-10 c = search needs
+
+plain-requires-10 : tie.Need-plain-requires-10
+plain-requires-10 c κs = search needs
+
+enum-known-rule-7 : tie.Need-enum-known-rule-7
+enum-known-rule-7 c = search needs
+
+of-id-requires-2 : tie.Need-of-id-requires-2
+of-id-requires-2 c κs = search needs
+
+enum-known-rule-8 : tie.Need-enum-known-rule-8
+enum-known-rule-8 c = search needs
+
+of-id-requires-3 : tie.Need-of-id-requires-3
+of-id-requires-3 c κs = search needs
+
+enum-told-11 : tie.Need-enum-told-11
+enum-told-11 c = search needs
+
+plain-requires-11 : tie.Need-plain-requires-11
+plain-requires-11 c κs = search needs
+
+enum-told-12 : tie.Need-enum-told-12
+enum-told-12 c = search needs
+
+plain-requires-12 : tie.Need-plain-requires-12
+plain-requires-12 c κs = search needs
+
+enum-known-rule-9 : tie.Need-enum-known-rule-9
+enum-known-rule-9 c = search needs
+
+of-id-requires-4 : tie.Need-of-id-requires-4
+of-id-requires-4 c κs = search needs
+
+returns : tie.Need-returns
+unfolding fields
+returns c = c .resource .ensures ∙ sym (ap fields (c .before .before .rule .given .1))
+
+returns-2 : tie.Need-returns-2
+unfolding fields
+returns-2 c = c .words .ensures ∙ sym (ap fields (c .before .before .rule2 .given .1))
+
+returns-3 : tie.Need-returns-3
+unfolding fields
+returns-3 c = c .words2 .ensures ∙ sym (ap fields (c .before .before .rule3 .given .1))
+
+returns-4 : tie.Need-returns-4
+unfolding fields
+returns-4 c = c .plain .ensures ∙ sym (ap fields (c .before .enum-told .given .1))
+
+returns-5 : tie.Need-returns-5
+unfolding fields
+returns-5 c = c .plain2 .ensures ∙ sym (ap fields (c .before .enum-told2 .given .1))
+
+returns-6 : tie.Need-returns-6
+unfolding fields
+returns-6 c = c .plain3 .ensures ∙ sym (ap fields (c .before .enum-told3 .given .1))
+
+returns-7 : tie.Need-returns-7
+unfolding fields
+returns-7 c = c .plain4 .ensures ∙ sym (ap fields (c .before .enum-told4 .given .1))
+
+returns-8 : tie.Need-returns-8
+unfolding fields
+returns-8 c = c .plain5 .ensures ∙ sym (ap fields (c .before .enum-told5 .given .1))
+
+returns-9 : tie.Need-returns-9
+unfolding fields
+returns-9 c = c .words3 .ensures ∙ sym (ap fields (c .before .before .rule4 .given .1))
+
+returns-10 : tie.Need-returns-10
+unfolding fields
+returns-10 c = c .plain6 .ensures ∙ sym (ap fields (c .before .enum-told6 .given .1))
+
+returns-11 : tie.Need-returns-11
+unfolding fields
+returns-11 c = rw (toZ-ofZ w32 (c .before .before .rule5 .given .0 .0) (record { sfits = c .before .known-told5 .given .0 .1 })) at (c .of-id .ensures) ∙ sym (ap fields (c .before .before .rule5 .given .1))
+
+returns-12 : tie.Need-returns-12
+unfolding fields
+returns-12 c = c .words4 .ensures ∙ sym (ap fields (c .before .before .rule6 .given .1))
+
+returns-13 : tie.Need-returns-13
+unfolding fields
+returns-13 c = c .plain7 .ensures ∙ sym (ap fields (c .before .enum-told7 .given .1))
+
+returns-14 : tie.Need-returns-14
+unfolding fields
+returns-14 c = c .plain8 .ensures ∙ sym (ap fields (c .before .enum-told8 .given .1))
+
+returns-15 : tie.Need-returns-15
+unfolding fields
+returns-15 c = c .plain9 .ensures ∙ sym (ap fields (c .before .enum-told9 .given .1))
+
+returns-16 : tie.Need-returns-16
+unfolding fields
+returns-16 c = c .plain10 .ensures ∙ sym (ap fields (c .before .enum-told10 .given .1))
+
+returns-17 : tie.Need-returns-17
+unfolding fields
+returns-17 c = rw (toZ-ofZ w32 (c .before .before .rule7 .given .0 .0) (record { sfits = c .before .known-told7 .given .0 .1 })) at (c .of-id2 .ensures) ∙ sym (ap fields (c .before .before .rule7 .given .1))
+
+returns-18 : tie.Need-returns-18
+unfolding fields
+returns-18 c = rw (toZ-ofZ w32 (c .before .before .rule8 .given .0 .0) (record { sfits = c .before .known-told8 .given .0 .1 })) at (c .of-id3 .ensures) ∙ sym (ap fields (c .before .before .rule8 .given .1))
+
+returns-19 : tie.Need-returns-19
+unfolding fields
+returns-19 c = c .plain11 .ensures ∙ sym (ap fields (c .before .enum-told11 .given .1))
+
+returns-20 : tie.Need-returns-20
+unfolding fields
+returns-20 c = c .plain12 .ensures ∙ sym (ap fields (c .before .enum-told12 .given .1))
+
+returns-21 : tie.Need-returns-21
+unfolding fields
+returns-21 c = rw (toZ-ofZ w32 (c .before .before .rule9 .given .0 .0) (record { sfits = c .before .known-told9 .given .0 .1 })) at (c .of-id4 .ensures) ∙ sym (ap fields (c .before .before .rule9 .given .1))
+
+pub pack-spec : {M : Type 1} → statement M
+pack-spec =
+    tie.close
+    (tie.spec
+    enum-known-rule
+    resource-requires
+    enum-known-rule-2
+    words-requires
+    enum-known-rule-3
+    words-requires-2
+    enum-told
+    plain-requires
+    enum-told-2
+    plain-requires-2
+    enum-told-3
+    plain-requires-3
+    enum-told-4
+    plain-requires-4
+    enum-told-5
+    plain-requires-5
+    enum-known-rule-4
+    cast-words
+    words-requires-3
+    enum-told-6
+    plain-requires-6
+    enum-known-rule-5
+    cast-of-id
+    cast-of-id-2
+    of-id-requires
+    enum-known-rule-6
+    cast-words-2
+    cast-words-3
+    words-requires-4
+    enum-told-7
+    plain-requires-7
+    enum-told-8
+    plain-requires-8
+    enum-told-9
+    plain-requires-9
+    enum-told-10
+    plain-requires-10
+    enum-known-rule-7
+    of-id-requires-2
+    enum-known-rule-8
+    of-id-requires-3
+    enum-told-11
+    plain-requires-11
+    enum-told-12
+    plain-requires-12
+    enum-known-rule-9
+    of-id-requires-4
+    returns
+    returns-2
+    returns-3
+    returns-4
+    returns-5
+    returns-6
+    returns-7
+    returns-8
+    returns-9
+    returns-10
+    returns-11
+    returns-12
+    returns-13
+    returns-14
+    returns-15
+    returns-16
+    returns-17
+    returns-18
+    returns-19
+    returns-20
+    returns-21)
