@@ -9,6 +9,7 @@ use mathlib.Core.Option.{Option, none, some}
 use lib.Dec.{T, eqb, ltb, nltb→le}
 use lib.ListN.{length, length-append}
 use Rattle.words.specs.Words.{_>>=_, each, when, whenAny, whenAbove, unless, sumOf, given}
+use Rattle.words.proofs.Lengths
 use Rattle.words.proofs.Tables.{length-table}
 use Rattle.image.specs.Bytes.{i32At}
 use Rattle.catalogue.specs.Catalogue.{Id, Catalogue}
@@ -35,22 +36,16 @@ module _ {A : Type 0} where
   few-more h k = record { most = le-trans (k .most) h }
 
   few-when : (b : Bool) (e : A) → Few 1 (when b e)
-  unfolding when
-  few-when true e = record { most = le-refl _ }
-  few-when false e = record { most = zero-le }
+  few-when b e = record { most = Lengths.few-when b e }
 
   few-any : {B : Type 0} (b : Bool) (t : B → Bool) (l : List B) (e : A) → Few 1 (whenAny b t l e)
-  unfolding whenAny
-  few-any b t l e = few-when _ e
+  few-any b t l e = record { most = Lengths.few-any b t l e }
 
   few-above : (b : Bool) (limit n : ℕ) (e : ℕ → A) → Few 1 (whenAbove b limit n e)
-  unfolding whenAbove
-  few-above b limit n e = few-when _ (e n)
+  few-above b limit n e = record { most = Lengths.few-above b limit n e }
 
   few-unless : (b : Bool) {n : ℕ} {l : List A} → Few n l → Few n (unless b l)
-  unfolding unless
-  few-unless true h = record { most = zero-le }
-  few-unless false h = h
+  few-unless b {n} {l} h = record { most = le-trans (Lengths.few-unless b l) (h .most) }
 
   few-cond : (b : Bool) {n : ℕ} {l m : List A} → Few n l → Few n m → Few n (cond b l m)
   few-cond true h k = h
@@ -58,9 +53,7 @@ module _ {A : Type 0} where
 
   module _ {I : Type 0} where
     few-bind : (o : Option I) {n : ℕ} {f : I → List A} → ((x : I) → Few n (f x)) → Few n (_>>=_ o f)
-    unfolding _>>=_
-    few-bind none h = record { most = zero-le }
-    few-bind (some x) h = h x
+    few-bind o {n} {f} h = record { most = Lengths.few-bind f n (λ x. h x .most) o }
 
     few-given : (o : Option I) (t : I → Bool) → T (not (given o false t)) → {n : ℕ} {f : I → List A} → ((x : I) → T (not (t x)) → Few n (f x)) → Few n (_>>=_ o f)
     unfolding _>>=_ given
@@ -68,12 +61,7 @@ module _ {A : Type 0} where
     few-given (some x) t k h = h x k
 
     few-each : (l : List I) {n : ℕ} {f : I → List A} → ((x : I) → Few n (f x)) → Few (n * length l) (each l f)
-    unfolding each
-    few-each [] h = record { most = zero-le }
-    few-each (x ∷ l) {n} {f} h =
-        let a = h x .most in
-        let b = few-each l h .most in
-        record { most = (let e = length-append (f x) (each l f) in omega arith) }
+    few-each l {n} {f} h = record { most = Lengths.few-each f n (λ x. h x .most) l }
 
 -- ---- the list: 16 entries for each pair, one for each skill, 20 more and one for the mode
 few-resource : (k : ℕ) (u a : _) → Few 1 (resource k u a)
