@@ -1,19 +1,16 @@
 -- What a call gives, from the first of its conditions that holds. By cases on that number. Assumes nothing.
-use Prim.Native.Nat.{ℕ, zero, suc, _+_, _*_, _-_, _/_, _%_, _^_, _≤_, _<_, suc-le-suc, zero-le}
+use Prim.Native.Nat.{ℕ, zero, suc, _+_, _*_, _-_, _^_, _≤_, _<_, suc-le-suc, zero-le}
 use native.Mathlib.Omega.{arith}
-use mathlib.Core.Path.{_≡_, refl, sym, ap, _∙_}
-use mathlib.Core.Bool.{Bool, true, false, not, cond}
+use mathlib.Core.Path.{_≡_, refl, ap, _∙_}
 use mathlib.Core.List.{List, [], _∷_, _++_}
-use mathlib.Core.Logic.{_⊎_, _↔_, inl, inr}
-use mathlib.Core.Option.{Option, none, some, Option·some-injective}
-use lib.Dec.{T, ltb, nltb→le}
+use mathlib.Core.Option.{some, Option·some-injective}
 use lib.ListN.{length, getD, drop, getElem?, length-append, length-drop}
 use lib.Seq.{getD-append-add, getD-drop}
 use Rattle.words.specs.Words.{each, firstOf}
 use Rattle.entry.specs.declared.Entry.{Entry}
 use Rattle.entry.specs.Entries.{entryBytes, written}
 use Rattle.fitcheck.specs.Calls.{answerBy, answer, buffered, returned}
-use Rattle.promises.specs.Answers.{Outcome, outcome, Conditions, First, None, Answers}
+use Rattle.promises.specs.Answers.{outcome, Conditions, None, Answers}
 use Rattle.promises.proofs.Conditions.{first-is, is-first, none-is, Numbered, is-none, first-small}
 use Rattle.promises.proofs.Entries.{entry-at, entries-length}
 

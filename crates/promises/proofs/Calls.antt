@@ -1,5 +1,5 @@
 -- The list call and the skill call: their conditions, and what they list. By the lengths of the two lists. Assumes nothing.
-use Prim.Native.Nat.{ℕ, _+_, _*_, _^_, _≤_, _<_}
+use Prim.Native.Nat.{ℕ, _+_, _*_, _≤_}
 use native.Mathlib.Omega.{arith}
 use mathlib.Core.Path.{_≡_}
 use mathlib.Core.Bool.{false}
@@ -14,7 +14,7 @@ use Rattle.fit.specs.Refusals.{fitRefusals}
 use Rattle.validate.specs.Validate.{listOf}
 use Rattle.skill.specs.Skill.{tooMany, skillList}
 use Rattle.fitcheck.specs.Calls.{tooManyDrones, tooShort, listCall, skillCall}
-use Rattle.promises.specs.Answers.{outcome, refusal, listConditions, skillConditions, None, Answers}
+use Rattle.promises.specs.Answers.{outcome, refusal, listConditions, skillConditions, Answers}
 use Rattle.promises.proofs.Conditions.{last-first}
 use Rattle.promises.proofs.Answering.{answers}
 use Rattle.promises.proofs.Lengths.{list-short, skills-short}

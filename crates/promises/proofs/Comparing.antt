@@ -3,28 +3,25 @@ use Prim.Native.Nat.{ℕ, zero, suc, _+_, _*_, _^_, _≤_, _<_, zero-le, suc-le-
 use native.Mathlib.Nat.{le-trans, le-of-suc-le-suc, not-suc-le-zero}
 use native.Mathlib.Omega.{arith}
 use mathlib.Core.Path.{_≡_, refl, sym, ap, ap₂, _∙_, subst, subst₂}
-use mathlib.Core.Bool.{Bool, true, false, not, cond}
-use mathlib.Core.List.{List, [], _∷_, _++_, List·Memᴰ}
-use mathlib.Core.Option.{Option, none, some}
-use lib.Dec.{T, ltb, ltb→lt, lt→ltb, nltb→le}
-use lib.ListN.{length, getD, take, drop, getElem?}
-use Rattle.words.specs.Words.{same, given}
+use mathlib.Core.Bool.{Bool, true, false, cond}
+use mathlib.Core.List.{List, [], _∷_, _++_}
+use mathlib.Core.Option.{some}
+use lib.Dec.{ltb→lt, lt→ltb, nltb→le}
+use lib.ListN.{length, getD, drop, getElem?}
+use Rattle.words.specs.Words.{same}
 use Rattle.image.specs.Bytes.{u32At}
 use Rattle.catalogue.specs.Catalogue.{Id, Catalogue, catalogueOf}
 use Rattle.fit.specs.Fit.{Item, Result, Frame, Fit, allResults, resultAt, fitOf, itemCount, itemsAt, itemAt}
-use Rattle.fit.specs.Refusals.{badSize}
 use Rattle.fit.specs.Lookups.{trained}
 use Rattle.entry.specs.declared.Entry.{Entry}
 use Rattle.entry.specs.declared.Rule.the-variants.{NotAHull}
-use Rattle.entry.specs.Entries.{onShip, entryBytes}
-use Rattle.context.specs.Context.{pairs}
-use Rattle.validate.specs.Validate.{listOf}
+use Rattle.entry.specs.Entries.{onShip}
 use Rattle.skill.specs.Skill.{skillList}
 use Rattle.fitcheck.specs.Calls.{listCall, skillCall}
-use Rattle.promises.specs.Answers.{Outcome, outcome, refusal, entryAt, Conditions, Answers}
-use Rattle.promises.specs.Compare.{Bytes, Grown, AddedVolumes, addedItems, Stays, Kept}
+use Rattle.promises.specs.Answers.{Outcome, outcome, refusal, Conditions, Answers}
+use Rattle.promises.specs.Compare.{Bytes, Grown, AddedVolumes, Stays, Kept}
 use Rattle.promises.proofs.Placed.{place, place-rising, place-inside, place-keeps, placed-bind, placed-each, placed-when}
-use Rattle.promises.proofs.Rises.{Rises, Covers, covers-stays}
+use Rattle.promises.proofs.Rises.{Rises, covers-stays}
 use Rattle.promises.proofs.Growth.{Within, begins, list-grows}
 use Rattle.promises.proofs.All.{All, all-at, all-mem, all-drop, all-table}
 use Rattle.promises.proofs.Sounds.{AllSound, list-sound, skills-sound}

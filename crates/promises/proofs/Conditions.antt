@@ -3,7 +3,7 @@ use Prim.Native.Nat.{ℕ, _≤_, _<_, zero-le, pred}
 use native.Mathlib.Omega.{arith}
 use mathlib.Core.Path.{_≡_, refl}
 use mathlib.Core.Bool.{Bool, true, false, not, cond}
-use mathlib.Core.List.{List, [], _∷_, _++_}
+use mathlib.Core.List.{[], _∷_, _++_}
 use mathlib.Core.Logic.{_⊎_, inl, inr}
 use lib.Dec.{T}
 use Rattle.words.specs.Words.{firstOf}

@@ -1,6 +1,6 @@
 -- The list of a fit into which pairs are put: every old entry has its place. Rule by rule, by what the words do to `Placed`; drones and
 -- cargo by the laws of floats. Assumes nothing.
-use Prim.Native.Nat.{ℕ, zero, suc, _+_, _^_, _≤_, _<_}
+use Prim.Native.Nat.{ℕ, suc, _+_, _^_, _≤_, _<_}
 use native.Mathlib.Omega.{arith}
 use mathlib.Core.Path.{_≡_, refl, sym, ap, ap₂, _∙_, subst}
 use mathlib.Core.Bool.{Bool, true, false, _||_, cond}
@@ -8,10 +8,10 @@ use mathlib.Core.List.{List, [], _∷_, _++_, List·Memᴰ, List·Memᴰ·head, 
 use mathlib.Core.Option.{Option, none, some}
 use lib.Dec.{T, eqb, eqb→eq}
 use lib.ListN.{length, take, drop, take-append-drop}
-use lib.Ieee.{Float, binary64, mul, le, fits}
-use Rattle.words.specs.Words.{each, whenAny, whenAbove, only, countOf, given}
+use lib.Ieee.{Float, le, fits}
+use Rattle.words.specs.Words.{each, whenAny, whenAbove, only, given}
 use Rattle.words.proofs.Steps.{only-append}
-use Rattle.floats.specs.Floats.{zeroF, ofNat, over, isVolume}
+use Rattle.floats.specs.Floats.{zeroF, over, isVolume}
 use Rattle.floats.proofs.Loads.{over-mono, total-grows}
 use Rattle.floats.proofs.Products.{ofNat-mono, term-plus, volume-zero}
 use Rattle.catalogue.specs.Catalogue.{Id, TypeData, Catalogue}

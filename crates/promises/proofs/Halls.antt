@@ -1,6 +1,6 @@
 -- The hall number: three counts that part the fits, packed into one word; and each fit beside its own list call. By cases on the
 -- refusals. Assumes nothing.
-use Prim.Native.Nat.{ℕ, zero, suc, _+_, _*_, _/_, _%_, _^_, _≤_, _<_}
+use Prim.Native.Nat.{ℕ, zero, suc, _+_, _*_, _/_, _%_, _≤_, _<_}
 use native.Mathlib.Decide.{decLe}
 use native.Mathlib.Omega.{arith}
 use mathlib.Core.Path.{_≡_, refl, sym, ap, ap₂, _∙_, subst}
@@ -10,7 +10,7 @@ use mathlib.Core.Logic.{_⊎_, _↔_, inl, inr}
 use lib.Dec.{T, T-not, not-T, ltb, lt→ltb, nltb→le}
 use lib.ListN.{length, take, drop}
 use borrow.Author.Tests.{lt-ltb, le-ltb}
-use Rattle.words.specs.Words.{only, countOf, isEmpty, firstOf, table}
+use Rattle.words.specs.Words.{only, countOf, isEmpty, firstOf}
 use Rattle.words.proofs.Tables.{length-table}
 use Rattle.catalogue.specs.Catalogue.{Catalogue, catalogueOf}
 use Rattle.catalogue.specs.Refusals.{catalogueRefusals}

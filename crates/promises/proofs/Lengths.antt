@@ -1,8 +1,7 @@
 -- How many entries a list has at most. Rule by rule, by what the words do to a list's length. Assumes nothing.
-use Prim.Native.Nat.{ℕ, zero, suc, _+_, _*_, _≤_, _<_, zero-le, suc-le-suc}
-use native.Mathlib.Nat.{le-refl, le-trans}
+use Prim.Native.Nat.{ℕ, suc, _+_, _*_, _≤_, zero-le, suc-le-suc}
+use native.Mathlib.Nat.{le-trans}
 use native.Mathlib.Omega.{arith}
-use mathlib.Core.Path.{_≡_, refl}
 use mathlib.Core.Bool.{Bool, true, false, not, _||_, cond}
 use mathlib.Core.List.{List, [], _∷_, _++_}
 use mathlib.Core.Option.{Option, none, some}
@@ -15,7 +14,6 @@ use Rattle.image.specs.Bytes.{i32At}
 use Rattle.catalogue.specs.Catalogue.{Id, Catalogue}
 use Rattle.fit.specs.Fit.{Item, Result, Frame, Fit, modeOf, resultAt, allResults, fitOf, skillCount, itemCount, resultCount, attributeCount, sizeOf, skillsAt, itemAt}
 use Rattle.fit.specs.Refusals.{badSize}
-use Rattle.entry.specs.declared.Entry.{Entry}
 use Rattle.context.specs.Context.{Pair, Context, pairsFrom, pairs, context}
 use Rattle.validate.specs.Kind.{isHull, notAMode, notASkill}
 use Rattle.resource.specs.Resource.{LOADS, resource, loads, launchedDrones, cargo}

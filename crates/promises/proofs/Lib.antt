@@ -15,4 +15,5 @@ pub mod Refusing
 pub mod Meeting
 pub mod Wanting
 pub mod Halls
+pub mod Edges
 pub mod Promised

@@ -1,14 +1,13 @@
 -- The order of the walk: its skills stand in the order in which walking them meets them. By what noting does to the ids. Assumes nothing.
-use Prim.Native.Nat.{ℕ, zero, suc, max, _≤_, _<_}
-use native.Mathlib.Nat.{le-of-suc-le-suc, not-suc-le-zero}
+use Prim.Native.Nat.{ℕ, zero, suc, max, _≤_}
 use native.Mathlib.Omega.{arith}
-use mathlib.Core.Path.{_≡_, refl, sym, ap, ap₂, _∙_, subst}
+use mathlib.Core.Path.{_≡_, refl, sym, ap, _∙_}
 use mathlib.Core.Bool.{Bool, true, false, not, _||_, cond}
-use mathlib.Core.List.{List, [], _∷_, _++_, foldl, foldl-append, map, append-nil, append-assoc}
+use mathlib.Core.List.{List, [], _∷_, _++_, foldl, foldl-append, append-nil, append-assoc}
 use mathlib.Core.Option.{Option, none, some}
-use lib.Dec.{T, eqb, ltb, nltb→le}
+use lib.Dec.{T, eqb, nltb→le}
 use lib.IntN.{pos, negsuc}
-use lib.ListN.{length, length-map, getD, take, getElem?}
+use lib.ListN.{length, length-map, take, getElem?}
 use lib.Seq.{take-all, take-append-le}
 use borrow.Author.Tests.{eqb-true, eqb-false, eq-eqb, ne-eqb}
 use Rattle.words.specs.Words.{each, anyOf, contains, same, given}

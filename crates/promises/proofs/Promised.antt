@@ -6,6 +6,7 @@ use Rattle.promises.proofs.Calls.{list-answers, skill-answers, list-roo
 use Rattle.promises.proofs.Comparing.{list-kept, skills-kept}
 use Rattle.promises.proofs.Wanting.{walk-of, lacks, more-wanted}
 use Rattle.promises.proofs.Halls.{hall-answers, judged}
+use Rattle.promises.proofs.Edges.{edges}
 
 names : Names
 unfolding each tableFrom
@@ -25,4 +26,5 @@ promised = record {
   hall-call = hall-answers;
   hall-fits = judged;
   names = names;
+  edges = edges;
 }

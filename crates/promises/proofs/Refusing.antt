@@ -1,19 +1,19 @@
 -- Refusal 9: the walk is too long exactly where more than the limit of distinct skills are wanted; and a larger limit does not change a list. Assumes nothing.
 use Prim.Native.Nat.{ℕ, zero, suc, _+_, _-_, _≤_, _<_, zero-le, suc-le-suc}
-use native.Mathlib.Nat.{suc-add, le-refl, le-trans, le-of-suc-le-suc, not-suc-le-zero, eq-or-lt-of-le}
+use native.Mathlib.Nat.{suc-add, le-trans, le-of-suc-le-suc, not-suc-le-zero}
 use native.Mathlib.Omega.{arith}
 use mathlib.Core.Path.{_≡_, refl, sym, ap, _∙_, subst}
-use mathlib.Core.Bool.{Bool, true, false, not, _||_, cond}
-use mathlib.Core.List.{List, [], _∷_, _++_, map, append-nil, List·Memᴰ, List·Memᴰ·head, List·Memᴰ·tail, List·Memᴰ·not-nil, List·Memᴰ·cases-cons, Memᴰ·map, Memᴰ·of-map}
-use mathlib.Core.Option.{Option, none, some}
+use mathlib.Core.Bool.{Bool, true, false, not, _||_}
+use mathlib.Core.List.{List, [], _∷_, append-nil, List·Memᴰ, List·Memᴰ·head, List·Memᴰ·tail, List·Memᴰ·not-nil, List·Memᴰ·cases-cons, Memᴰ·map, Memᴰ·of-map}
+use mathlib.Core.Option.{none}
 use mathlib.Core.Logic.{_⊎_, inl, inr}
-use lib.Dec.{T, T-not, ltb, ltb→lt, nltb→le}
-use lib.ListN.{length, length-map, getElem?}
+use lib.Dec.{T, T-not, ltb→lt, nltb→le}
+use lib.ListN.{length, length-map}
 use Rattle.catalogue.specs.Catalogue.{Id, Catalogue}
 use Rattle.fit.specs.Fit.{Result}
 use Rattle.words.specs.Words.{given, same, contains, anyOf}
-use Rattle.skill.specs.Skill.{Demand, ofSkill, noted, skillAt, met, walkTo, tooMany}
-use Rattle.skill.specs.Wanted.{Wanted, Once, Walked}
+use Rattle.skill.specs.Skill.{Demand, noted, skillAt, met, walkTo, tooMany}
+use Rattle.skill.specs.Wanted.{Wanted, Once}
 use Rattle.promises.proofs.Walking.{same-refl, ids, counts-wanted, met-counts, noted-from, noted-once, walked, listed-iff-wanted}
 
 -- ---- of lists of ids: one with no id twice is no longer than a list that has them all

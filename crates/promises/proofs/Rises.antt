@@ -17,7 +17,7 @@ use Rattle.entry.specs.declared.Target.{Target}
 use Rattle.entry.specs.declared.Entry.{Entry}
 use Rattle.entry.specs.declared.Rule.{Rule}
 use Rattle.entry.specs.declared.Rule.the-variants.{Resource, Slots, WrongSlot, NotAModule, NotADrone, NotAFighter, NotAnImplant, SlotTaken, WrongSlotIndex, SubsystemTaken, Skill, RigSize, ShipRestricted, CapitalItem, StructureItem, ShipItem, MaxGroup, MaxType, NotAHull, NotAMode, NotASkill}
-use Rattle.entry.specs.Entries.{fields, entryBytes, low, high}
+use Rattle.entry.specs.Entries.{fields, entryBytes}
 use Rattle.promises.specs.Compare.{varies, blank, Stays}
 
 pub data Rises : Rule → Rule → Type 0 where

@@ -1,36 +1,31 @@
 -- Every entry of a list has numbers that fit its bytes, and no used number that is a NaN. Rule by rule, by what the words do to `All`.
 -- Assumes nothing.
-use Prim.Native.Nat.{ℕ, zero, suc, _+_, _^_, _≤_, _<_, max, zero-le, suc-le-suc}
-use native.Mathlib.Nat.{le-trans, le-of-suc-le-suc, not-suc-le-zero}
+use Prim.Native.Nat.{ℕ, zero, suc, _^_, _≤_, _<_, max, zero-le, suc-le-suc}
 use native.Mathlib.Omega.{arith}
-use mathlib.Core.Path.{_≡_, refl}
 use mathlib.Core.Bool.{Bool, true, false, cond}
-use mathlib.Core.List.{List, [], _∷_, _++_, foldl}
+use mathlib.Core.List.{List, [], _∷_, foldl}
 use mathlib.Core.Option.{Option, none, some}
-use lib.Dec.{T, ltb, ltb→lt}
-use lib.ListN.{length, getD}
+use lib.Dec.{T, ltb→lt}
+use lib.ListN.{length}
 use lib.Ieee.{Float, binary64, fits}
 use lib.Ieee.Fits.{ofInt-fits}
 use lib.Ieee.Casts.{toUnsigned-lt}
-use Rattle.words.specs.Words.{_>>=_, each, when, whenAny, whenAbove, unless, only, countOf, find, given, tableFrom, same}
-use Rattle.floats.specs.Floats.{zeroF, over}
+use Rattle.words.specs.Words.{whenAny, whenAbove, only, countOf, given, same}
+use Rattle.floats.specs.Floats.{zeroF}
 use Rattle.floats.proofs.Bits.{f64At-fits}
 use Rattle.floats.proofs.Loads.{over-self}
 use Rattle.floats.proofs.Sums.{total-fits}
 use Rattle.catalogue.specs.Catalogue.{Id, Catalogue}
-use Rattle.fit.specs.Fit.{Attribute, Result, Frame, Fit, modeOf, fitOf, resultOf, resultAt}
+use Rattle.fit.specs.Fit.{Attribute, Result, Frame, Fit, modeOf, fitOf, resultOf}
 use Rattle.fit.specs.Lookups.{value, amount, trained}
 use Rattle.entry.specs.declared.Entry.{Entry}
-use Rattle.entry.specs.declared.Rule.{Rule}
-use Rattle.entry.specs.declared.Rule.the-variants.{NotAHull}
-use Rattle.entry.specs.Entries.{onShip}
 use Rattle.context.specs.Context.{Pair, Context, pairs, context, isIn}
 use Rattle.validate.specs.Kind.{isHull, notAMode, notASkill}
-use Rattle.resource.specs.Resource.{LOADS, resource, launched, cargoVolume, cargoUsed, loads, launchedDrones, cargo}
+use Rattle.resource.specs.Resource.{LOADS, resource, cargoVolume, cargoUsed, loads, launchedDrones, cargo}
 use Rattle.slot.specs.Slot.{RACKS, HARDPOINTS, slots, racks, hardpoints, wrongSlot, notAModule, notADrone, notAFighter, notAnImplant, wrongSlotIndex, slotTaken, subsystemTaken, slotChecks}
 use Rattle.item.specs.Item.{GROUP-LIMITS, isStructure, rigSize, shipRestricted, capitalItem, standup, groupLimits, typeLimit}
 use Rattle.validate.specs.Validate.{hullRules, listWith, listOf}
-use Rattle.skill.specs.Skill.{Demand, REQUIRED, demands, ofResult, ofSkill, note, noted, skillAt, met, walkTo, skillList}
+use Rattle.skill.specs.Skill.{Demand, REQUIRED, demands, ofResult, ofSkill, note, noted, met, walkTo, skillList}
 use Rattle.promises.proofs.All.{All, nil, cons, all-join, all-table, all-when, all-unless, all-cond, all-bind, all-each, all-each-of, all-find}
 use Rattle.promises.proofs.Rises.{Sound}
 

@@ -1,15 +1,15 @@
 -- The walk's list is what `Walked` says, where it is not refused. Assumes nothing.
-use Prim.Native.Nat.{ℕ, zero, suc, _+_, max, _≤_, _<_, zero-le, suc-le-suc}
+use Prim.Native.Nat.{ℕ, zero, suc, max, _≤_, _<_, zero-le, suc-le-suc}
 use native.Mathlib.Nat.{le-refl, le-trans, le-of-suc-le-suc, not-suc-le-zero, eq-or-lt-of-le}
 use native.Mathlib.Decide.{decLe}
 use native.Mathlib.Omega.{arith}
 use mathlib.Core.Path.{_≡_, refl, sym, ap, _∙_, subst}
 use mathlib.Core.Bool.{Bool, true, false, not, _||_, cond}
-use mathlib.Core.List.{List, [], _∷_, _++_, foldl, foldl-append, map, append-nil, List·Memᴰ, List·Memᴰ·head, List·Memᴰ·tail, List·Memᴰ·not-nil, Memᴰ·append-left, Memᴰ·append-right, List·Memᴰ·append-cases, Memᴰ·cast}
+use mathlib.Core.List.{List, [], _∷_, _++_, foldl, foldl-append, map, append-nil, List·Memᴰ, List·Memᴰ·head, List·Memᴰ·tail, List·Memᴰ·not-nil, Memᴰ·append-left, Memᴰ·append-right, List·Memᴰ·append-cases}
 use mathlib.Core.Option.{Option, none, some, Option·some-injective}
 use mathlib.Core.Logic.{_⊎_, _↔_, inl, inr}
-use lib.Dec.{T, ltb, eqb, eqb→eq, eqb-refl, nltb→le}
-use lib.IntN.{ℤ, pos, negsuc}
+use lib.Dec.{T, eqb→eq, eqb-refl, nltb→le}
+use lib.IntN.{pos, negsuc}
 use lib.ListN.{length, getElem?}
 use Rattle.catalogue.specs.Catalogue.{Id, Catalogue}
 use Rattle.fit.specs.Fit.{Result}

@@ -1,5 +1,5 @@
 -- The list of wanted skills and the entries made of it, said without the walk. From `Walking`, `Refusing` and `Meeting`. Assumes nothing.
-use Prim.Native.Nat.{ℕ, _≤_, _<_}
+use Prim.Native.Nat.{ℕ, _≤_}
 use native.Mathlib.Nat.{le-antisymm}
 use native.Mathlib.Omega.{arith}
 use mathlib.Core.Path.{_≡_, refl, sym, ap, _∙_, subst}
@@ -7,7 +7,7 @@ use mathlib.Core.Bool.{Bool, true, false, not}
 use mathlib.Core.List.{List, [], _∷_, List·Memᴰ, List·Memᴰ·head, List·Memᴰ·tail, List·Memᴰ·not-nil, List·Memᴰ·append-cases, List·Memᴰ·eq-of-singleton, Memᴰ·append-left, Memᴰ·append-right, Memᴰ·map}
 use mathlib.Core.Option.{Option, some}
 use mathlib.Core.Logic.{_⊎_, _↔_, inl, inr}
-use lib.Dec.{T, T-not, not-T, ltb, ltb→lt, lt→ltb}
+use lib.Dec.{T, T-not, ltb, ltb→lt, lt→ltb}
 use lib.ListN.{length}
 use Rattle.words.specs.Words.{_>>=_, each, when, contains}
 use Rattle.catalogue.specs.Catalogue.{Id, Catalogue}

@@ -4,7 +4,7 @@ use mathlib.Core.Path.{_≡_}
 use mathlib.Core.Bool.{Bool, false, not}
 use mathlib.Core.List.{List, [], _∷_}
 use mathlib.Core.Logic.{_⊎_, _↔_}
-use mathlib.Core.Option.{Option, some}
+use mathlib.Core.Option.{some}
 use lib.Dec.{T, ltb}
 use lib.ListN.{length, getD, take, drop, getElem?}
 use Rattle.words.specs.Words.{given}

@@ -1,8 +1,8 @@
 -- Document 01, "Two fits compared": the premises of demand 3, and what it claims of the bytes of two buffers.
 use Prim.Native.Nat.{ℕ, _+_, _≤_, _<_}
 use mathlib.Core.Path.{_≡_}
-use mathlib.Core.Bool.{Bool, true, false, _&&_, _||_, cond}
-use mathlib.Core.List.{List, [], _∷_, List·Memᴰ}
+use mathlib.Core.Bool.{Bool, true, _&&_, _||_, cond}
+use mathlib.Core.List.{List, List·Memᴰ}
 use lib.Dec.{T, eqb, leb, ltb}
 use lib.ListN.{length, getD, take, drop}
 use lib.Ieee.{le}

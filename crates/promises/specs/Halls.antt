@@ -8,9 +8,8 @@ use lib.ListN.{length}
 use Rattle.words.specs.Words.{countOf}
 use Rattle.catalogue.specs.Catalogue.{catalogueOf}
 use Rattle.catalogue.specs.Refusals as Catalogue
-use Rattle.fitcheck.specs.Calls.{listCall}
 use Rattle.fitcheck.specs.Hall.{fitCount, fits, badInput, isClear, isFaulted, fitRefused}
-use Rattle.promises.specs.Answers.{Outcome, outcome, refusal, count, Conditions, First, None}
+use Rattle.promises.specs.Answers.{Outcome, refusal, count, Conditions, First, None}
 
 abbrev pub catalogueConditions : (catalogue : List ℕ) → Conditions
 catalogueConditions catalogue =

@@ -1,7 +1,7 @@
 -- Document 01, "Records": the numbers of the names, table by table as the rules walk them.
 use Prim.Native.Nat.{ℕ}
 use mathlib.Core.List.{List, [], _∷_, _++_, map}
-use Rattle.words.specs.Words.{each, from}
+use Rattle.words.specs.Words.{each}
 use Rattle.resource.specs.Resource.{LOADS}
 use Rattle.slot.specs.Slot.{RACKS, HARDPOINTS}
 use Rattle.item.specs.Item.{SHIP-TYPES, SHIP-GROUPS, STANDUP-FIGHTERS, GROUP-LIMITS}

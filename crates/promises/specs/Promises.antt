@@ -3,10 +3,10 @@
 -- buffer by `buffered`. Read `Answers`, `Compare`, `Walks`, `Halls`, `Edges` beside this file, and validate/specs for the list.
 use Prim.Native.Nat.{ℕ, _≤_}
 use mathlib.Core.Path.{_≡_}
-use mathlib.Core.Bool.{Bool, not}
+use mathlib.Core.Bool.{not}
 use mathlib.Core.List.{List, List·Memᴰ}
 use mathlib.Core.Logic.{_↔_}
-use mathlib.Core.Option.{Option, some}
+use mathlib.Core.Option.{some}
 use lib.Dec.{T}
 use lib.ListN.{length}
 use Rattle.words.specs.Words.{from}
@@ -22,6 +22,7 @@ use Rattle.promises.specs.Compare.{Bytes, Grown, AddedVolumes, Kept}
 use Rattle.promises.specs.Walks.{WalkOf, MoreWanted, Lacks}
 use Rattle.promises.specs.Halls.{catalogueConditions, HallAnswers, Judged}
 use Rattle.promises.specs.Names.{nameNumbers}
+use Rattle.promises.specs.Edges.{EDGES, Agree}
 
 -- the two calls, as a caller sees them
 abbrev pub listed : (catalogue fit buffer : List ℕ) → Outcome
@@ -93,6 +94,11 @@ HallFits = (catalogue fit buffer : List ℕ) → None (catalogueConditions catal
 abbrev pub Names : Type 0
 Names = nameNumbers ≡ from 0 88
 
+-- Every edge of the table comes out as written there: the starred edges of document 01, and for every rule an input where it is listed and
+-- one where it is not. The other promises would survive a comparison turned round in a rule; this one does not.
+abbrev pub Edges : Type 0
+Edges = Agree EDGES
+
 pub record Promises : Type 0 where
   pub list-answers : ListAnswers
   pub skill-answers : SkillAnswers
@@ -106,3 +112,4 @@ pub record Promises : Type 0 where
   pub hall-call : HallCall
   pub hall-fits : HallFits
   pub names : Names
+  pub edges : Edges
