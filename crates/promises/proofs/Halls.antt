@@ -147,13 +147,6 @@ or-false : (b : Bool) → T (b || false) → T b
 or-false true t = tt
 or-false false t = t
 
-above : {n : ℕ} → (n ≡ 0 → ⊥) → 0 < n
-above {n} h = go n h
-  where
-    go : (m : ℕ) → (m ≡ 0 → ⊥) → 0 < m
-    go zero k = absurd (k refl)
-    go (suc m) k = omega arith
-
 -- ---- a fit and its list call
 module _ (catalogue fit buffer : List ℕ) (fine : None (catalogueConditions catalogue)) where
   abbrev cat : Catalogue
@@ -223,7 +216,8 @@ module _ (catalogue fit buffer : List ℕ) (fine : None (catalogueConditions cat
       to-faulted : 123384 ≤ length buffer → T (isFaulted cat fit) → (refusal o ≡ 0) × (0 < count o)
       to-faulted b t =
           let a = answered n (room b) in
-          (a .0, subst (λ (m : ℕ). 0 < m) (sym (a .1)) (above {n = length es} (λ e. T-not (isEmpty es || false) (subst T faulted-is t) (or-left (isEmpty es) (empty-is es .1 e)))))
+          let z : length es ≡ 0 → ⊥ = λ e. T-not (isEmpty es || false) (subst T faulted-is t) (or-left (isEmpty es) (empty-is es .1 e)) in
+          (a .0, let e = a .1 in omega arith)
 
       from-faulted : 123384 ≤ length buffer → (refusal o ≡ 0) × (0 < count o) → T (isFaulted cat fit)
       from-faulted b h =

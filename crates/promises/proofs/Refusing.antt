@@ -1,20 +1,19 @@
--- Refusal 9: the walk is too long exactly where more than the limit of distinct skills are wanted; and a larger limit does not change a list. Assumes nothing.
-use Prim.Native.Nat.{ℕ, zero, suc, _+_, _-_, _≤_, _<_, zero-le, suc-le-suc}
-use native.Mathlib.Nat.{suc-add, le-trans, le-of-suc-le-suc, not-suc-le-zero}
-use native.Mathlib.Omega.{arith}
+-- Refusal 9: the walk is too long exactly where more than the limit of distinct skills are wanted. By counting lists of ids. Assumes nothing.
+use Prim.Native.Nat.{ℕ, suc, _≤_, _<_, zero-le, suc-le-suc}
+use native.Mathlib.Nat.{le-trans}
 use mathlib.Core.Path.{_≡_, refl, sym, ap, _∙_, subst}
 use mathlib.Core.Bool.{Bool, true, false, not, _||_}
-use mathlib.Core.List.{List, [], _∷_, append-nil, List·Memᴰ, List·Memᴰ·head, List·Memᴰ·tail, List·Memᴰ·not-nil, List·Memᴰ·cases-cons, Memᴰ·map, Memᴰ·of-map}
-use mathlib.Core.Option.{none}
+use mathlib.Core.List.{List, [], _∷_, List·Memᴰ, List·Memᴰ·head, List·Memᴰ·tail, List·Memᴰ·not-nil, List·Memᴰ·cases-cons, Memᴰ·map, Memᴰ·of-map}
 use mathlib.Core.Logic.{_⊎_, inl, inr}
 use lib.Dec.{T, T-not, ltb→lt, nltb→le}
 use lib.ListN.{length, length-map}
 use Rattle.catalogue.specs.Catalogue.{Id, Catalogue}
 use Rattle.fit.specs.Fit.{Result}
-use Rattle.words.specs.Words.{given, same, contains, anyOf}
-use Rattle.skill.specs.Skill.{Demand, noted, skillAt, met, walkTo, tooMany}
+use Rattle.words.specs.Words.{same, contains, anyOf}
+use Rattle.skill.specs.Skill.{Demand, noted, met, walkTo, tooMany}
 use Rattle.skill.specs.Wanted.{Wanted, Once}
-use Rattle.promises.proofs.Walking.{same-refl, ids, counts-wanted, met-counts, noted-from, noted-once, walked, listed-iff-wanted}
+use Rattle.promises.specs.Walks.{idsOf}
+use Rattle.promises.proofs.Walking.{same-refl, counts-wanted, met-counts, noted-from, noted-once, walked, listed-iff-wanted}
 
 -- ---- of lists of ids: one with no id twice is no longer than a list that has them all
 module _ {A : Type 0} where
@@ -67,9 +66,9 @@ module _ (limit : ℕ) (c : Catalogue) (r : Result) where
   unfolding tooMany walkTo
   refused-many h =
       let ws = noted (met c r limit) in
-      (ids ws, noted-once (met c r limit), wanted, rw (length-map ws (λ (w : Demand). w .0)) (ltb→lt limit (length ws) h))
+      (idsOf ws, noted-once (met c r limit), wanted, rw (length-map ws (λ (w : Demand). w .0)) (ltb→lt limit (length ws) h))
     where
-      wanted : (x : Id) → List·Memᴰ x (ids (noted (met c r limit))) → Wanted c r x
+      wanted : (x : Id) → List·Memᴰ x (idsOf (noted (met c r limit))) → Wanted c r x
       wanted x m =
           let h = Memᴰ·of-map (λ (w : Demand). w .0) (noted (met c r limit)) m in
           let w = h .0 in
@@ -80,29 +79,5 @@ module _ (limit : ℕ) (c : Catalogue) (r : Result) where
       let w = walked limit c r h in
       let ws = walkTo limit c r in
       le-trans
-      (once-length xs (ids ws) o (λ x m. let k = listed-iff-wanted c r ws w x .0 (f x m) in Memᴰ·map (λ (v : Demand). v .0) (k .1)))
+      (once-length xs (idsOf ws) o (λ x m. let k = listed-iff-wanted c r ws w x .0 (f x m) in Memᴰ·map (λ (v : Demand). v .0) (k .1)))
       (rw (length-map ws (λ (v : Demand). v .0)) (unfold tooMany in nltb→le limit (length ws) h))
-
--- ---- a larger limit
-at-none : (ws : List Demand) (n : ℕ) → length ws ≤ n → skillAt ws n ≡ none
-unfolding skillAt
-at-none [] n h = refl
-at-none (w ∷ ws) zero h = absurd (not-suc-le-zero h)
-at-none (w ∷ ws) (suc n) h = at-none ws n (le-of-suc-le-suc h)
-
-module _ (c : Catalogue) (r : Result) where
-  met-step : (m : ℕ) → length (noted (met c r m)) ≤ m → met c r (suc m) ≡ met c r m
-  unfolding met given
-  met-step m h = rw (at-none (noted (met c r m)) m h) (append-nil (met c r m))
-
-  met-stays : (n k : ℕ) → length (noted (met c r n)) ≤ n → met c r (k + n) ≡ met c r n
-  met-stays n zero h = ap (met c r) (omega arith)
-  met-stays n (suc k) h =
-      let e = met-stays n k h in
-      rw suc-add (met-step (k + n) (rw e (le-trans h (omega arith))) ∙ e)
-
-  pub same-walk : (small large : ℕ) → small ≤ large → T (not (tooMany small c r)) → walkTo large c r ≡ walkTo small c r
-  unfolding walkTo tooMany
-  same-walk small large h t =
-      let e : large - small + small ≡ large = omega arith in
-      ap noted (subst (λ (m : ℕ). met c r m ≡ met c r small) e (met-stays small (large - small) (nltb→le small (length (noted (met c r small))) t)))

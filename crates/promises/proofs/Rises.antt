@@ -103,50 +103,25 @@ module _ (t : Target) where
   stays (same {r}) s s′ =
       record { bytes = refl; resource = own r s; slots = λ _. le-refl _; skill = λ _. le-refl _; maxGroup = λ _. le-refl _; maxType = λ _. le-refl _ }
   stays (resource {r = k} {u = u} {v = v} {a = a} h) s s′ =
-      record {
-        bytes = refl;
-        resource = λ _. subst₂ (λ (x y : Float). T (Ieee.le x y)) (sym (resource-back k u a (s .0))) (sym (resource-back k v a (s′ .0))) h;
-        slots = λ q. absurd (omega arith);
-        skill = λ q. absurd (omega arith);
-        maxGroup = λ q. absurd (omega arith);
-        maxType = λ q. absurd (omega arith);
-      }
+      let e : T (Ieee.le (f64At (bytes (Resource k u a)) 8) (f64At (bytes (Resource k v a)) 8)) =
+      subst₂ (λ (x y : Float). T (Ieee.le x y)) (sym (resource-back k u a (s .0))) (sym (resource-back k v a (s′ .0))) h in
+      record { bytes = refl; resource = λ _. e; slots = omega arith; skill = omega arith; maxGroup = omega arith; maxType = omega arith }
   stays (slots {u = u} {v = v} h) s s′ =
-      record {
-        bytes = refl;
-        resource = λ q. absurd (omega arith);
-        slots = λ _. omega (arith, four u s, four v s′);
-        skill = λ q. absurd (omega arith);
-        maxGroup = λ q. absurd (omega arith);
-        maxType = λ q. absurd (omega arith);
-      }
+      let p = four u s in
+      let q = four v s′ in
+      record { bytes = refl; resource = λ n. absurd (omega arith); slots = omega arith; skill = omega arith; maxGroup = omega arith; maxType = omega arith }
   stays (skill {l = l} {m = m} h) s s′ =
-      record {
-        bytes = refl;
-        resource = λ q. absurd (omega arith);
-        slots = λ q. absurd (omega arith);
-        skill = λ _. omega (arith, four l s, four m s′);
-        maxGroup = λ q. absurd (omega arith);
-        maxType = λ q. absurd (omega arith);
-      }
+      let p = four l s in
+      let q = four m s′ in
+      record { bytes = refl; resource = λ n. absurd (omega arith); slots = omega arith; skill = omega arith; maxGroup = omega arith; maxType = omega arith }
   stays (maxGroup {u = u} {v = v} h) s s′ =
-      record {
-        bytes = refl;
-        resource = λ q. absurd (omega arith);
-        slots = λ q. absurd (omega arith);
-        skill = λ q. absurd (omega arith);
-        maxGroup = λ _. omega (arith, four u s, four v s′);
-        maxType = λ q. absurd (omega arith);
-      }
+      let p = four u s in
+      let q = four v s′ in
+      record { bytes = refl; resource = λ n. absurd (omega arith); slots = omega arith; skill = omega arith; maxGroup = omega arith; maxType = omega arith }
   stays (maxType {u = u} {v = v} h) s s′ =
-      record {
-        bytes = refl;
-        resource = λ q. absurd (omega arith);
-        slots = λ q. absurd (omega arith);
-        skill = λ q. absurd (omega arith);
-        maxGroup = λ q. absurd (omega arith);
-        maxType = λ _. omega (arith, four u s, four v s′);
-      }
+      let p = four u s in
+      let q = four v s′ in
+      record { bytes = refl; resource = λ n. absurd (omega arith); slots = omega arith; skill = omega arith; maxGroup = omega arith; maxType = omega arith }
 
 pub covers-stays : (a b : Entry) → Covers a b → Sound (a .rule) → Sound (b .rule) → Stays (entryBytes a) (entryBytes b)
 covers-stays a b h s s′ = subst (λ (t : Target). Stays (entryBytes a) (entryBytes (record { target = t; rule = b .rule }))) (h .target) (stays (a .target) (h .rule) s s′)

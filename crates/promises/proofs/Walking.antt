@@ -1,4 +1,4 @@
--- The walk's list is what `Walked` says, where it is not refused. Assumes nothing.
+-- The walk's list is what `Walked` says, where it is not refused. By induction on the demands noted and on the steps walked. Assumes nothing.
 use Prim.Native.Nat.{ℕ, zero, suc, max, _≤_, _<_, zero-le, suc-le-suc}
 use native.Mathlib.Nat.{le-refl, le-trans, le-of-suc-le-suc, not-suc-le-zero, eq-or-lt-of-le}
 use native.Mathlib.Decide.{decLe}
@@ -15,6 +15,7 @@ use Rattle.catalogue.specs.Catalogue.{Id, Catalogue}
 use Rattle.fit.specs.Fit.{Result}
 use Rattle.words.specs.Words.{given, same, contains, anyOf}
 use Rattle.skill.specs.Skill.{Demand, ofResult, ofSkill, note, noted, skillAt, met, walkTo, tooMany}
+use Rattle.promises.specs.Walks.{idsOf}
 use Rattle.skill.specs.Wanted.{Wanted, asked, needed, Counts, Once, Walked}
 
 -- ---- the test on ids
@@ -103,9 +104,6 @@ note-at (w ∷ ws) d (suc n) t e = go (same (w .0) (d .0)) (note-at ws d n t e)
     go true h = e
     go false h = h
 
-abbrev pub ids : List Demand → List Id
-ids ws = map (λ (w : Demand). w .0) ws
-
 -- no id twice
 or-not : (a b : Bool) → T (not (a || b)) → T (not a) × T (not b)
 or-not true b h = absurd h
@@ -115,24 +113,24 @@ not-or : (a b : Bool) → T (not a) → T (not b) → T (not (a || b))
 not-or true b h k = absurd h
 not-or false b h k = k
 
-note-misses : (x : Id) (ws : List Demand) (d : Demand) → T (not (same x (d .0))) → T (not (contains x (ids ws))) → T (not (contains x (ids (note ws d))))
+note-misses : (x : Id) (ws : List Demand) (d : Demand) → T (not (same x (d .0))) → T (not (contains x (idsOf ws))) → T (not (contains x (idsOf (note ws d))))
 unfolding note contains anyOf
 note-misses x [] d h k = not-or (same x (d .0)) false h tt
 note-misses x (w ∷ ws) d h k =
-    let a = or-not (same x (w .0)) (anyOf (same x) (ids ws)) k in
+    let a = or-not (same x (w .0)) (anyOf (same x) (idsOf ws)) k in
     go (same (w .0) (d .0)) a (note-misses x ws d h (a .1))
   where
-    go : (b : Bool) → T (not (same x (w .0))) × T (not (anyOf (same x) (ids ws))) → T (not (anyOf (same x) (ids (note ws d))))
-        → T (not (anyOf (same x) (ids (cond b ((w .0, max (w .1) (d .1)) ∷ ws) (w ∷ note ws d)))))
+    go : (b : Bool) → T (not (same x (w .0))) × T (not (anyOf (same x) (idsOf ws))) → T (not (anyOf (same x) (idsOf (note ws d))))
+        → T (not (anyOf (same x) (idsOf (cond b ((w .0, max (w .1) (d .1)) ∷ ws) (w ∷ note ws d)))))
     go true a r = not-or (same x (w .0)) _ (a .0) (a .1)
     go false a r = not-or (same x (w .0)) _ (a .0) r
 
-note-once : (ws : List Demand) (d : Demand) → Once (ids ws) → Once (ids (note ws d))
+note-once : (ws : List Demand) (d : Demand) → Once (idsOf ws) → Once (idsOf (note ws d))
 unfolding note
 note-once [] d h = (unfold contains anyOf in tt, tt)
 note-once (w ∷ ws) d h = go (same (w .0) (d .0)) refl (note-once ws d (h .1))
   where
-    go : (b : Bool) → same (w .0) (d .0) ≡ b → Once (ids (note ws d)) → Once (ids (cond b ((w .0, max (w .1) (d .1)) ∷ ws) (w ∷ note ws d)))
+    go : (b : Bool) → same (w .0) (d .0) ≡ b → Once (idsOf (note ws d)) → Once (idsOf (cond b ((w .0, max (w .1) (d .1)) ∷ ws) (w ∷ note ws d)))
     go true e r = h
     go false e r = (note-misses (w .0) ws d (subst (λ (b : Bool). T (not b)) (sym e) tt) (h .0), r)
 
@@ -164,7 +162,7 @@ fold-at : (ds ws : List Demand) (n : ℕ) (t : Id) → skillAt ws n ≡ some t �
 fold-at [] ws n t e = e
 fold-at (d ∷ ds) ws n t e = fold-at ds (note ws d) n t (note-at ws d n t e)
 
-fold-once : (ds ws : List Demand) → Once (ids ws) → Once (ids (foldl note ws ds))
+fold-once : (ds ws : List Demand) → Once (idsOf ws) → Once (idsOf (foldl note ws ds))
 fold-once [] ws h = h
 fold-once (d ∷ ds) ws h = fold-once ds (note ws d) (note-once ws d h)
 
@@ -177,7 +175,7 @@ pub noted-at : (ds es : List Demand) (n : ℕ) (t : Id) → skillAt (noted ds) n
 unfolding noted
 noted-at ds es n t e = rw foldl-append (fold-at es (foldl note [] ds) n t e)
 
-pub noted-once : (ds : List Demand) → Once (ids (noted ds))
+pub noted-once : (ds : List Demand) → Once (idsOf (noted ds))
 unfolding noted
 noted-once ds = fold-once ds [] tt
 

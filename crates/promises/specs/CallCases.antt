@@ -109,7 +109,7 @@ sized skills items results = words (skills ∷ items ∷ results ∷ 0 ∷ 0 ∷
 
 -- a fit of one item: slot kind, zero byte, index
 abbrev holding : ℕ → ℕ → ℕ → List ℕ
-holding slot zero index = words (0 ∷ 1 ∷ 0 ∷ 0 ∷ 0 ∷ 0 ∷ 0 ∷ []) ++ words (0 ∷ 0 ∷ []) ++ (slot ∷ zero ∷ le 2 index) ++ replicate 8 0
+holding slot pad index = words (0 ∷ 1 ∷ 0 ∷ 0 ∷ 0 ∷ 0 ∷ 0 ∷ []) ++ words (0 ∷ 0 ∷ []) ++ (slot ∷ pad ∷ le 2 index) ++ replicate 8 0
 
 -- refusals
 abbrev listRefuses : List ℕ → List ℕ → ℕ → Case
@@ -163,8 +163,8 @@ CALLS =
     ∷ listRefuses bare (holding 11 0 1) 6
     -- 7: two active stacks, 4,294,967,295 and 1
     ∷ listRefuses small (launching 4294967295 1) 7
-    -- the word's halves of the sum that is left are the two numbers of the one entry
-    ∷ (ListCall small (launching 4294967294 1) (replicate 24 7), Returns 42949672960 (replicate 24 7))
+    -- one less: 4,294,967,295.0 of 0, and two that are no drones
+    ∷ (ListCall small (launching 4294967294 1) (replicate 72 7), Returns 3 (words (0x00050100 ∷ 0 ∷ 0xFFE00000 ∷ 0x41EFFFFF ∷ 0 ∷ 0 ∷ []) ++ words (0x00000501 ∷ 0 ∷ 0 ∷ 0 ∷ 0 ∷ 0 ∷ []) ++ words (0x00000501 ∷ 1 ∷ 0 ∷ 0 ∷ 0 ∷ 0 ∷ [])))
     -- 8: result 2 with R = 0
     ∷ (SkillCall bare empty 2 [], Returns (8 * 4294967296) [])
     ∷ (SkillCall bare empty 1 [], Returns 0 [])

@@ -12,7 +12,7 @@ use Rattle.fit.specs.Fit.{Result, Fit}
 use Rattle.entry.specs.declared.Rule.the-variants.{CapitalItem, Skill}
 use Rattle.entry.specs.Entries.{onShip, onItem}
 use Rattle.promises.specs.Cases.{ship, gun, known, has, attribute, result, one, fit, Unsigned, Signed, Over, AnyOver, Fitted, Walked, Exceeds, Skilled, Number, Integer, Holds, HoldsOf, Entries, Demands, outcomeOf, Case}
-use Rattle.promises.specs.RuleCases.{KINDS, RESOURCES, SLOTS, ITEMS}
+use Rattle.promises.specs.RuleCases.{KINDS, RESOURCES, SLOTS, ITEMS, ORDER}
 use Rattle.promises.specs.CallCases.{ENTRIES, CALLS}
 
 -- ---- skills
@@ -95,7 +95,7 @@ SKILLS =
     ∷ []
 
 abbrev pub EDGES : List Case
-EDGES = STARRED ++ SKILLS ++ KINDS ++ RESOURCES ++ SLOTS ++ ITEMS ++ ENTRIES ++ CALLS
+EDGES = STARRED ++ SKILLS ++ KINDS ++ RESOURCES ++ SLOTS ++ ITEMS ++ ORDER ++ ENTRIES ++ CALLS
 
 -- the definitions give every outcome of a table
 abbrev pub Agree : List Case → Type 0

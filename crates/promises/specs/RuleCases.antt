@@ -243,3 +243,58 @@ ITEMS =
     ∷ lists (75 ∷ []) (fit ship [] (alone (one gun 11 0 (has 75 (ofNat 0) ∷ [])))) []
     ∷ lists [] (fit ship [] (alone (inState 0 1 (has 75 (ofNat 0) ∷ [])))) []
     ∷ []
+
+-- ---- all at once: the order of `validate`, of its files and of the eight slot checks
+abbrev manifest : List Thing
+manifest =
+    stack 1 gun 0 0 2 (has 34 (ofNat 7) ∷ has 67 (ofNat 4000) ∷ has 72 (ofNat 0) ∷ has 73 (ofNat 0) ∷ has 74 (ofNat 0) ∷ has 75 (ofNat 0) ∷ [])
+    ∷ one turret 0 0 []
+    ∷ one shield 3 0 (has 33 (ofNat 2) ∷ [])
+    ∷ stack 2 drone 10 0 2 []
+    ∷ stack 2 ore 11 0 0 []
+    ∷ one gun 8 3 (has 30 (ofNat 4) ∷ [])
+    ∷ covers 4 0 (ofNat 125)
+    ∷ covers 4 1 (ofNat 125)
+    ∷ one standupGun 5 0 []
+    ∷ one drone 0 1 []
+    ∷ one gun 10 0 []
+    ∷ one gun 7 0 []
+    ∷ []
+
+abbrev broken : Fit
+broken = record {
+  frame = record { ship = ship; modeFlag = 1; mode = gun; hull = result 0 (has 0 (ofNat 5) ∷ has 33 (ofNat 1) ∷ []); character = result 0 (has 20 (ofNat 1) ∷ []) };
+  skills = gun ∷ [];
+  levels = 5 ∷ [];
+  items = map (λ t. t .0) manifest;
+  results = map (λ t. t .1) manifest;
+}
+
+abbrev pub ORDER : List Case
+ORDER =
+    lists (from 0 88) broken
+    (onShip NotAMode ∷ onShip (NotASkill gun)
+    ∷ over 0 5 0 ∷ over 5 2 1 ∷ over 11 5 0
+    ∷ onShip (Slots 0 3 0) ∷ onShip (Slots 3 1 0) ∷ onShip (Slots 4 2 0) ∷ onShip (Slots 5 1 0)
+    ∷ onShip (Slots 6 1 0)
+    ∷ onItem 0 SlotTaken
+    ∷ onItem 1 SlotTaken
+    ∷ onItem 2 (WrongSlot 1)
+    ∷ onItem 5 NotAnImplant ∷ onItem 5 (WrongSlotIndex 4)
+    ∷ onItem 6 SubsystemTaken
+    ∷ onItem 7 SubsystemTaken
+    ∷ onItem 9 NotAModule
+    ∷ onItem 10 NotADrone
+    ∷ onItem 11 NotAFighter
+    ∷ onItem 2 (RigSize 1 2)
+    ∷ onItem 0 ShipRestricted
+    ∷ onItem 0 CapitalItem
+    ∷ onItem 8 StructureItem
+    ∷ onItem 0 (MaxGroup (pos 50) 0 1 0) ∷ onItem 0 (MaxGroup (pos 50) 1 1 0) ∷ onItem 0 (MaxGroup (pos 50) 2 1 0)
+    ∷ onItem 0 (MaxType gun 1 0) ∷ [])
+    -- pairs that fail several of the eight checks
+    ∷ lists (from 30 3) (fit ship [] (pair (one ore 9 1 (has 31 (ofNat 2) ∷ [])) (one ore 9 1 [])))
+    (onItem 0 NotAnImplant ∷ onItem 0 SlotTaken ∷ onItem 0 (WrongSlotIndex 2) ∷ onItem 1 NotAnImplant ∷ onItem 1 SlotTaken ∷ [])
+    ∷ lists (32 ∷ []) (fit ship [] (pair (one shield 4 0 (has 32 (ofNat 1) ∷ [])) (one drone 4 0 (has 32 (ofNat 1) ∷ []))))
+    (onItem 0 (WrongSlot 1) ∷ onItem 0 SlotTaken ∷ onItem 0 SubsystemTaken ∷ onItem 1 NotAModule ∷ onItem 1 SlotTaken ∷ onItem 1 SubsystemTaken ∷ [])
+    ∷ []
