@@ -1,5 +1,6 @@
 -- What a call gives, from the first of its conditions that holds. By cases on that number. Assumes nothing.
 use Prim.Native.Nat.{ℕ, zero, suc, _+_, _*_, _-_, _^_, _≤_, _<_, suc-le-suc, zero-le}
+use native.Mathlib.Nat.{le-of-suc-le-suc, not-suc-le-zero}
 use native.Mathlib.Omega.{arith}
 use mathlib.Core.Path.{_≡_, refl, ap, _∙_}
 use mathlib.Core.List.{List, [], _∷_, _++_}
@@ -19,6 +20,11 @@ pub elem-at : {A : Type 0} (l : List A) (i : ℕ) (x : A) → getElem? l i ≡ s
 elem-at [] i x e = absurd (let z : _≡_ {A = ℕ} 0 1 = cc in omega arith)
 elem-at (y ∷ l) zero x e = (suc-le-suc zero-le, Option·some-injective y x e)
 elem-at (y ∷ l) (suc i) x e = let h = elem-at l i x e in (suc-le-suc (h .0), h .1)
+
+pub elem-of : {A : Type 0} (d : A) (l : List A) (i : ℕ) → i < length l → getElem? l i ≡ some (getD l i d)
+elem-of d [] i h = absurd (not-suc-le-zero h)
+elem-of d (x ∷ l) zero h = refl
+elem-of d (x ∷ l) (suc i) h = elem-of d l i (le-of-suc-le-suc h)
 
 -- ---- the call
 module _ (l : Conditions) (numbered : Numbered l) (es : List Entry) (before : List ℕ)

@@ -5,7 +5,6 @@ use native.Mathlib.Omega.{arith}
 use mathlib.Core.Path.{_≡_, refl, sym, ap, ap₂, _∙_, subst, subst₂}
 use mathlib.Core.Bool.{Bool, true, false, cond}
 use mathlib.Core.List.{List, [], _∷_, _++_}
-use mathlib.Core.Option.{some}
 use lib.Dec.{ltb→lt, lt→ltb, nltb→le}
 use lib.ListN.{length, getD, drop, getElem?}
 use Rattle.words.specs.Words.{same}
@@ -26,14 +25,10 @@ use Rattle.promises.proofs.Growth.{Within, begins, list-grows}
 use Rattle.promises.proofs.All.{All, all-at, all-mem, all-drop, all-table}
 use Rattle.promises.proofs.Sounds.{AllSound, list-sound, skills-sound}
 use Rattle.promises.proofs.Lengths.{pairs-short}
+use Rattle.promises.proofs.Answering.{elem-of}
 use Rattle.promises.proofs.Calls.{list-answers, skill-answers}
 
 -- ---- from entries to the bytes in two buffers
-elem-of : {A : Type 0} (d : A) (l : List A) (i : ℕ) → i < length l → getElem? l i ≡ some (getD l i d)
-elem-of d [] i h = absurd (not-suc-le-zero h)
-elem-of d (x ∷ l) zero h = refl
-elem-of d (x ∷ l) (suc i) h = elem-of d l i (le-of-suc-le-suc h)
-
 module _ {es fs : List Entry} {cs ds : Conditions} {b b′ : List ℕ} {o o′ : Outcome}
     (A : Answers cs es b o) (A′ : Answers ds fs b′ o′) (answered : refusal o ≡ 0) (answered′ : refusal o′ ≡ 0)
     (p : Within es fs) (s : AllSound es) (s′ : AllSound fs) where

@@ -4,7 +4,7 @@ use Rattle.words.specs.Words.{each, tableFrom}
 use Rattle.promises.specs.Promises.{Names, Promises}
 use Rattle.promises.proofs.Calls.{list-answers, skill-answers, list-room, skill-room}
 use Rattle.promises.proofs.Comparing.{list-kept, skills-kept}
-use Rattle.promises.proofs.Wanting.{walk-of, lacks, more-wanted}
+use Rattle.promises.proofs.Wanting.{more-wanted, skill-lists}
 use Rattle.promises.proofs.Halls.{hall-answers, judged}
 use Rattle.promises.proofs.Edges.{edges}
 
@@ -20,8 +20,7 @@ promised = record {
   skill-room = skill-room;
   list-kept = list-kept;
   skill-kept = skills-kept;
-  walk = walk-of 512;
-  skill-entries = lacks;
+  skill-lists = skill-lists;
   too-many = more-wanted 512;
   hall-call = hall-answers;
   hall-fits = judged;

@@ -1,5 +1,5 @@
 -- The list of wanted skills and the entries made of it, said without the walk. From `Walking`, `Refusing` and `Meeting`. Assumes nothing.
-use Prim.Native.Nat.{ℕ, _≤_}
+use Prim.Native.Nat.{ℕ, _+_, _≤_}
 use native.Mathlib.Nat.{le-antisymm}
 use native.Mathlib.Omega.{arith}
 use mathlib.Core.Path.{_≡_, refl, sym, ap, _∙_, subst}
@@ -7,20 +7,24 @@ use mathlib.Core.Bool.{Bool, true, false, not}
 use mathlib.Core.List.{List, [], _∷_, List·Memᴰ, List·Memᴰ·head, List·Memᴰ·tail, List·Memᴰ·not-nil, List·Memᴰ·append-cases, List·Memᴰ·eq-of-singleton, Memᴰ·append-left, Memᴰ·append-right, Memᴰ·map}
 use mathlib.Core.Option.{Option, some}
 use mathlib.Core.Logic.{_⊎_, _↔_, inl, inr}
-use lib.Dec.{T, T-not, ltb, ltb→lt, lt→ltb}
-use lib.ListN.{length}
-use Rattle.words.specs.Words.{_>>=_, each, when, contains}
-use Rattle.catalogue.specs.Catalogue.{Id, Catalogue}
-use Rattle.fit.specs.Fit.{Result, Fit, resultAt}
+use lib.Dec.{T, T-not, ltb, ltb→lt, lt→ltb, nltb→le}
+use lib.ListN.{length, getD, getElem?}
+use Rattle.words.specs.Words.{_>>=_, each, when, given, contains}
+use Rattle.catalogue.specs.Catalogue.{Id, Catalogue, catalogueOf}
+use Rattle.fit.specs.Fit.{Result, Fit, allResults, resultAt, fitOf}
 use Rattle.fit.specs.Lookups.{trained}
 use Rattle.entry.specs.declared.Rule.the-variants.{Skill}
 use Rattle.entry.specs.declared.Entry.{Entry}
 use Rattle.skill.specs.Skill.{Demand, walkTo, tooMany, targetOf, skillList}
 use Rattle.skill.specs.Wanted.{Wanted, Once, Walked}
-use Rattle.promises.specs.Walks.{Highest, idsOf, WalkOf, MoreWanted, Lacks}
+use Rattle.fitcheck.specs.Calls.{skillCall}
+use Rattle.promises.specs.Answers.{outcome, refusal}
+use Rattle.promises.specs.Walks.{Highest, idsOf, WalkOf, MoreWanted, Lacks, SkillsOf}
 use Rattle.promises.proofs.Walking.{walked, listed-iff-wanted}
 use Rattle.promises.proofs.Refusing.{mem-contains, refused-many, answered-few}
 use Rattle.promises.proofs.Meeting.{walk-order}
+use Rattle.promises.proofs.Answering.{elem-of}
+use Rattle.promises.proofs.Calls.{skill-answers}
 
 twice : (w : Demand) (ws : List Demand) → Once (idsOf (w ∷ ws)) → (s : Id) (l : ℕ) → s ≡ w .0 → List·Memᴰ (s, l) ws → ⊥
 twice w ws o s l e m = T-not (contains (w .0) (idsOf ws)) (o .0) (subst (λ (x : Id). T (contains x (idsOf ws))) e (mem-contains s (idsOf ws) (Memᴰ·map (λ (d : Demand). d .0) m)))
@@ -49,7 +53,7 @@ level-is c r ws w s l = (to, from)
         let k = w .highest s l (h .demanded) in
         subst (λ (x : ℕ). List·Memᴰ (s, x) ws) (le-antisymm (h .most (k .0) (w .sound s (k .0) (k .1))) (k .2)) (k .1)
 
-pub walk-of : (limit : ℕ) (c : Catalogue) (r : Result) → T (not (tooMany limit c r)) → WalkOf c r (walkTo limit c r)
+walk-of : (limit : ℕ) (c : Catalogue) (r : Result) → T (not (tooMany limit c r)) → WalkOf c r (walkTo limit c r)
 walk-of limit c r h =
     let w = walked limit c r h in
     record {
@@ -107,7 +111,7 @@ module _ (c : Catalogue) (f : Fit) (n : ℕ) where
   unfolding skillList _>>=_ level entry skillsOf
   list-is r q = ap (λ (o : Option Result). _>>=_ o λ s. skillsOf s) q
 
-  pub lacks : (r : Result) → resultAt f n ≡ some r → T (not (tooMany 512 c r)) → (e : Entry) → List·Memᴰ e (skillList c f n) ↔ Lacks c f n r e
+  lacks : (r : Result) → resultAt f n ≡ some r → T (not (tooMany 512 c r)) → (e : Entry) → List·Memᴰ e (skillList c f n) ↔ Lacks c f n r e
   unfolding level entry skillsOf
   lacks r q h e = (to, from)
     where
@@ -125,3 +129,17 @@ module _ (c : Catalogue) (f : Fit) (n : ℕ) where
       from k =
           subst (λ (l : List Entry). List·Memᴰ e l) (sym (list-is r q))
           (each-has _ e (w (k .0) (k .1) .1 (k .2)) (when-has (ltb (level (k .0)) (k .1)) _ e (lt→ltb _ _ (k .3)) (k .4)))
+
+-- ---- an answered call
+pub skill-lists : (catalogue fit : List ℕ) (result : ℕ) (buffer : List ℕ) → refusal (outcome buffer (skillCall catalogue fit result buffer)) ≡ 0
+    → SkillsOf (catalogueOf catalogue) (fitOf fit) result
+unfolding resultAt given
+skill-lists catalogue fit n buffer h =
+    let c = catalogueOf catalogue in
+    let f = fitOf fit in
+    let a = skill-answers catalogue fit n buffer .answered .0 h .1 .1 .1 .1 .1 .1 in
+    let l = nltb→le (length (f .results) + 1) n (a .0) in
+    let r = getD (allResults f) n (f .frame .hull) in
+    let e : getElem? (allResults f) n ≡ some r = elem-of (f .frame .hull) (allResults f) n (omega arith) in
+    let few : T (not (tooMany 512 c r)) = subst (λ (o : Option Result). T (not (given o false (tooMany 512 c)))) e (a .1 .0) in
+    record { result = r; found = e; walk = walk-of 512 c r few; entries = lacks c f n r e few }

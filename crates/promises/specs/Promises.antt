@@ -3,23 +3,20 @@
 -- buffer by `buffered`. Read `Answers`, `Compare`, `Walks`, `Halls`, `Edges` beside this file, and validate/specs for the list.
 use Prim.Native.Nat.{ℕ, _≤_}
 use mathlib.Core.Path.{_≡_}
-use mathlib.Core.Bool.{not}
-use mathlib.Core.List.{List, List·Memᴰ}
+use mathlib.Core.List.{List}
 use mathlib.Core.Logic.{_↔_}
-use mathlib.Core.Option.{some}
 use lib.Dec.{T}
 use lib.ListN.{length}
 use Rattle.words.specs.Words.{from}
 use Rattle.catalogue.specs.Catalogue.{Catalogue, catalogueOf}
-use Rattle.fit.specs.Fit.{Result, Fit, resultAt, fitOf}
-use Rattle.entry.specs.declared.Entry.{Entry}
+use Rattle.fit.specs.Fit.{Result, fitOf}
 use Rattle.validate.specs.Validate.{listOf}
-use Rattle.skill.specs.Skill.{wantedSkills, tooMany, skillList}
+use Rattle.skill.specs.Skill.{tooMany, skillList}
 use Rattle.fitcheck.specs.Calls.{listCall, skillCall}
 use Rattle.fitcheck.specs.Hall.{hallCall, hallReturned}
 use Rattle.promises.specs.Answers.{Outcome, outcome, refusal, listConditions, skillConditions, None, Answers}
 use Rattle.promises.specs.Compare.{Bytes, Grown, AddedVolumes, Kept}
-use Rattle.promises.specs.Walks.{WalkOf, MoreWanted, Lacks}
+use Rattle.promises.specs.Walks.{MoreWanted, SkillsOf}
 use Rattle.promises.specs.Halls.{catalogueConditions, HallAnswers, Judged}
 use Rattle.promises.specs.Names.{nameNumbers}
 use Rattle.promises.specs.Edges.{EDGES, Agree}
@@ -67,15 +64,11 @@ SkillKept = (catalogue old new oldBuffer newBuffer : List ℕ) (result : ℕ)
     → refusal (skills catalogue new result newBuffer) ≡ 0
     → Kept (skills catalogue old result oldBuffer) (skills catalogue new result newBuffer)
 
--- The walk of a result that wants at most 512 skills lists the wanted ones and no other, each once, in the order met, at the highest level
--- demanded.
-abbrev pub Walk : Type 0
-Walk = (c : Catalogue) (r : Result) → T (not (tooMany 512 c r)) → WalkOf c r (wantedSkills c r)
-
--- Its entries: the wanted skills that are trained below the highest level demanded.
-abbrev pub SkillEntries : Type 0
-SkillEntries = (c : Catalogue) (f : Fit) (n : ℕ) (r : Result) → resultAt f n ≡ some r → T (not (tooMany 512 c r))
-    → (e : Entry) → List·Memᴰ e (skillList c f n) ↔ Lacks c f n r e
+-- The walk. An answered skill call is about a result that wants at most 512 skills. Its walk lists the wanted skills and no other, each
+-- once, in the order met, at the highest level demanded; an entry is made of each that is trained below that.
+abbrev pub SkillLists : Type 0
+SkillLists = (catalogue fit : List ℕ) (result : ℕ) (buffer : List ℕ) → refusal (skills catalogue fit result buffer) ≡ 0
+    → SkillsOf (catalogueOf catalogue) (fitOf fit) result
 
 -- The condition of refusal 9: more than 512 distinct skills are wanted.
 abbrev pub TooMany : Type 0
@@ -106,8 +99,7 @@ pub record Promises : Type 0 where
   pub skill-room : SkillRoom
   pub list-kept : ListKept
   pub skill-kept : SkillKept
-  pub walk : Walk
-  pub skill-entries : SkillEntries
+  pub skill-lists : SkillLists
   pub too-many : TooMany
   pub hall-call : HallCall
   pub hall-fits : HallFits

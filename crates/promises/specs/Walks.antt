@@ -4,14 +4,15 @@ use mathlib.Core.Path.{_≡_}
 use mathlib.Core.Bool.{cond}
 use mathlib.Core.List.{List, [], _∷_, _++_, foldl, map, List·Memᴰ}
 use mathlib.Core.Logic.{_↔_}
+use mathlib.Core.Option.{some}
 use lib.ListN.{length}
 use Rattle.words.specs.Words.{each, contains}
 use Rattle.catalogue.specs.Catalogue.{Id, Catalogue}
-use Rattle.fit.specs.Fit.{Result, Fit}
+use Rattle.fit.specs.Fit.{Result, Fit, resultAt}
 use Rattle.fit.specs.Lookups.{trained}
 use Rattle.entry.specs.declared.Rule.the-variants.{Skill}
 use Rattle.entry.specs.declared.Entry.{Entry}
-use Rattle.skill.specs.Skill.{Demand, ofResult, ofSkill, targetOf}
+use Rattle.skill.specs.Skill.{Demand, ofResult, ofSkill, wantedSkills, targetOf, skillList}
 use Rattle.skill.specs.Wanted.{Wanted, Counts, Once, Walked}
 
 -- the highest level that the result or a wanted skill demands of a skill
@@ -50,3 +51,10 @@ abbrev pub Lacks : Catalogue → Fit → ℕ → Result → Entry → Type 0
 Lacks c f n r e =
     (s : Id) × (l : ℕ) × Highest c r s l × (trained (f .skills) (f .levels) s < l)
     × (e ≡ record { target = targetOf n; rule = Skill s l (trained (f .skills) (f .levels) s) })
+
+-- the skill list of result number n: the result, the skills that it wants, and the entries made of them
+pub record SkillsOf (c : Catalogue) (f : Fit) (n : ℕ) : Type 0 where
+  pub result : Result
+  pub found : resultAt f n ≡ some result
+  pub walk : WalkOf c result (wantedSkills c result)
+  pub entries : (e : Entry) → List·Memᴰ e (skillList c f n) ↔ Lacks c f n result e
