@@ -1,0 +1,101 @@
+-- Numbers with conditions: which is the first that holds. By cases on the conditions, one after the other. Assumes nothing.
+use Prim.Native.Nat.{ℕ, _≤_, _<_, zero-le, pred}
+use native.Mathlib.Omega.{arith}
+use mathlib.Core.Path.{_≡_, refl}
+use mathlib.Core.Bool.{Bool, true, false, not, cond}
+use mathlib.Core.List.{[], _∷_, _++_}
+use mathlib.Core.Logic.{_⊎_, inl, inr}
+use lib.Dec.{T}
+use Rattle.words.specs.Words.{firstOf}
+use Rattle.promises.specs.Answers.{Conditions, First, None}
+
+pub first-is : (n : ℕ) (l : Conditions) → First n l → firstOf l ≡ n
+unfolding firstOf
+first-is n [] h = absurd h
+first-is n (x ∷ l) h = go (x .1) (first-is n l) h
+  where
+    go : (b : Bool) → (First n l → firstOf l ≡ n) → ((x .0 ≡ n) × T b) ⊎ (T (not b) × First n l) → cond b (x .0) (firstOf l) ≡ n
+    go true f (inl h) = h .0
+    go true f (inr h) = absurd (h .0)
+    go false f (inl h) = absurd (h .1)
+    go false f (inr h) = f (h .1)
+
+pub is-first : (n : ℕ) → 0 < n → (l : Conditions) → firstOf l ≡ n → First n l
+unfolding firstOf
+is-first n p [] e = absurd (omega arith)
+is-first n p (x ∷ l) e = go (x .1) (is-first n p l) e
+  where
+    go : (b : Bool) → (firstOf l ≡ n → First n l) → cond b (x .0) (firstOf l) ≡ n → ((x .0 ≡ n) × T b) ⊎ (T (not b) × First n l)
+    go true f e = inl (e, tt)
+    go false f e = inr (tt, f e)
+
+pub none-is : (l : Conditions) → None l → firstOf l ≡ 0
+unfolding firstOf
+none-is [] h = refl
+none-is (x ∷ l) h = go (x .1) (h .0) (none-is l (h .1))
+  where
+    go : (b : Bool) → T (not b) → firstOf l ≡ 0 → cond b (x .0) (firstOf l) ≡ 0
+    go true h e = absurd h
+    go false h e = e
+
+-- every number is one of 1 to 10
+abbrev pub Numbered : Conditions → Type 0
+Numbered [] = Unit {0}
+Numbered (x ∷ l) = (0 < x .0) × (x .0 ≤ 10) × Numbered l
+
+pub is-none : (l : Conditions) → Numbered l → firstOf l ≡ 0 → None l
+unfolding firstOf
+is-none [] h e = tt
+is-none (x ∷ l) h e = go (x .1) (is-none l (h .2)) e
+  where
+    go : (b : Bool) → (firstOf l ≡ 0 → None l) → cond b (x .0) (firstOf l) ≡ 0 → T (not b) × None l
+    go true f e = absurd (omega arith)
+    go false f e = (tt, f e)
+
+pub first-small : (l : Conditions) → Numbered l → firstOf l ≤ 10
+unfolding firstOf
+first-small [] h = zero-le
+first-small (x ∷ l) h = go (x .1) (first-small l (h .2))
+  where
+    go : (b : Bool) → firstOf l ≤ 10 → cond b (x .0) (firstOf l) ≤ 10
+    go true k = h .1
+    go false k = k
+
+-- ---- conditions behind others
+pub prefix-first : (n : ℕ) (l m : Conditions) → First n l → First n (l ++ m)
+prefix-first n [] m h = absurd h
+prefix-first n (x ∷ l) m h = go (prefix-first n l m) h
+  where
+    go : (First n l → First n (l ++ m)) → ((x .0 ≡ n) × T (x .1)) ⊎ (T (not (x .1)) × First n l) → ((x .0 ≡ n) × T (x .1)) ⊎ (T (not (x .1)) × First n (l ++ m))
+    go f (inl a) = inl a
+    go f (inr a) = inr (a .0, f (a .1))
+
+pub behind-first : (n : ℕ) (l m : Conditions) → None l → First n m → First n (l ++ m)
+behind-first n [] m h k = k
+behind-first n (x ∷ l) m h k = inr (h .0, behind-first n l m (h .1) k)
+
+pub none-join : (l m : Conditions) → None l → None m → None (l ++ m)
+none-join [] m h k = k
+none-join (x ∷ l) m h k = (h .0, none-join l m (h .1) k)
+
+-- the numbers from low to high
+abbrev pub Between : ℕ → ℕ → Conditions → Type 0
+Between low high [] = Unit {0}
+Between low high (x ∷ l) = (low ≤ x .0) × (x .0 ≤ high) × Between low high l
+
+pub first-between : (low high n : ℕ) (l : Conditions) → Between low high l → First n l → (low ≤ n) × (n ≤ high)
+first-between low high n [] b h = absurd h
+first-between low high n (x ∷ l) b h = go (first-between low high n l (b .2)) h
+  where
+    go : (First n l → (low ≤ n) × (n ≤ high)) → ((x .0 ≡ n) × T (x .1)) ⊎ (T (not (x .1)) × First n l) → (low ≤ n) × (n ≤ high)
+    go f (inl a) = (let e = a .0 in let p = b .0 in omega arith, let e = a .0 in let p = b .1 in omega arith)
+    go f (inr a) = f (a .1)
+
+-- where the last one is the first, none before it holds
+pub last-first : (n : ℕ) (l : Conditions) (b : Bool) → Between 1 (pred n) l → First n (l ++ (n, b) ∷ []) → None l × T b
+last-first n [] b k h = elim h [ inl a ↦ (tt, a .1) | inr a ↦ absurd (a .1) ]
+last-first n (x ∷ l) b k h = go (last-first n l b (k .2)) h
+  where
+    go : (First n (l ++ (n, b) ∷ []) → None l × T b) → ((x .0 ≡ n) × T (x .1)) ⊎ (T (not (x .1)) × First n (l ++ (n, b) ∷ [])) → (T (not (x .1)) × None l) × T b
+    go f (inl a) = absurd (let e = a .0 in let p = k .0 in let q = k .1 in omega arith)
+    go f (inr a) = let r = f (a .1) in ((a .0, r .0), r .1)

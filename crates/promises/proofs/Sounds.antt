@@ -1,0 +1,204 @@
+-- Every entry of a list has numbers that fit its bytes, and no used number that is a NaN. Rule by rule, by what the words do to `All`.
+-- Assumes nothing.
+use Prim.Native.Nat.{ℕ, zero, suc, _^_, _≤_, _<_, max, zero-le, suc-le-suc}
+use native.Mathlib.Omega.{arith}
+use mathlib.Core.Bool.{Bool, true, false, cond}
+use mathlib.Core.List.{List, [], _∷_, foldl}
+use mathlib.Core.Option.{Option, none, some}
+use lib.Dec.{T, ltb→lt}
+use lib.ListN.{length}
+use lib.Ieee.{Float, binary64, fits}
+use lib.Ieee.Fits.{ofInt-fits}
+use lib.Ieee.Casts.{toUnsigned-lt}
+use Rattle.words.specs.Words.{whenAny, whenAbove, only, countOf, given, same}
+use Rattle.floats.specs.Floats.{zeroF}
+use Rattle.floats.proofs.Bits.{f64At-fits}
+use Rattle.floats.proofs.Loads.{over-self}
+use Rattle.floats.proofs.Sums.{total-fits}
+use Rattle.catalogue.specs.Catalogue.{Id, Catalogue}
+use Rattle.fit.specs.Fit.{Attribute, Result, Frame, Fit, modeOf, fitOf, resultOf}
+use Rattle.fit.specs.Lookups.{value, amount, trained}
+use Rattle.entry.specs.declared.Entry.{Entry}
+use Rattle.context.specs.Context.{Pair, Context, pairs, context, isIn}
+use Rattle.validate.specs.Kind.{isHull, notAMode, notASkill}
+use Rattle.resource.specs.Resource.{LOADS, resource, cargoVolume, cargoUsed, loads, launchedDrones, cargo}
+use Rattle.slot.specs.Slot.{RACKS, HARDPOINTS, slots, racks, hardpoints, wrongSlot, notAModule, notADrone, notAFighter, notAnImplant, wrongSlotIndex, slotTaken, subsystemTaken, slotChecks}
+use Rattle.item.specs.Item.{GROUP-LIMITS, isStructure, rigSize, shipRestricted, capitalItem, standup, groupLimits, typeLimit}
+use Rattle.validate.specs.Validate.{hullRules, listWith, listOf}
+use Rattle.skill.specs.Skill.{Demand, REQUIRED, demands, ofResult, ofSkill, note, noted, met, walkTo, skillList}
+use Rattle.promises.proofs.All.{All, nil, cons, all-join, all-table, all-when, all-unless, all-cond, all-bind, all-each, all-each-of, all-find}
+use Rattle.promises.proofs.Rises.{Sound}
+
+-- ---- the entries of the list
+abbrev pub AllSound : List Entry → Type 0
+AllSound = All λ e. Sound (e .rule)
+
+count-le : {A : Type 0} (t : A → Bool) (l : List A) → countOf t l ≤ length l
+unfolding countOf only
+count-le t [] = zero-le
+count-le t (x ∷ l) = go (t x) (count-le t l)
+  where
+    go : (b : Bool) → length (only t l) ≤ length l → length (cond b (x ∷ only t l) (only t l)) ≤ suc (length l)
+    go true h = suc-le-suc h
+    go false h = omega arith
+
+any-sound : {A : Type 0} (b : Bool) (t : A → Bool) (l : List A) (e : Entry) → Sound (e .rule) → AllSound (whenAny b t l e)
+unfolding whenAny
+any-sound b t l e h = all-when _ e (λ _. h)
+
+above-sound : (b : Bool) (limit n : ℕ) (e : ℕ → Entry) → Sound (e n .rule) → AllSound (whenAbove b limit n e)
+unfolding whenAbove
+above-sound b limit n e h = all-when _ (e n) (λ _. h)
+
+resource-sound : (k : ℕ) (u a : Float) → T (fits binary64 u) → AllSound (resource k u a)
+unfolding resource
+resource-sound k u a h = all-when _ _ (λ o. (h, over-self u a o))
+
+module _ (c : Catalogue) where
+  notAMode-sound : (m : Option Id) → AllSound (notAMode c m)
+  unfolding notAMode
+  notAMode-sound m = all-bind m λ _. all-when _ _ (λ _. tt)
+
+  notASkill-sound : (ids : List Id) → AllSound (notASkill c ids)
+  unfolding notASkill
+  notASkill-sound ids = all-each ids λ _. all-when _ _ (λ _. tt)
+
+module _ (x : Context) where
+  loads-sound : ((id : Id) → T (fits binary64 (amount (x .hull) id))) → AllSound (loads x)
+  unfolding loads
+  loads-sound h = all-each LOADS λ l. all-bind _ λ load. all-bind _ λ output. resource-sound (l .0) _ _ (h load)
+
+  drones-sound : (ps : List Pair) → AllSound (launchedDrones x ps)
+  unfolding launchedDrones
+  drones-sound ps = all-bind _ λ limit. resource-sound 5 _ _ (ofInt-fits binary64 _)
+
+  cargo-sound : (ps : List Pair) → AllSound (cargo x ps)
+  unfolding cargo cargoUsed
+  cargo-sound ps = all-bind _ λ capacity. resource-sound 11 _ _ (total-fits cargoVolume zeroF (only (isIn 11) ps) (unfold fits in tt))
+
+  module _ (ps : List Pair) (few : length ps < 2 ^ 32) where
+    few-of : (t : Pair → Bool) → countOf t ps < 2 ^ 32
+    few-of t = let h = count-le t ps in omega arith
+
+    slots-sound : (slot name used : ℕ) → used < 2 ^ 32 → AllSound (slots x slot name used)
+    unfolding slots
+    slots-sound slot name used h = all-bind _ λ id. above-sound _ _ _ _ h
+
+    racks-sound : AllSound (racks x ps)
+    unfolding racks
+    racks-sound = all-each RACKS λ r. slots-sound (r .0) (r .1) _ (few-of _)
+
+    hardpoints-sound : AllSound (hardpoints x ps)
+    unfolding hardpoints
+    hardpoints-sound = all-each HARDPOINTS λ r. slots-sound (r .0) (r .1) _ (few-of _)
+
+    slotChecks-sound : (p : Pair) → AllSound (slotChecks x ps p)
+    unfolding slotChecks wrongSlot notAModule notADrone notAFighter notAnImplant slotTaken wrongSlotIndex subsystemTaken
+    slotChecks-sound p =
+        all-join (all-join (all-join (all-join (all-join (all-join (all-join
+        (all-bind (p .rack) λ _. all-when _ _ (λ _. tt))
+        (all-when _ _ (λ _. tt)))
+        (all-when _ _ (λ _. tt)))
+        (all-when _ _ (λ _. tt)))
+        (all-when _ _ (λ _. tt)))
+        (any-sound _ _ ps _ tt))
+        (all-bind _ λ name. all-bind _ λ id. all-bind _ λ v. all-when _ _ (λ _. tt)))
+        (all-bind _ λ id. all-bind _ λ part. any-sound _ _ ps _ tt)
+
+    rigSize-sound : AllSound (rigSize x ps)
+    unfolding rigSize
+    rigSize-sound = all-bind _ λ id. all-bind _ λ ship. all-each ps λ p. all-bind _ λ size. all-when _ _ (λ _. tt)
+
+    shipRestricted-sound : AllSound (shipRestricted x ps)
+    unfolding shipRestricted
+    shipRestricted-sound = all-each ps λ p. all-when _ _ (λ _. tt)
+
+    capitalItem-sound : AllSound (capitalItem x ps)
+    unfolding capitalItem
+    capitalItem-sound = all-bind _ λ volume. all-bind _ λ capital. all-unless _ (all-each ps λ p. all-when _ _ (λ _. tt))
+
+    standup-sound : AllSound (standup x ps)
+    unfolding standup
+    standup-sound = all-each ps λ p. all-unless _ (all-cond (isStructure x) (all-when _ _ (λ _. tt)) (all-when _ _ (λ _. tt)))
+
+    groupLimits-sound : AllSound (groupLimits x ps)
+    unfolding groupLimits
+    groupLimits-sound = all-each GROUP-LIMITS λ g. all-bind _ λ id. all-each ps λ p. all-bind _ λ allowed. above-sound _ _ _ _ (few-of _)
+
+    typeLimit-sound : AllSound (typeLimit x ps)
+    unfolding typeLimit
+    typeLimit-sound = all-bind _ λ id. all-each ps λ p. all-bind _ λ allowed. above-sound _ _ _ _ (few-of _)
+
+    hullRules-sound : ((id : Id) → T (fits binary64 (amount (x .hull) id))) → AllSound (hullRules x ps)
+    unfolding hullRules
+    hullRules-sound h =
+        all-join (all-join (all-join (all-join (all-join (all-join (all-join (all-join (all-join (all-join (all-join
+        (loads-sound h)
+        (drones-sound ps))
+        (cargo-sound ps))
+        racks-sound)
+        hardpoints-sound)
+        (all-each ps slotChecks-sound))
+        rigSize-sound)
+        shipRestricted-sound)
+        capitalItem-sound)
+        standup-sound)
+        groupLimits-sound)
+        typeLimit-sound
+
+pub listWith-sound : (c : Catalogue) (k : Frame) (ids : List Id) (ps : List Pair) → length ps < 2 ^ 32 → ((id : Id) → T (fits binary64 (amount (k .hull) id)))
+    → AllSound (listWith c k ids ps)
+unfolding listWith context
+listWith-sound c k ids ps few h =
+    all-cond (isHull c (k .ship))
+    (all-join (all-join (notAMode-sound c (modeOf k)) (notASkill-sound c ids)) (hullRules-sound (context c k) ps few h))
+    (cons tt nil)
+
+-- what a result of an image holds are values of f64
+result-fits : (b : List ℕ) (j : ℕ) (id : Id) → T (fits binary64 (amount (resultOf b j) id))
+unfolding amount value given
+result-fits b j id =
+    all-find (λ (o : Option Float). T (fits binary64 (given o zeroF (λ v. v)))) (λ (x : Attribute). same (x .id) id)
+    (all-table {P = λ (x : Attribute). T (fits binary64 (x .value))} _ (λ i. f64At-fits b _) 0 _)
+    none (λ (x : Attribute). some (x .value)) (unfold fits in tt) (λ x h. h)
+
+pub list-sound : (c : Catalogue) (b : List ℕ) → length (pairs c (fitOf b)) < 2 ^ 32 → AllSound (listOf c (fitOf b))
+unfolding listOf fitOf
+list-sound c b few = listWith-sound c _ _ _ few (result-fits b 0)
+
+-- ---- the entries of a result's skills
+abbrev Small : Demand → Type 0
+Small d = d .1 < 256
+
+demands-small : (c : Catalogue) (look : Id → Option Float) → All Small (demands c look)
+unfolding demands
+demands-small c look = all-each REQUIRED λ r. all-bind _ λ skill. all-bind _ λ level. all-bind _ λ v. cons (toUnsigned-lt 8 _) nil
+
+note-small : {ws : List Demand} (d : Demand) → All Small ws → Small d → All Small (note ws d)
+unfolding note
+note-small d nil h = cons h nil
+note-small d (cons {x = w} {l = ws} p k) h = go (same (w .0) (d .0)) (note-small d k h)
+  where
+    go : (b : Bool) → All Small (note ws d) → All Small (cond b ((w .0, max (w .1) (d .1)) ∷ ws) (w ∷ note ws d))
+    go true r = let q : max (w .1) (d .1) < 256 = omega arith in cons q k
+    go false r = cons p r
+
+noted-small : {ds : List Demand} {ws : List Demand} → All Small ds → All Small ws → All Small (foldl note ws ds)
+noted-small nil k = k
+noted-small (cons {x = d} h hs) k = noted-small hs (note-small d k h)
+
+given-small : (c : Catalogue) (o : Option Id) → All Small (given o [] (ofSkill c))
+unfolding given ofSkill
+given-small c none = nil
+given-small c (some t) = demands-small c _
+
+met-small : (c : Catalogue) (r : Result) (n : ℕ) → All Small (met c r n)
+unfolding met ofResult
+met-small c r zero = demands-small c _
+met-small c r (suc n) = all-join (met-small c r n) (given-small c _)
+
+pub skills-sound : (c : Catalogue) (f : Fit) (n : ℕ) → AllSound (skillList c f n)
+unfolding skillList walkTo noted
+skills-sound c f n = all-bind _ λ r. all-each-of (noted-small (met-small c r 512) nil) λ w h.
+    let level = trained (f .skills) (f .levels) (w .0) in
+    all-when _ _ (λ t. let k = ltb→lt level (w .1) t in omega arith)

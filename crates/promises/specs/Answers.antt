@@ -1,0 +1,95 @@
+-- Document 01, "Refusals in their order": what a caller has after a call, and the order of the refusals.
+use Prim.Native.Nat.{ℕ, _+_, _*_, _/_, _%_, _≤_, _<_}
+use mathlib.Core.Path.{_≡_}
+use mathlib.Core.Bool.{Bool, false, not}
+use mathlib.Core.List.{List, [], _∷_}
+use mathlib.Core.Logic.{_⊎_, _↔_}
+use mathlib.Core.Option.{some}
+use lib.Dec.{T, ltb}
+use lib.ListN.{length, getD, take, drop, getElem?}
+use Rattle.words.specs.Words.{given}
+use Rattle.catalogue.specs.Catalogue.{catalogueOf}
+use Rattle.catalogue.specs.Refusals as Catalogue
+use Rattle.fit.specs.Fit.{fitOf, resultAt}
+use Rattle.fit.specs.Refusals as Fit
+use Rattle.entry.specs.declared.Entry.{Entry}
+use Rattle.entry.specs.Entries.{entryBytes}
+use Rattle.validate.specs.Validate.{listOf}
+use Rattle.skill.specs.Skill.{tooMany, skillList}
+use Rattle.fitcheck.specs.Calls.{Answer, buffered, returned, tooManyDrones, tooShort}
+
+-- ---- what a caller has after a call: the word, and the buffer
+pub record Outcome : Type 0 where
+  pub word : ℕ
+  pub buffer : List ℕ
+
+abbrev pub outcome : List ℕ → Answer → Outcome
+outcome buffer answer = record { word = returned answer; buffer = buffered buffer answer }
+
+-- the word's upper half is the refusal number, 0 where the call is answered; its lower half is the count
+abbrev pub refusal : Outcome → ℕ
+refusal o = o .word / 4294967296
+
+abbrev pub count : Outcome → ℕ
+count o = o .word % 4294967296
+
+-- the 24 bytes of entry i
+abbrev pub entryAt : Outcome → ℕ → List ℕ
+entryAt o i = take 24 (drop (24 * i) (o .buffer))
+
+-- ---- the refusals, each with its condition, in document 01's order
+abbrev pub Conditions : Type 0
+Conditions = List (ℕ × Bool)
+
+abbrev pub listConditions : (catalogue fit buffer : List ℕ) → Conditions
+listConditions catalogue fit buffer =
+    let c = catalogueOf catalogue in
+    let f = fitOf fit in
+    (1, Catalogue.badLength catalogue)
+    ∷ (2, Catalogue.badOrder c)
+    ∷ (3, Catalogue.badField c)
+    ∷ (4, Fit.badSize fit)
+    ∷ (5, Fit.badOrder f)
+    ∷ (6, Fit.badField f)
+    ∷ (7, tooManyDrones c f)
+    ∷ (10, tooShort buffer (listOf c f))
+    ∷ []
+
+abbrev pub skillConditions : (catalogue fit : List ℕ) (result : ℕ) (buffer : List ℕ) → Conditions
+skillConditions catalogue fit result buffer =
+    let c = catalogueOf catalogue in
+    let f = fitOf fit in
+    (1, Catalogue.badLength catalogue)
+    ∷ (2, Catalogue.badOrder c)
+    ∷ (3, Catalogue.badField c)
+    ∷ (4, Fit.badSize fit)
+    ∷ (5, Fit.badOrder f)
+    ∷ (6, Fit.badField f)
+    ∷ (8, ltb (length (f .results) + 1) result)
+    ∷ (9, given (resultAt f result) false (tooMany 512 c))
+    ∷ (10, tooShort buffer (skillList c f result))
+    ∷ []
+
+-- n is the first number whose condition holds
+abbrev pub First : ℕ → Conditions → Type 0
+First n [] = ⊥
+First n (x ∷ l) = ((x .0 ≡ n) × T (x .1)) ⊎ (T (not (x .1)) × First n l)
+
+-- no condition holds
+abbrev pub None : Conditions → Type 0
+None [] = Unit {0}
+None (x ∷ l) = T (not (x .1)) × None l
+
+-- ---- a call under some conditions, which lists es where none of them holds
+pub record Answers (conditions : Conditions) (es : List Entry) (before : List ℕ) (o : Outcome) : Type 0 where
+  -- a number refuses exactly where its condition is the first that holds, and is one of 1 to 10
+  pub refused : (n : ℕ) → 0 < n → (refusal o ≡ n) ↔ First n conditions
+  pub answered : (refusal o ≡ 0) ↔ None conditions
+  pub numbered : refusal o ≤ 10
+  -- a refusal counts nothing and changes no byte
+  pub nothing : 0 < refusal o → (count o ≡ 0) × (o .buffer ≡ before)
+  -- a list has its entries from byte 0 on, and leaves every byte behind them
+  pub counted : refusal o ≡ 0 → count o ≡ length es
+  pub entries : refusal o ≡ 0 → (i : ℕ) (e : Entry) → getElem? es i ≡ some e → entryAt o i ≡ entryBytes e
+  pub others : refusal o ≡ 0 → (i : ℕ) → 24 * length es ≤ i → getD (o .buffer) i 0 ≡ getD before i 0
+  pub length-kept : length (o .buffer) ≡ length before

@@ -1,0 +1,189 @@
+-- Worked cases: an input and the outcome expected of it. What an input is, what the definitions make of it, and words to write inputs with.
+use Prim.Native.Nat.{ℕ, _+_}
+use mathlib.Core.Bool.{Bool, false}
+use mathlib.Core.List.{List, [], _∷_, map}
+use lib.IntN.{ℤ, pos, negsuc}
+use lib.Ieee.{Float, fin}
+use Rattle.words.specs.Words.{from}
+use Rattle.floats.specs.Floats.{zeroF, toU, toI32, over}
+use Rattle.catalogue.specs.Catalogue.{Id, TypeData, Link, Catalogue}
+use Rattle.fit.specs.Fit.{Attribute, Item, Result, Fit}
+use Rattle.fit.specs.Refusals.{badSize}
+use Rattle.entry.specs.declared.Entry.{Entry}
+use Rattle.entry.specs.Entries.{entryBytes}
+use Rattle.validate.specs.Validate.{listOf}
+use Rattle.skill.specs.Skill.{Demand, wantedSkills, tooMany, skillList}
+use Rattle.fitcheck.specs.Calls.{returned, buffered, listCall, skillCall}
+use Rattle.fitcheck.specs.Hall.{hallCall, hallReturned}
+
+-- ---- a catalogue: types with their groups and categories in the game
+-- the attribute of name n
+abbrev pub attribute : ℕ → Id
+attribute n = pos (100 + n)
+
+abbrev typed : ℕ → ℕ → ℕ → TypeData
+typed id group category = record { id = pos id; group = pos group; category = pos category; volumeFlag = 0; volume = zeroF }
+
+-- hulls: a ship of group 25, a structure; 3 to 6 are containers, 7 is none
+abbrev pub ship : Id
+ship = pos 1
+
+abbrev pub structure : Id
+structure = pos 2
+
+-- modules of two groups; one marked for the Medium rack; one marked for High, then Low; a turret and a launcher
+abbrev pub gun : Id
+gun = pos 10
+
+abbrev pub plate : Id
+plate = pos 11
+
+abbrev pub shield : Id
+shield = pos 12
+
+abbrev pub relay : Id
+relay = pos 13
+
+abbrev pub turret : Id
+turret = pos 14
+
+abbrev pub launcher : Id
+launcher = pos 15
+
+abbrev pub part : Id
+part = pos 16
+
+abbrev pub standupGun : Id
+standupGun = pos 17
+
+-- what is no module
+abbrev pub drone : Id
+drone = pos 20
+
+abbrev pub squadron : Id
+squadron = pos 21
+
+abbrev pub hardwiring : Id
+hardwiring = pos 22
+
+abbrev pub stance : Id
+stance = pos 23
+
+abbrev pub gunnery : Id
+gunnery = pos 24
+
+-- a volume of 2.5; a volume of 1,000 whose flag is 0
+abbrev pub ore : Id
+ore = pos 25
+
+abbrev pub ghost : Id
+ghost = pos 26
+
+abbrev pub unknown : Id
+unknown = pos 99
+
+abbrev linked : ℕ → ℕ → Link
+linked type mark = record { type = pos type; effect = pos (200 + mark) }
+
+-- the catalogue in which these names have ids; effect 200 + m has mark m, and there is no effect 299
+unfoldable pub known : List ℕ → Catalogue
+known names = record {
+  names = map (λ n. record { number = n; id = attribute n }) names;
+  effects = map (λ m. record { id = pos (200 + m); mark = m }) (from 0 9);
+  types =
+      typed 1 25 6 ∷ typed 2 1657 65 ∷ typed 3 12 2 ∷ typed 4 340 2 ∷ typed 5 448 2 ∷ typed 6 649 2 ∷ typed 7 13 2
+      ∷ typed 10 50 7 ∷ typed 11 51 7 ∷ typed 12 52 7 ∷ typed 13 53 7 ∷ typed 14 54 7 ∷ typed 15 55 7 ∷ typed 16 954 32 ∷ typed 17 1562 66
+      ∷ typed 20 100 18 ∷ typed 21 1652 87 ∷ typed 22 300 20 ∷ typed 23 1306 7 ∷ typed 24 255 16
+      ∷ record { id = pos 25; group = pos 450; category = pos 25; volumeFlag = 1; volume = fin false 5 (negsuc 0) }
+      ∷ record { id = pos 26; group = pos 450; category = pos 25; volumeFlag = 0; volume = fin false 125 (pos 3) } ∷ [];
+  links =
+      linked 12 2 ∷ linked 12 0 ∷ linked 12 99 ∷ linked 13 1 ∷ linked 13 3 ∷ linked 13 7
+      ∷ linked 14 1 ∷ linked 14 7 ∷ linked 15 1 ∷ linked 15 8 ∷ [];
+  bases = [];
+}
+
+-- ---- a fit
+-- name n's attribute has a value
+abbrev pub has : ℕ → Float → Attribute
+has n v = record { id = attribute n; value = v }
+
+abbrev pub result : ℕ → List Attribute → Result
+result state attributes = record { state = state; zero = 0; attributes = attributes }
+
+-- an item and its result
+abbrev pub Thing : Type 0
+Thing = Item × Result
+
+-- so many of a type in a slot, in a state
+abbrev pub stack : (quantity : ℕ) → Id → (slot index state : ℕ) → List Attribute → Thing
+stack quantity type slot index state attributes = (record { type = type; quantity = quantity; slot = slot; zero = 0; index = index }, result state attributes)
+
+-- one, online
+abbrev pub one : Id → (slot index : ℕ) → List Attribute → Thing
+one type slot index attributes = stack 1 type slot index 1 attributes
+
+-- no mode, no skills; attributes of the hull and of the character
+abbrev pub fitWith : Id → List Attribute → List Attribute → List Thing → Fit
+fitWith hull attributes character things = record {
+  frame = record { ship = hull; modeFlag = 0; mode = pos 0; hull = result 0 attributes; character = result 0 character };
+  skills = [];
+  levels = [];
+  items = map (λ t. t .0) things;
+  results = map (λ t. t .1) things;
+}
+
+abbrev pub fit : Id → List Attribute → List Thing → Fit
+fit hull attributes things = fitWith hull attributes [] things
+
+-- ---- inputs and outcomes
+pub data Input : Type 0 where
+  -- a cast to an unsigned integer of so many bits, and to i32
+  Unsigned : ℕ → Float → Input
+  Signed : Float → Input
+  -- used and available; or any used number
+  Over : Float → Float → Input
+  AnyOver : Float → Input
+  -- the list of a fit
+  Fitted : Catalogue → Fit → Input
+  -- the wanted skills of a result; whether they are more than a limit; the skill list of a result number
+  Walked : Catalogue → Result → Input
+  Exceeds : ℕ → Catalogue → Result → Input
+  Skilled : Catalogue → Fit → ℕ → Input
+  -- an entry in bytes
+  Written : Entry → Input
+  -- the condition of refusal 4
+  BadSize : (fit : List ℕ) → Input
+  -- the calls, of bytes
+  ListCall : (catalogue fit buffer : List ℕ) → Input
+  SkillCall : (catalogue fit : List ℕ) (result : ℕ) (buffer : List ℕ) → Input
+  HallCall : (catalogue input : List ℕ) → Input
+
+pub data Expected : Type 0 where
+  Number : ℕ → Expected
+  Integer : ℤ → Expected
+  Holds : Bool → Expected
+  HoldsOf : (Float → Bool) → Expected
+  Entries : List Entry → Expected
+  Demands : List Demand → Expected
+  Bytes : List ℕ → Expected
+  -- the word, and the buffer afterwards
+  Returns : ℕ → List ℕ → Expected
+
+-- what the definitions make of an input
+unfoldable pub outcomeOf : Input → Expected
+outcomeOf (Unsigned w x) = Number (toU w x)
+outcomeOf (Signed x) = Integer (toI32 x)
+outcomeOf (Over used available) = Holds (over used available)
+outcomeOf (AnyOver available) = HoldsOf λ used. over used available
+outcomeOf (Fitted c f) = Entries (listOf c f)
+outcomeOf (Walked c r) = Demands (wantedSkills c r)
+outcomeOf (Exceeds limit c r) = Holds (tooMany limit c r)
+outcomeOf (Skilled c f n) = Entries (skillList c f n)
+outcomeOf (Written e) = Bytes (entryBytes e)
+outcomeOf (BadSize fit) = Holds (badSize fit)
+outcomeOf (ListCall catalogue fit buffer) = let a = listCall catalogue fit buffer in Returns (returned a) (buffered buffer a)
+outcomeOf (SkillCall catalogue fit result buffer) = let a = skillCall catalogue fit result buffer in Returns (returned a) (buffered buffer a)
+outcomeOf (HallCall catalogue input) = Number (hallReturned (hallCall catalogue input))
+
+abbrev pub Case : Type 0
+Case = Input × Expected

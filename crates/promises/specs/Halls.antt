@@ -1,0 +1,51 @@
+-- Document 01, "Hall number": what the word of a hall call says, and of each fit what its list call says.
+use Prim.Native.Nat.{ℕ, _+_, _/_, _%_, _≤_, _<_}
+use mathlib.Core.Path.{_≡_}
+use mathlib.Core.List.{List, [], _∷_}
+use mathlib.Core.Logic.{_↔_}
+use lib.Dec.{T}
+use lib.ListN.{length}
+use Rattle.words.specs.Words.{countOf}
+use Rattle.catalogue.specs.Catalogue.{catalogueOf}
+use Rattle.catalogue.specs.Refusals as Catalogue
+use Rattle.fitcheck.specs.Hall.{fitCount, fits, badInput, isClear, isFaulted, fitRefused}
+use Rattle.promises.specs.Answers.{Outcome, refusal, count, Conditions, First, None}
+
+abbrev pub catalogueConditions : (catalogue : List ℕ) → Conditions
+catalogueConditions catalogue =
+    let c = catalogueOf catalogue in
+    (1, Catalogue.badLength catalogue) ∷ (2, Catalogue.badOrder c) ∷ (3, Catalogue.badField c) ∷ []
+
+abbrev pub hallConditions : (catalogue input : List ℕ) → Conditions
+hallConditions catalogue input =
+    let c = catalogueOf catalogue in
+    (1, Catalogue.badLength catalogue) ∷ (2, Catalogue.badOrder c) ∷ (3, Catalogue.badField c) ∷ (4, badInput input) ∷ []
+
+-- the three numbers of an answered call, taken out of its word
+abbrev pub clearIn : ℕ → ℕ
+clearIn word = word % 256
+
+abbrev pub faultedIn : ℕ → ℕ
+faultedIn word = word / 256 % 256
+
+abbrev pub refusedIn : ℕ → ℕ
+refusedIn word = word / 65536
+
+pub record HallAnswers (catalogue input : List ℕ) (word : ℕ) : Type 0 where
+  -- the word's upper half is the first number whose condition holds; then its lower half is 0
+  pub refused : (n : ℕ) → 0 < n → (word / 4294967296 ≡ n) ↔ First n (hallConditions catalogue input)
+  pub answered : (word / 4294967296 ≡ 0) ↔ None (hallConditions catalogue input)
+  pub nothing : 0 < word / 4294967296 → word % 4294967296 ≡ 0
+  -- else the word has the three numbers, each by its definition, and they add up to K, which is at most 64
+  pub clear : word / 4294967296 ≡ 0 → clearIn word ≡ countOf (isClear (catalogueOf catalogue)) (fits input)
+  pub faulted : word / 4294967296 ≡ 0 → faultedIn word ≡ countOf (isFaulted (catalogueOf catalogue)) (fits input)
+  pub turned-away : word / 4294967296 ≡ 0 → refusedIn word ≡ countOf (fitRefused (catalogueOf catalogue)) (fits input)
+  pub total : word / 4294967296 ≡ 0 → clearIn word + faultedIn word + refusedIn word ≡ fitCount input
+  pub few : word / 4294967296 ≡ 0 → fitCount input ≤ 64
+
+-- a fit in the hall, beside its own list call with any buffer: clear where that answers with no entry, refused where that refuses with 4 to 7
+pub record Judged (catalogue fit buffer : List ℕ) (o : Outcome) : Type 0 where
+  pub clear : T (isClear (catalogueOf catalogue) fit) ↔ ((refusal o ≡ 0) × (count o ≡ 0))
+  pub turned-away : T (fitRefused (catalogueOf catalogue) fit) ↔ ((4 ≤ refusal o) × (refusal o ≤ 7))
+  -- faulted where it answers with entries, if the buffer has room for the longest list
+  pub faulted : 123384 ≤ length buffer → T (isFaulted (catalogueOf catalogue) fit) ↔ ((refusal o ≡ 0) × (0 < count o))

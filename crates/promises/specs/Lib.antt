@@ -1,0 +1,11 @@
+-- Start at Promises; the others have its terms.
+pub mod Promises
+pub mod Answers
+pub mod Compare
+pub mod Walks
+pub mod Halls
+pub mod Names
+pub mod Edges
+pub mod Cases
+pub mod RuleCases
+pub mod CallCases

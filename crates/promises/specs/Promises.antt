@@ -1,0 +1,107 @@
+-- Every promise, whole, with no proof in it; `proofs/Promised.antt` has the theorem. The calls are `listCall`, `skillCall` and `hallCall` of
+-- fitcheck/specs, functions of bytes, and the exported functions are proved equal to them: the word by `returned`, `hallReturned`, the
+-- buffer by `buffered`. Read `Answers`, `Compare`, `Walks`, `Halls`, `Edges` beside this file, and validate/specs for the list.
+use Prim.Native.Nat.{ℕ, _≤_}
+use mathlib.Core.Path.{_≡_}
+use mathlib.Core.List.{List}
+use mathlib.Core.Logic.{_↔_}
+use lib.Dec.{T}
+use lib.ListN.{length}
+use Rattle.words.specs.Words.{from}
+use Rattle.catalogue.specs.Catalogue.{Catalogue, catalogueOf}
+use Rattle.fit.specs.Fit.{Result, fitOf}
+use Rattle.validate.specs.Validate.{listOf}
+use Rattle.skill.specs.Skill.{tooMany, skillList}
+use Rattle.fitcheck.specs.Calls.{listCall, skillCall}
+use Rattle.fitcheck.specs.Hall.{hallCall, hallReturned}
+use Rattle.promises.specs.Answers.{Outcome, outcome, refusal, listConditions, skillConditions, None, Answers}
+use Rattle.promises.specs.Compare.{Bytes, Grown, AddedVolumes, Kept}
+use Rattle.promises.specs.Walks.{MoreWanted, SkillsOf}
+use Rattle.promises.specs.Halls.{catalogueConditions, HallAnswers, Judged}
+use Rattle.promises.specs.Names.{nameNumbers}
+use Rattle.promises.specs.Edges.{EDGES, Agree}
+
+-- the two calls, as a caller sees them
+abbrev pub listed : (catalogue fit buffer : List ℕ) → Outcome
+listed catalogue fit buffer = outcome buffer (listCall catalogue fit buffer)
+
+abbrev pub skills : (catalogue fit : List ℕ) (result : ℕ) (buffer : List ℕ) → Outcome
+skills catalogue fit result buffer = outcome buffer (skillCall catalogue fit result buffer)
+
+-- Demand 1. Of any bytes, a call gives the first refusal of document 01's order whose condition holds, and no other byte than the
+-- entries' own changes; where no condition holds, it gives the list.
+abbrev pub ListAnswers : Type 0
+ListAnswers = (catalogue fit buffer : List ℕ)
+    → Answers (listConditions catalogue fit buffer) (listOf (catalogueOf catalogue) (fitOf fit)) buffer (listed catalogue fit buffer)
+
+abbrev pub SkillAnswers : Type 0
+SkillAnswers = (catalogue fit : List ℕ) (result : ℕ) (buffer : List ℕ)
+    → Answers (skillConditions catalogue fit result buffer) (skillList (catalogueOf catalogue) (fitOf fit) result) buffer (skills catalogue fit result buffer)
+
+-- No list has more than 5,141 entries, no skill list more than 512: a buffer of 123,384 bytes, or of 12,288, is never too short.
+abbrev pub ListRoom : Type 0
+ListRoom = (catalogue fit buffer : List ℕ) → 123384 ≤ length buffer → refusal (listed catalogue fit buffer) ≡ 10 → ⊥
+
+abbrev pub SkillRoom : Type 0
+SkillRoom = (catalogue fit : List ℕ) (result : ℕ) (buffer : List ℕ) → 12288 ≤ length buffer → refusal (skills catalogue fit result buffer) ≡ 10 → ⊥
+
+-- Demand 3 for the list. Items and results put behind those of a fit with as many results as items, and lowered levels, make no entry
+-- vanish: it has its own place in the new list, in the old order, with a used number no lower and every other byte the same.
+abbrev pub ListKept : Type 0
+ListKept = (catalogue old new oldBuffer newBuffer : List ℕ) → Bytes new
+    → Grown (fitOf old) (fitOf new)
+    → AddedVolumes (catalogueOf catalogue) (fitOf old) (fitOf new)
+    → refusal (listed catalogue old oldBuffer) ≡ 0
+    → refusal (listed catalogue new newBuffer) ≡ 0
+    → Kept (listed catalogue old oldBuffer) (listed catalogue new newBuffer)
+
+-- Demand 3 for the skill lists of every old result, ship and character included: those are the results whose old call is answered.
+-- Volumes do not matter here.
+abbrev pub SkillKept : Type 0
+SkillKept = (catalogue old new oldBuffer newBuffer : List ℕ) (result : ℕ)
+    → Grown (fitOf old) (fitOf new)
+    → refusal (skills catalogue old result oldBuffer) ≡ 0
+    → refusal (skills catalogue new result newBuffer) ≡ 0
+    → Kept (skills catalogue old result oldBuffer) (skills catalogue new result newBuffer)
+
+-- The walk. An answered skill call is about a result that wants at most 512 skills. Its walk lists the wanted skills and no other, each
+-- once, in the order met, at the highest level demanded; an entry is made of each that is trained below that.
+abbrev pub SkillLists : Type 0
+SkillLists = (catalogue fit : List ℕ) (result : ℕ) (buffer : List ℕ) → refusal (skills catalogue fit result buffer) ≡ 0
+    → SkillsOf (catalogueOf catalogue) (fitOf fit) result
+
+-- The condition of refusal 9: more than 512 distinct skills are wanted.
+abbrev pub TooMany : Type 0
+TooMany = (c : Catalogue) (r : Result) → T (tooMany 512 c r) ↔ MoreWanted 512 c r
+
+-- The hall call's word, on any bytes.
+abbrev pub HallCall : Type 0
+HallCall = (catalogue input : List ℕ) → HallAnswers catalogue input (hallReturned (hallCall catalogue input))
+
+-- Where the catalogue is not refused, a fit is clear exactly where its list call answers with no entry, refused exactly where that refuses
+-- with 4 to 7, and faulted where it lists entries.
+abbrev pub HallFits : Type 0
+HallFits = (catalogue fit buffer : List ℕ) → None (catalogueConditions catalogue) → Judged catalogue fit buffer (listed catalogue fit buffer)
+
+-- The tables number document 01's names: 0 to 87, none twice and none left out.
+abbrev pub Names : Type 0
+Names = nameNumbers ≡ from 0 88
+
+-- Every edge of the table comes out as written there: the starred edges of document 01, and for every rule an input where it is listed and
+-- one where it is not. The other promises would survive a comparison turned round in a rule; this one does not.
+abbrev pub Edges : Type 0
+Edges = Agree EDGES
+
+pub record Promises : Type 0 where
+  pub list-answers : ListAnswers
+  pub skill-answers : SkillAnswers
+  pub list-room : ListRoom
+  pub skill-room : SkillRoom
+  pub list-kept : ListKept
+  pub skill-kept : SkillKept
+  pub skill-lists : SkillLists
+  pub too-many : TooMany
+  pub hall-call : HallCall
+  pub hall-fits : HallFits
+  pub names : Names
+  pub edges : Edges
