@@ -13,21 +13,21 @@ use Rattle.catalogue.proofs.bad_length.Tie as tie
 
 returns : tie.Need-returns
 unfolding badLength
-returns c = simp (lt-ltb _ _ (c .if1 .taken))
+returns c = rw (lt-ltb 16777216 _ (c .if1 .taken))
 
 returns-2 : tie.Need-returns-2
 unfolding badLength
 returns-2 c =
     let b = c .before .before .before .args .catalogue .now in
     let d : eqb (length b) (sizeOf b) ≡ false = ne-eqb (length b) (sizeOf b) (λ e. omega arith) in
-    simp (le-ltb _ _ (c .before .if1 .left), d)
+    rw (le-ltb 16777216 (length b) (c .before .if1 .left), d)
 
 size-of-requires : tie.Need-size-of-requires
 size-of-requires c κs = search needs
 
 returns-3 : tie.Need-returns-3
 unfolding badLength
-returns-3 c = simp (le-ltb _ _ (c .before .before .if1 .left), c .size-of .ensures)
+returns-3 c = rw (le-ltb 16777216 _ (c .before .before .if1 .left), c .size-of .ensures)
 
 pub bad-length-spec : {M : Type 1} → statement M
 bad-length-spec = tie.close (tie.spec returns returns-2 size-of-requires returns-3)
