@@ -1,0 +1,400 @@
+//! What there is to meet, and its name in words.
+
+use std::fmt;
+
+use crate::case::{Plant, Room};
+use crate::generate::plant;
+use crate::names::NAMES;
+use crate::numbers::Width;
+use crate::words::{KINDS, LIMITS, RACKS, RESOURCES, RULES, STATES};
+
+#[derive(Clone, Copy, Debug, PartialEq, Eq, PartialOrd, Ord)]
+pub enum Point {
+    Rule(u8),
+    Resource(u8),
+    Slots(u8),
+    WrongSlot(u8),
+    Limit(u8),
+    Kind(u8),
+    State(u8),
+    Refusal(Call, u8),
+    Planted(Plant),
+    Pair(u8, u8),
+    Room(Call, RoomKind),
+    HallFits(u32),
+    HallFit(Fate),
+    Wanted(u32),
+    Full(Size),
+    CatalogueLength(u32),
+    Cast(Width, Spot),
+    Over(Edge),
+    Volume(CapitalEdge),
+    NameMissing(u8),
+    Shape(Shape),
+    Grown(Call),
+    GrownRule(u8),
+}
+
+#[derive(Clone, Copy, Debug, PartialEq, Eq, PartialOrd, Ord)]
+pub enum Call {
+    List,
+    Skill,
+    Hall,
+}
+
+#[derive(Clone, Copy, Debug, PartialEq, Eq, PartialOrd, Ord)]
+pub enum RoomKind {
+    Empty,
+    OneShort,
+    Exact,
+    Longer,
+}
+
+impl From<Room> for RoomKind {
+    fn from(room: Room) -> RoomKind {
+        match room {
+            Room::Empty => RoomKind::Empty,
+            Room::OneShort => RoomKind::OneShort,
+            Room::Exact | Room::Longer(0) => RoomKind::Exact,
+            Room::Longer(_) => RoomKind::Longer,
+        }
+    }
+}
+
+/// What becomes of a fit in a hall.
+#[derive(Clone, Copy, Debug, PartialEq, Eq, PartialOrd, Ord)]
+pub enum Fate {
+    Clear,
+    Faulted,
+    Refused(u8),
+}
+
+/// A size at its limit in an answered call.
+#[derive(Clone, Copy, Debug, PartialEq, Eq, PartialOrd, Ord)]
+pub enum Size {
+    Skills,
+    Items,
+    Results,
+    Attributes,
+    All,
+}
+
+/// Where a number stands to the range of its cast.
+#[derive(Clone, Copy, Debug, PartialEq, Eq, PartialOrd, Ord)]
+pub enum Spot {
+    NotANumber,
+    MinusInfinity,
+    Below,
+    JustBelow,
+    AtLow,
+    Whole,
+    Fraction,
+    AtHigh,
+    JustAbove,
+    Above,
+    Infinity,
+}
+
+impl Spot {
+    const ALL: [Spot; 11] = [
+        Spot::NotANumber,
+        Spot::MinusInfinity,
+        Spot::Below,
+        Spot::JustBelow,
+        Spot::AtLow,
+        Spot::Whole,
+        Spot::Fraction,
+        Spot::AtHigh,
+        Spot::JustAbove,
+        Spot::Above,
+        Spot::Infinity,
+    ];
+
+    pub fn of(value: f64, width: Width) -> Spot {
+        let (low, high) = (width.low(), width.high());
+        match value {
+            _ if value.is_nan() => Spot::NotANumber,
+            f64::NEG_INFINITY => Spot::MinusInfinity,
+            f64::INFINITY => Spot::Infinity,
+            _ if value <= low - 1.0 => Spot::Below,
+            _ if value < low => Spot::JustBelow,
+            _ if value == low => Spot::AtLow,
+            _ if value == high => Spot::AtHigh,
+            _ if value >= high + 1.0 => Spot::Above,
+            _ if value > high => Spot::JustAbove,
+            _ if value.fract() == 0.0 => Spot::Whole,
+            _ => Spot::Fraction,
+        }
+    }
+
+    fn words(self) -> &'static str {
+        match self {
+            Spot::NotANumber => "NaN",
+            Spot::MinusInfinity => "minus infinity",
+            Spot::Below => "a whole step or more below the range",
+            Spot::JustBelow => "a fraction below the range",
+            Spot::AtLow => "the lowest number",
+            Spot::Whole => "a whole number inside",
+            Spot::Fraction => "a fraction inside",
+            Spot::AtHigh => "the highest number",
+            Spot::JustAbove => "a fraction above the range",
+            Spot::Above => "a whole step or more above the range",
+            Spot::Infinity => "infinity",
+        }
+    }
+}
+
+/// Where used stands to available.
+#[derive(Clone, Copy, Debug, PartialEq, Eq, PartialOrd, Ord)]
+pub enum Edge {
+    AtLimit,
+    StepOver,
+    StepUnder,
+    InSlack,
+    UsedNan,
+    AvailableNan,
+    AvailableInfinite,
+    AvailableMinusInfinite,
+    AvailableNegative,
+    AvailableSubnormal,
+    UsedMinusZero,
+}
+
+impl Edge {
+    const ALL: [Edge; 11] = [
+        Edge::AtLimit,
+        Edge::StepOver,
+        Edge::StepUnder,
+        Edge::InSlack,
+        Edge::UsedNan,
+        Edge::AvailableNan,
+        Edge::AvailableInfinite,
+        Edge::AvailableMinusInfinite,
+        Edge::AvailableNegative,
+        Edge::AvailableSubnormal,
+        Edge::UsedMinusZero,
+    ];
+
+    fn words(self) -> &'static str {
+        match self {
+            Edge::AtLimit => "used exactly at the limit",
+            Edge::StepOver => "used one step over the limit",
+            Edge::StepUnder => "used one step under the limit",
+            Edge::InSlack => "used above available, within the slack",
+            Edge::UsedNan => "used NaN",
+            Edge::AvailableNan => "available NaN",
+            Edge::AvailableInfinite => "available infinity",
+            Edge::AvailableMinusInfinite => "available minus infinity",
+            Edge::AvailableNegative => "available below zero",
+            Edge::AvailableSubnormal => "available subnormal",
+            Edge::UsedMinusZero => "used minus zero",
+        }
+    }
+}
+
+/// Where an item's volume stands to 3500.
+#[derive(Clone, Copy, Debug, PartialEq, Eq, PartialOrd, Ord)]
+pub enum CapitalEdge {
+    At,
+    StepOver,
+    HalfOver,
+}
+
+/// A shape of the input, or of a growth.
+#[derive(Clone, Copy, Debug, PartialEq, Eq, PartialOrd, Ord)]
+pub enum Shape {
+    MoreItems,
+    MoreResults,
+    NegativeType,
+    NegativeAttribute,
+    SharedAttribute,
+    RackMarksDiffer,
+    HardpointMarksDiffer,
+    UnknownEffect,
+    UnknownType,
+    BasesDiffer,
+    SkillRing,
+    EmptyCargoSum,
+    GrownByNothing,
+    GrownMoreItems,
+    GrownMoreResults,
+    GrownCargo,
+    GrownLowered,
+    GrownEntries,
+    GrownNumbers,
+}
+
+impl Shape {
+    const ALL: [Shape; 19] = [
+        Shape::MoreItems,
+        Shape::MoreResults,
+        Shape::NegativeType,
+        Shape::NegativeAttribute,
+        Shape::SharedAttribute,
+        Shape::RackMarksDiffer,
+        Shape::HardpointMarksDiffer,
+        Shape::UnknownEffect,
+        Shape::UnknownType,
+        Shape::BasesDiffer,
+        Shape::SkillRing,
+        Shape::EmptyCargoSum,
+        Shape::GrownByNothing,
+        Shape::GrownMoreItems,
+        Shape::GrownMoreResults,
+        Shape::GrownCargo,
+        Shape::GrownLowered,
+        Shape::GrownEntries,
+        Shape::GrownNumbers,
+    ];
+
+    fn words(self) -> &'static str {
+        match self {
+            Shape::MoreItems => "more items than results",
+            Shape::MoreResults => "more results than items",
+            Shape::NegativeType => "a negative type id fitted",
+            Shape::NegativeAttribute => "a negative attribute id under a name",
+            Shape::SharedAttribute => "two names with one attribute id",
+            Shape::RackMarksDiffer => "an item with two different rack marks",
+            Shape::HardpointMarksDiffer => "an item with both hardpoint marks",
+            Shape::UnknownEffect => "an item with an effect that is not there",
+            Shape::UnknownType => "an item whose type is not there",
+            Shape::BasesDiffer => "a wanted skill with two values for one demand",
+            Shape::SkillRing => "skills that demand each other",
+            Shape::EmptyCargoSum => "CargoBay listed with an empty sum, or of -0 alone",
+            Shape::GrownByNothing => "grown by nothing",
+            Shape::GrownMoreItems => "grown by more items than results",
+            Shape::GrownMoreResults => "grown by more results than items",
+            Shape::GrownCargo => "grown by cargo",
+            Shape::GrownLowered => "levels lowered",
+            Shape::GrownEntries => "the grown list has more entries",
+            Shape::GrownNumbers => "the grown list has other used numbers or levels",
+        }
+    }
+}
+
+/// Everything that a run has to meet.
+pub fn required() -> Vec<Point> {
+    let mut points = Vec::new();
+    points.extend((1..=21).map(Point::Rule));
+    points.extend((0..=11).map(Point::Resource));
+    points.extend((0..8).map(Point::Slots));
+    points.extend((0..6).map(Point::WrongSlot));
+    points.extend((0..3).map(Point::Limit));
+    points.extend((0..12).map(Point::Kind));
+    points.extend((0..4).map(Point::State));
+    points.extend([1, 2, 3, 4, 5, 6, 7, 10].map(|refusal| Point::Refusal(Call::List, refusal)));
+    points.extend([1, 2, 3, 4, 5, 6, 8, 9, 10].map(|refusal| Point::Refusal(Call::Skill, refusal)));
+    points.extend([1, 2, 3, 4].map(|refusal| Point::Refusal(Call::Hall, refusal)));
+    points.extend(plant::PLANTS.iter().map(|(refusal, how, _)| {
+        Point::Planted(Plant {
+            refusal: *refusal,
+            how,
+        })
+    }));
+    points.extend(plant::pairs().into_iter().map(|(a, b)| Point::Pair(a, b)));
+    for call in [Call::List, Call::Skill] {
+        let rooms = [
+            RoomKind::Empty,
+            RoomKind::OneShort,
+            RoomKind::Exact,
+            RoomKind::Longer,
+        ];
+        points.extend(rooms.map(|room| Point::Room(call, room)));
+    }
+    points.extend([0, 1, 63, 64, 65].map(Point::HallFits));
+    points.extend([Fate::Clear, Fate::Faulted].map(Point::HallFit));
+    points.extend((4..=7).map(|refusal| Point::HallFit(Fate::Refused(refusal))));
+    points.extend((510..=514).map(Point::Wanted));
+    let sizes = [
+        Size::Skills,
+        Size::Items,
+        Size::Results,
+        Size::Attributes,
+        Size::All,
+    ];
+    points.extend(sizes.map(Point::Full));
+    points.extend([16_777_216, 16_777_217, 16_777_220].map(Point::CatalogueLength));
+    for width in Width::ALL {
+        points.extend(Spot::ALL.map(|spot| Point::Cast(width, spot)));
+    }
+    points.extend(Edge::ALL.map(Point::Over));
+    let volumes = [
+        CapitalEdge::At,
+        CapitalEdge::StepOver,
+        CapitalEdge::HalfOver,
+    ];
+    points.extend(volumes.map(Point::Volume));
+    points.extend((0..NAMES.len() as u8).map(Point::NameMissing));
+    points.extend(Shape::ALL.map(Point::Shape));
+    points.extend([Call::List, Call::Skill].map(Point::Grown));
+    points.extend((1..=21).map(Point::GrownRule));
+    points
+}
+
+impl fmt::Display for Call {
+    fn fmt(&self, out: &mut fmt::Formatter) -> fmt::Result {
+        out.write_str(match self {
+            Call::List => "list call",
+            Call::Skill => "skill call",
+            Call::Hall => "hall call",
+        })
+    }
+}
+
+impl fmt::Display for Point {
+    fn fmt(&self, out: &mut fmt::Formatter) -> fmt::Result {
+        let name = |table: &[&'static str], number: u8| table[usize::from(number)];
+        match *self {
+            Point::Rule(rule) => write!(out, "rule {rule:2} {}", name(&RULES, rule)),
+            Point::Resource(number) => write!(out, "resource {}", name(&RESOURCES, number)),
+            Point::Slots(slot) => write!(out, "Slots {}", name(&RACKS, slot)),
+            Point::WrongSlot(slot) => write!(out, "WrongSlot {}", name(&RACKS, slot)),
+            Point::Limit(limit) => write!(out, "MaxGroup {}", name(&LIMITS, limit)),
+            Point::Kind(kind) => write!(out, "slot kind {}", name(&KINDS, kind)),
+            Point::State(state) => write!(out, "state {}", name(&STATES, state)),
+            Point::Refusal(call, refusal) => write!(out, "refusal {refusal} by the {call}"),
+            Point::Planted(plant) => write!(out, "refusal {}: {}", plant.refusal, plant.how),
+            Point::Pair(a, b) => write!(out, "refusal {a} where {b} is deserved too"),
+            Point::Room(call, room) => write!(out, "{call} with entries, buffer {room:?}"),
+            Point::HallFits(count) => write!(out, "hall of {count} fits"),
+            Point::HallFit(fate) => write!(out, "hall: a fit {fate:?}"),
+            Point::Wanted(count) => write!(out, "{count} wanted skills"),
+            Point::Full(size) => write!(out, "full limit: {size:?}"),
+            Point::CatalogueLength(length) => write!(out, "catalogue of {length} bytes"),
+            Point::Cast(width, spot) => write!(out, "cast to {width:?}: {}", spot.words()),
+            Point::Over(edge) => write!(out, "over: {}", edge.words()),
+            Point::Volume(edge) => write!(out, "volume against 3500: {edge:?}"),
+            Point::NameMissing(number) => write!(out, "no id for {}", name(&NAMES, number)),
+            Point::Shape(shape) => out.write_str(shape.words()),
+            Point::Grown(call) => write!(out, "two fits compared, {call}"),
+            Point::GrownRule(rule) => write!(out, "two fits compared, {}", name(&RULES, rule)),
+        }
+    }
+}
+
+#[cfg(test)]
+mod tests {
+    use super::*;
+
+    #[test]
+    fn spots_of_the_signed_and_the_unsigned_range() {
+        assert_eq!(Spot::of(-0.5, Width::U8), Spot::JustBelow);
+        assert_eq!(Spot::of(-1.0, Width::U8), Spot::Below);
+        assert_eq!(Spot::of(-0.0, Width::U8), Spot::AtLow);
+        assert_eq!(Spot::of(255.9, Width::U8), Spot::JustAbove);
+        assert_eq!(Spot::of(256.0, Width::U8), Spot::Above);
+        assert_eq!(Spot::of(254.5, Width::U8), Spot::Fraction);
+        assert_eq!(Spot::of(-2.7, Width::I32), Spot::Fraction);
+        assert_eq!(Spot::of(-2_147_483_648.9, Width::I32), Spot::JustBelow);
+        assert_eq!(Spot::of(f64::NAN, Width::U16), Spot::NotANumber);
+    }
+
+    #[test]
+    fn nothing_is_required_twice() {
+        let mut points = required();
+        let count = points.len();
+        points.sort();
+        points.dedup();
+        assert_eq!(points.len(), count);
+    }
+}
