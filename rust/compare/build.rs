@@ -13,7 +13,10 @@ fn main() {
     let directory = directory();
     let library = directory.join(LIBRARY);
     println!("cargo:rerun-if-changed={}", library.display());
-    if library.is_file() {
+    let arch = env::var("CARGO_CFG_TARGET_ARCH").unwrap_or_default();
+    if library.is_file() && arch != "x86_64" {
+        println!("cargo:warning={LIBRARY} is for x86-64; this build goes without it");
+    } else if library.is_file() {
         let directory = fs::canonicalize(&directory).unwrap_or(directory);
         println!("cargo:rustc-link-search=native={}", directory.display());
         println!("cargo:rustc-link-lib=static=fitcheck");

@@ -79,7 +79,9 @@ pub fn parse(line: &[String]) -> Result<Command, String> {
                 settings.against = match value()?.as_str() {
                     "plain" => Some(Against::Plain),
                     "rattle" => Some(Against::Rattle),
-                    other => return Err(format!("`--against` takes plain or rattle, not `{other}`")),
+                    other => {
+                        return Err(format!("`--against` takes plain or rattle, not `{other}`"));
+                    }
                 }
             }
             "--faults" => faults = true,
@@ -121,7 +123,10 @@ mod tests {
         };
         assert_eq!((settings.cases, settings.seed), (7, 9));
         assert_eq!(settings.against, Some(Against::Plain));
-        assert!(matches!(parsed("--faults --cases 3"), Ok(Command::Faults(_))));
+        assert!(matches!(
+            parsed("--faults --cases 3"),
+            Ok(Command::Faults(_))
+        ));
         assert_eq!(
             parsed("record answers.bin"),
             Ok(Command::Record("answers.bin".to_string()))
@@ -130,12 +135,18 @@ mod tests {
 
     #[test]
     fn wrong_lines_say_what_is_wrong() {
-        assert_eq!(parsed("--cases"), Err("`--cases` needs a value".to_string()));
+        assert_eq!(
+            parsed("--cases"),
+            Err("`--cases` needs a value".to_string())
+        );
         assert_eq!(
             parsed("--cases many"),
             Err("`--cases` takes a whole number, not `many`".to_string())
         );
-        assert_eq!(parsed("--what"), Err("`--what` is not an option".to_string()));
+        assert_eq!(
+            parsed("--what"),
+            Err("`--what` is not an option".to_string())
+        );
         assert!(parsed("--against rust").is_err());
         assert!(parsed("record").is_err());
         assert!(parsed("--fault Mark9 --against rattle").is_err());

@@ -1,13 +1,13 @@
 //! Does the comparison notice? Every deliberate fault of the plain port, and
 //! the first case that tells it apart.
 
-use crate::cases;
-use crate::names::{
-    GROUP_LIMITS, MARKS, NAMES, SHIP_GROUPS, SHIP_TYPES, STANDUP_FIGHTERS, VOLUME,
-};
+use std::ops::Range;
+
+use crate::names::{GROUP_LIMITS, MARKS, NAMES, SHIP_GROUPS, SHIP_TYPES, STANDUP_FIGHTERS, VOLUME};
 use crate::plain::{FAULTS, Flaw, Plain};
 use crate::run::run;
 use crate::tally::Tally;
+use crate::{cases, fixed};
 
 /// Every flaw: what it is called, and what it does wrong.
 pub fn flaws() -> Vec<(Flaw, String, String)> {
@@ -62,10 +62,13 @@ pub fn named(name: &str) -> Option<Flaw> {
     found.map(|(flaw, _, _)| flaw)
 }
 
-/// The first case that tells a flaw apart, among so many.
-pub fn told_apart(flaw: Flaw, cases: u64, seed: u64) -> Option<u64> {
+/// How many generated cases are tried alone, without the fixed ones.
+const GENERATED: u64 = 4_000;
+
+/// The first case of a range that tells a flaw apart.
+pub fn told_apart(flaw: Flaw, mut cases: Range<u64>, seed: u64) -> Option<u64> {
     let checker = Plain::with(flaw);
-    (0..cases).find(|number| {
+    cases.find(|number| {
         let case = cases::case(seed, *number);
         run(&case, &checker, &mut Tally::default()).is_err()
     })
@@ -73,19 +76,31 @@ pub fn told_apart(flaw: Flaw, cases: u64, seed: u64) -> Option<u64> {
 
 /// Prints the table; how many faults were told apart, and how many were not.
 pub fn table(cases: u64, seed: u64) -> (u64, u64) {
+    let fixed = fixed::count() as u64;
+    let generated = fixed..fixed + GENERATED;
+    println!(
+        "Cases 0 to {} are fixed. The third column is the first of",
+        fixed - 1
+    );
+    println!("{GENERATED} generated cases (seed {seed}) that tells the fault apart too.\n");
+    println!("| fault | told apart by case | generated | what is wrong |\n|---|---|---|---|");
     let (mut noticed, mut missed) = (0, 0);
-    println!("| fault | told apart by case | what is wrong |\n|---|---|---|");
     for (flaw, name, words) in flaws() {
-        match told_apart(flaw, cases, seed) {
+        let also = match told_apart(flaw, generated.clone(), seed) {
+            Some(number) => number.to_string(),
+            None => "none".to_string(),
+        };
+        match told_apart(flaw, 0..cases, seed) {
             Some(number) => {
                 noticed += 1;
-                println!("| {name} | {number} | {words} |");
+                println!("| {name} | {number} | {also} | {words} |");
             }
             None => {
                 missed += 1;
-                println!("| {name} | NOT TOLD APART | {words} |");
+                println!("| {name} | NOT TOLD APART | {also} | {words} |");
             }
         }
     }
+    println!();
     (noticed, missed)
 }

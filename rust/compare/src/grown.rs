@@ -39,12 +39,10 @@ fn stands_for(old: &Entry, new: &Entry) -> bool {
     let word = |entry: &Entry, at: usize| {
         u32::from_le_bytes([entry[at], entry[at + 1], entry[at + 2], entry[at + 3]])
     };
-    let number = |entry: &Entry| f64::from_bits(
-        u64::from(word(entry, 8)) + (u64::from(word(entry, 12)) << 32),
-    );
-    let but = |from: usize, to: usize| {
-        old[..from] == new[..from] && old[to..] == new[to..]
+    let number = |entry: &Entry| {
+        f64::from_bits(u64::from(word(entry, 8)) + (u64::from(word(entry, 12)) << 32))
     };
+    let but = |from: usize, to: usize| old[..from] == new[..from] && old[to..] == new[to..];
     match old[1] {
         RESOURCE => but(8, 16) && number(new) >= number(old),
         SLOTS => but(8, 12) && word(new, 8) >= word(old, 8),
@@ -117,7 +115,10 @@ mod tests {
     fn the_earliest_place_is_enough() {
         // Two old entries of rule 2 against used numbers 5, 4: only in order.
         let slots = |used| entry(2, [used, 1, 0, 0]);
-        assert_eq!(places(&[slots(3), slots(4)], &[slots(5), slots(4)]), Ok(vec![0, 1]));
+        assert_eq!(
+            places(&[slots(3), slots(4)], &[slots(5), slots(4)]),
+            Ok(vec![0, 1])
+        );
         assert!(places(&[slots(3), slots(5)], &[slots(5), slots(4)]).is_err());
     }
 }

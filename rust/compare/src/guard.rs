@@ -49,7 +49,9 @@ impl Guarded {
             Fill::Second => 1 + length % 7,
         };
         let start = GUARD + shift;
-        let all = (0..start + length + GUARD).map(|at| fill.byte(at)).collect();
+        let all = (0..start + length + GUARD)
+            .map(|at| fill.byte(at))
+            .collect();
         Guarded {
             all,
             start,

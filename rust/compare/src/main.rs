@@ -21,7 +21,10 @@ fn main() -> ExitCode {
         Ok(Command::Compare(settings)) => compared(&settings),
         Ok(Command::Faults(settings)) => {
             quiet_checker_panics();
-            println!("Every deliberate fault of the plain port, among {} cases:\n", settings.cases);
+            println!(
+                "Every deliberate fault of the plain port, among {} cases:\n",
+                settings.cases
+            );
             Ok(faults::table(settings.cases, settings.seed))
         }
         Ok(Command::Record(file)) => record::write(&file).map(|records| (records as u64, 0)),
@@ -30,7 +33,11 @@ fn main() -> ExitCode {
     match done {
         Ok((passed, failed)) => {
             println!("{passed} passed, {failed} failed");
-            if failed == 0 { ExitCode::SUCCESS } else { ExitCode::FAILURE }
+            if failed == 0 {
+                ExitCode::SUCCESS
+            } else {
+                ExitCode::FAILURE
+            }
         }
         Err(message) => {
             eprintln!("compare: {message}");

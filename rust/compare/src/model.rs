@@ -277,16 +277,47 @@ mod tests {
     #[test]
     fn lengths_are_document_01s() {
         let catalogue = Catalogue {
-            names: vec![Name { number: 20, attribute: 352 }],
+            names: vec![Name {
+                number: 20,
+                attribute: 352,
+            }],
             effects: vec![Effect { id: 12, mark: 1 }; 2],
-            types: vec![Type { id: 1, group: 2, category: 3, flag: 1, volume: 4 }; 3],
-            links: vec![Link { type_id: 1, effect: 12 }; 4],
-            bases: vec![Base { type_id: 1, attribute: 2, value: 3 }; 5],
+            types: vec![
+                Type {
+                    id: 1,
+                    group: 2,
+                    category: 3,
+                    flag: 1,
+                    volume: 4
+                };
+                3
+            ],
+            links: vec![
+                Link {
+                    type_id: 1,
+                    effect: 12
+                };
+                4
+            ],
+            bases: vec![
+                Base {
+                    type_id: 1,
+                    attribute: 2,
+                    value: 3
+                };
+                5
+            ],
             damage: Damage::default(),
         };
-        assert_eq!(catalogue.image().len(), 20 + 8 + 8 * 2 + 20 * 3 + 8 * 4 + 12 * 5);
+        assert_eq!(
+            catalogue.image().len(),
+            20 + 8 + 8 * 2 + 20 * 3 + 8 * 4 + 12 * 5
+        );
 
-        let outcome = Outcome { attributes: vec![(1, 0), (2, 0)], ..Outcome::default() };
+        let outcome = Outcome {
+            attributes: vec![(1, 0), (2, 0)],
+            ..Outcome::default()
+        };
         let fit = Fit {
             skills: vec![Skill { id: 1, level: 2 }; 3],
             items: vec![Item::default(); 4],
@@ -301,8 +332,20 @@ mod tests {
     fn a_block_has_all_keys_and_then_all_values() {
         let catalogue = Catalogue {
             types: vec![
-                Type { id: 1, group: 2, category: 3, flag: 1, volume: 5 },
-                Type { id: 6, group: 7, category: 8, flag: 0, volume: 9 },
+                Type {
+                    id: 1,
+                    group: 2,
+                    category: 3,
+                    flag: 1,
+                    volume: 5,
+                },
+                Type {
+                    id: 6,
+                    group: 7,
+                    category: 8,
+                    flag: 0,
+                    volume: 9,
+                },
             ],
             ..Catalogue::default()
         };

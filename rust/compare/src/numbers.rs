@@ -84,7 +84,7 @@ impl Width {
 /// Any of the odd values, as bits.
 pub fn odd(rng: &mut Rng) -> u64 {
     match rng.below(5) {
-        0 => rng.next(),
+        0 => rng.draw(),
         _ => rng.pick(&ODD),
     }
 }
@@ -92,7 +92,7 @@ pub fn odd(rng: &mut Rng) -> u64 {
 /// Any of the odd f32 values, as bits.
 pub fn odd_single(rng: &mut Rng) -> u32 {
     match rng.below(6) {
-        0 => rng.next() as u32,
+        0 => rng.draw() as u32,
         1 => (rng.between(-300, 300) as f32 / 2.0).to_bits(),
         _ => rng.pick(&ODD_SINGLE),
     }
@@ -141,7 +141,7 @@ pub fn available(rng: &mut Rng) -> f64 {
         0 => f64::from_bits(odd(rng)),
         1 => rng.pick(&[1e9, -1e9, 1e-9, 1.0, -1.0, 0.1, 1e300, -1e300]),
         2 => rng.between(-1_000_000, 1_000_000) as f64 * 1_000.0,
-        3 => f64::from_bits(rng.next() & 0x43FF_FFFF_FFFF_FFFF),
+        3 => f64::from_bits(rng.draw() & 0x43FF_FFFF_FFFF_FFFF),
         4 => f64::from_bits(rng.pick(&FUSED_DIFFERS)) * rng.pick(&[1.0, -1.0, 8.0, 0.25]),
         _ => rng.between(0, 400_000) as f64 / 16.0,
     }

@@ -61,7 +61,11 @@ impl Record {
         // Room for every entry there can be, to learn how many there are.
         let mut all = vec![0; ENTRY * 8_192];
         let word = call(&mut all);
-        let entries = if ask == Ask::Hall || word >> 32 != 0 { 0 } else { word as usize };
+        let entries = if ask == Ask::Hall || word >> 32 != 0 {
+            0
+        } else {
+            word as usize
+        };
         let length = match room {
             Some(room) if word >> 32 == 0 => room.length(ENTRY * entries),
             Some(room) => room.length(2 * ENTRY).min(2 * ENTRY),
@@ -69,7 +73,11 @@ impl Record {
         };
         let mut out = vec![0; length];
         let word = call(&mut out);
-        let count = if ask == Ask::Hall || word >> 32 != 0 { 0 } else { word as usize };
+        let count = if ask == Ask::Hall || word >> 32 != 0 {
+            0
+        } else {
+            word as usize
+        };
         out.truncate(ENTRY * count);
         Some(Record {
             catalogue,
@@ -208,7 +216,11 @@ pub fn write(name: &str) -> Result<usize, String> {
     let records = sample();
     let bytes = file(&records);
     fs::write(name, &bytes).map_err(|error| format!("cannot write {name}: {error}"))?;
-    println!("{} records, {} bytes, in {name}", records.len(), bytes.len());
+    println!(
+        "{} records, {} bytes, in {name}",
+        records.len(),
+        bytes.len()
+    );
     Ok(records.len())
 }
 

@@ -161,8 +161,7 @@ impl Stage<'_> {
         let expected = expected(listed, length);
         self.planted(expected.word)?;
         tally.call(result.is_some(), room, expected.word);
-        if let (Some(result), Ok(catalogue), Ok(fit)) =
-            (result, &self.catalogue, &subject.decoded)
+        if let (Some(result), Ok(catalogue), Ok(fit)) = (result, &self.catalogue, &subject.decoded)
         {
             tally.walk(catalogue, fit, result);
         }

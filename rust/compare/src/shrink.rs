@@ -95,10 +95,18 @@ impl Small<'_> {
                 _ => {}
             });
         }
-        for ask in [Ask::List(Room::Exact), Ask::Skill(0, Room::Exact)] {
-            if matches!(self.case.asks[0], Ask::GrownList | Ask::GrownSkill(_)) {
-                self.change(|case| case.asks[0] = ask);
-            }
+        // One of the two fits alone may show it.
+        let single = match self.case.asks[0] {
+            Ask::GrownList => Ask::List(Room::Exact),
+            Ask::GrownSkill(result) => Ask::Skill(result, Room::Exact),
+            _ => return,
+        };
+        let alone = self.change(|case| case.asks[0] = single);
+        if !alone {
+            self.change(|case| {
+                case.fits[0] = case.growth.of(&case.fits[0]);
+                case.asks[0] = single;
+            });
         }
     }
 
@@ -173,8 +181,6 @@ impl Small<'_> {
                 for quantity in [0, 1] {
                     self.change(|case| case.fits[number].items[place].quantity = quantity);
                 }
-                self.change(|case| case.fits[number].items[place].index = 0);
-                self.change(|case| case.fits[number].items[place].type_id = 1);
             }
             for place in 0..self.case.fits[number].skills.len() {
                 self.change(|case| case.fits[number].skills[place].level = 0);

@@ -3,7 +3,7 @@
 
 use crate::case::{Ask, Case, Room};
 use crate::checker::{ENTRY, Entry};
-use crate::model::{Catalogue, Damage, Fit, Outcome};
+use crate::model::{Catalogue, Damage, Fit, Name, Outcome};
 use crate::names::{MARKS, NAMES};
 
 pub const RULES: [&str; 22] = [
@@ -92,12 +92,17 @@ pub fn case(case: &Case) -> String {
         0 if case.fits.len() == 1 => "fit".to_string(),
         _ => format!("fit {number}"),
     };
+    let names = &case.catalogue.names;
     for (number, one) in case.fits.iter().enumerate() {
-        fit(&mut text, &own(number), one);
+        fit(&mut text, &own(number), one, names);
     }
     damage(&mut text, "hall input", &case.frame);
     let growth = &case.growth;
-    if case.asks.iter().any(|ask| matches!(ask, Ask::GrownList | Ask::GrownSkill(_))) {
+    if case
+        .asks
+        .iter()
+        .any(|ask| matches!(ask, Ask::GrownList | Ask::GrownSkill(_)))
+    {
         text += &format!(
             "the fit grows by {} items and {} results; levels fall by {:?}\n",
             growth.items.len(),
@@ -109,7 +114,7 @@ pub fn case(case: &Case) -> String {
             results: growth.results.clone(),
             ..Fit::default()
         };
-        things(&mut text, &more);
+        things(&mut text, &more, names);
     }
     for planted in &case.planted {
         text += &format!("planted: refusal {} by {}\n", planted.refusal, planted.how);
@@ -168,13 +173,6 @@ fn catalogue(text: &mut String, catalogue: &Catalogue) {
         links.len(),
         bases.len()
     );
-    let name_of = |attribute: i32| {
-        let known = names.iter().find(|row| row.attribute == attribute);
-        match known.and_then(|row| NAMES.get(row.number as usize)) {
-            Some(name) => format!("{name} ({attribute})"),
-            None => format!("attribute {attribute}"),
-        }
-    };
     list(text, names, |row| match NAMES.get(row.number as usize) {
         Some(name) => format!("{name} is attribute {}", row.attribute),
         None => format!("name {} is attribute {}", row.number, row.attribute),
@@ -201,14 +199,27 @@ fn catalogue(text: &mut String, catalogue: &Catalogue) {
         format!(
             "type {} starts with {} = {}",
             row.type_id,
-            name_of(row.attribute),
+            attribute(names, row.attribute),
             single(row.value)
         )
     });
     damage(text, "catalogue", harm);
 }
 
-fn fit(text: &mut String, own: &str, fit: &Fit) {
+/// An attribute by every name that has its id, or by the id alone.
+fn attribute(names: &[Name], id: i32) -> String {
+    let known: Vec<&str> = names
+        .iter()
+        .filter(|row| row.attribute == id)
+        .filter_map(|row| NAMES.get(row.number as usize).copied())
+        .collect();
+    match known.is_empty() {
+        true => format!("attribute {id}"),
+        false => known.join(" and "),
+    }
+}
+
+fn fit(text: &mut String, own: &str, fit: &Fit, names: &[Name]) {
     let mode = match (fit.mode_flag, fit.mode) {
         (0, 0) => "no mode".to_string(),
         (1, mode) => format!("mode {mode}"),
@@ -225,16 +236,18 @@ fn fit(text: &mut String, own: &str, fit: &Fit) {
     list(text, &fit.skills, |skill| {
         format!("skill {} trained to {}", skill.id, skill.level)
     });
-    list(text, &[&fit.ship], |one| format!("the ship: {}", outcome(one)));
-    list(text, &[&fit.character], |one| {
-        format!("the character: {}", outcome(one))
+    list(text, &[&fit.ship], |one| {
+        format!("the ship: {}", outcome(one, names))
     });
-    things(text, fit);
+    list(text, &[&fit.character], |one| {
+        format!("the character: {}", outcome(one, names))
+    });
+    things(text, fit, names);
     damage(text, own, &fit.damage);
 }
 
 /// Items and results, side by side.
-fn things(text: &mut String, fit: &Fit) {
+fn things(text: &mut String, fit: &Fit, names: &[Name]) {
     let places: Vec<usize> = (0..fit.items.len().max(fit.results.len())).collect();
     list(text, &places, |place| {
         let item = match fit.items.get(*place) {
@@ -244,24 +257,28 @@ fn things(text: &mut String, fit: &Fit) {
                 item.type_id,
                 named(&KINDS, item.kind),
                 item.index,
-                if item.zero == 0 { "" } else { ", zero byte not 0" }
+                if item.zero == 0 {
+                    ""
+                } else {
+                    ", zero byte not 0"
+                }
             ),
             None => "no item".to_string(),
         };
         let result = match fit.results.get(*place) {
-            Some(result) => outcome(result),
+            Some(result) => outcome(result, names),
             None => "no result".to_string(),
         };
         format!("item {place}: {item}; {result}")
     });
 }
 
-fn outcome(outcome: &Outcome) -> String {
+fn outcome(outcome: &Outcome, names: &[Name]) -> String {
     let values: Vec<String> = outcome
         .attributes
         .iter()
         .take(60)
-        .map(|(id, bits)| format!("{id} = {}", double(*bits)))
+        .map(|(id, bits)| format!("{} = {}", attribute(names, *id), double(*bits)))
         .collect();
     let more = outcome.attributes.len() - values.len();
     let mut text = format!("{}, {{{}", named(&STATES, outcome.state), values.join(", "));
@@ -325,40 +342,63 @@ fn single(bits: u32) -> String {
     }
 }
 
-/// An entry in words.
+/// What the payload's words of a rule are, in their order.
+fn fields(rule: u8) -> &'static [&'static str] {
+    match rule {
+        2 => &["used", "available"],
+        9 => &["expected"],
+        11 => &["skill", "required", "trained"],
+        12 => &["ship", "rig"],
+        17 => &["group", "used", "allowed"],
+        18 => &["type", "used", "allowed"],
+        21 => &["type"],
+        _ => &[],
+    }
+}
+
+/// An entry in words; whatever should be zero and is not stands at the end.
 pub fn entry(entry: &Entry) -> String {
     let word = |number: usize| {
         let at = 8 + 4 * number;
         u32::from_le_bytes([entry[at], entry[at + 1], entry[at + 2], entry[at + 3]])
     };
     let index = u32::from_le_bytes([entry[4], entry[5], entry[6], entry[7]]);
-    let target = match entry[0] {
-        0 if index == 0 => "ship".to_string(),
-        1 => format!("item {index}"),
-        other => format!("target {other} index {index}"),
+    let (rule, sub) = (entry[1], entry[2]);
+    let mut text = match entry[0] {
+        0 if index == 0 => "ship: ".to_string(),
+        1 => format!("item {index}: "),
+        other => format!("target {other}, index {index}: "),
     };
-    let fourth = match entry[3] {
-        0 => String::new(),
-        other => format!(", fourth byte {other}"),
-    };
-    let rule = named(&RULES, entry[1]);
-    let sub = entry[2];
-    let double_at = |number: usize| {
-        double(u64::from(word(number)) + (u64::from(word(number + 1)) << 32))
-    };
-    let body = match entry[1] {
-        1 => format!(
-            " {}: used {}, available {}",
-            named(&RESOURCES, sub),
-            double_at(0),
-            double_at(2)
-        ),
-        2 => format!(" {}: words {:?}", named(&RACKS, sub), [word(0), word(1), word(2), word(3)]),
-        3 => format!(" {}: words {:?}", named(&RACKS, sub), [word(0), word(1), word(2), word(3)]),
-        17 => format!(" {}: words {:?}", named(&LIMITS, sub), [word(0), word(1), word(2), word(3)]),
-        _ => format!(" sub {sub}, words {:?}", [word(0), word(1), word(2), word(3)]),
-    };
-    format!("{target}: {rule}{body}{fourth}")
+    text += &named(&RULES, rule);
+    match rule {
+        1 => text += &format!(" {}", named(&RESOURCES, sub)),
+        2 | 3 => text += &format!(" {}", named(&RACKS, sub)),
+        17 => text += &format!(" {}", named(&LIMITS, sub)),
+        _ if sub != 0 => text += &format!(", sub {sub}"),
+        _ => {}
+    }
+    if rule == 1 {
+        let number =
+            |first: usize| double(u64::from(word(first)) + (u64::from(word(first + 1)) << 32));
+        text += &format!(", used {}, available {}", number(0), number(2));
+    } else {
+        for (number, field) in fields(rule).iter().enumerate() {
+            let value = match *field {
+                "skill" | "group" | "type" => format!("{}", word(number) as i32),
+                _ => format!("{}", word(number)),
+            };
+            text += &format!(", {field} {value}");
+        }
+        for number in fields(rule).len()..4 {
+            if word(number) != 0 {
+                text += &format!(", word {number} is {}", word(number));
+            }
+        }
+    }
+    if entry[3] != 0 {
+        text += &format!(", fourth byte {}", entry[3]);
+    }
+    text
 }
 
 /// The entries that a buffer begins with.
@@ -378,7 +418,7 @@ mod tests {
     fn an_entry_reads_as_a_sentence() {
         let mut bytes = [0; 24];
         bytes[1] = 19;
-        assert_eq!(entry(&bytes), "ship: NotAHull sub 0, words [0, 0, 0, 0]");
+        assert_eq!(entry(&bytes), "ship: NotAHull");
 
         let mut bytes = [0; 24];
         bytes[..3].copy_from_slice(&[0, 1, 11]);
@@ -386,7 +426,17 @@ mod tests {
         bytes[16..].copy_from_slice(&(-1f64).to_le_bytes());
         assert_eq!(
             entry(&bytes),
-            "ship: Resource CargoBay: used 2.5, available -1.0"
+            "ship: Resource CargoBay, used 2.5, available -1.0"
+        );
+
+        let mut bytes = [0; 24];
+        bytes[..5].copy_from_slice(&[1, 17, 2, 0, 3]);
+        bytes[8..12].copy_from_slice(&(-8i32).to_le_bytes());
+        bytes[12] = 2;
+        bytes[20] = 9;
+        assert_eq!(
+            entry(&bytes),
+            "item 3: MaxGroup Active, group -8, used 2, allowed 0, word 3 is 9"
         );
     }
 

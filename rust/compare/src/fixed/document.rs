@@ -145,7 +145,11 @@ pub const CASES: &[Make] = &[
             .mode(40)
             .list("a mode of another group")
     },
-    || Sketch::hull().mode(40).list("a mode that the catalogue lacks"),
+    || {
+        Sketch::hull()
+            .mode(40)
+            .list("a mode that the catalogue lacks")
+    },
     || Sketch::hull().mode(0).list("mode 0, given"),
     || {
         Sketch::hull()

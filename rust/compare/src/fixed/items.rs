@@ -196,9 +196,7 @@ fn rigs(ship: f64, rig: f64, kind: u8) -> Case {
 }
 
 fn restricted_sketch(listed: &[(usize, f64)], kind: u8) -> Sketch {
-    let mut sketch = Sketch::hull()
-        .known(5, 1, CATEGORY_MODULE)
-        .item(5, kind, 0);
+    let mut sketch = Sketch::hull().known(5, 1, CATEGORY_MODULE).item(5, kind, 0);
     for (name, value) in listed {
         sketch = sketch.with(*name, *value);
     }

@@ -27,7 +27,13 @@ pub const CASES: &[Make] = &[
     || load(1e-10, 0.0, "a little used of nothing"),
     || load(-0.0, -1.0, "minus zero used of less"),
     || load(0.0, -0.0, "zero used of minus zero"),
-    || load(f64::INFINITY, f64::MAX, "infinity used of the largest number"),
+    || {
+        load(
+            f64::INFINITY,
+            f64::MAX,
+            "infinity used of the largest number",
+        )
+    },
     || load(f64::INFINITY, 1e300, "infinity used of a large number"),
     || load(f64::NAN, 1.0, "NaN used"),
     || load(5.0, f64::NAN, "NaN available"),
@@ -157,7 +163,10 @@ pub const CASES: &[Make] = &[
     // Rounded once, product and sum together give another last digit.
     || {
         let volumes = [0x3C2C_5998, 0x3DA6_49C1].map(f32::from_bits);
-        cargo(&[(volumes[0], 2_755_385_480), (volumes[1], 3_520_945_500)], 1.0)
+        cargo(
+            &[(volumes[0], 2_755_385_480), (volumes[1], 3_520_945_500)],
+            1.0,
+        )
     },
     || {
         Sketch::hull()

@@ -249,7 +249,9 @@ fn every_category(kind: u8) -> Case {
             FIGHTER_BAY | DRONE_BAY | CARGO => 0,
             _ => number as u16,
         };
-        sketch = sketch.known(type_id, 1, category).item(type_id, kind, index);
+        sketch = sketch
+            .known(type_id, 1, category)
+            .item(type_id, kind, index);
     }
     sketch.list("an item of each category in one kind of slot")
 }

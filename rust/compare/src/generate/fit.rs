@@ -27,13 +27,22 @@ pub fn fit(rng: &mut Rng, world: &World, style: Style, most: usize) -> Fit {
     };
     mode(rng, world, &mut fit);
     skills(rng, world, style, &mut fit);
+    let kinds = kinds(rng);
     for _ in 0..rng.below(most + 1) {
-        let item = item(rng, world, style, &fit);
+        let kind = rng.pick(&kinds);
+        let item = item(rng, world, style, &fit, kind);
         fit.items.push(item);
+    }
+    if rng.chance(style.odd / 8) {
+        hangar(rng, world, &mut fit);
     }
     fit.ship = ship(rng, world, style, &fit);
     fit.character = character(rng, world, style);
-    let rig_size = fit.ship.attributes.iter().find(|row| row.0 == world.ids[RIG_SIZE]);
+    let rig_size = fit
+        .ship
+        .attributes
+        .iter()
+        .find(|row| row.0 == world.ids[RIG_SIZE]);
     let rig_size = rig_size.map_or(1.0, |row| f64::from_bits(row.1));
     fit.results = fit
         .items
@@ -42,6 +51,37 @@ pub fn fit(rng: &mut Rng, world: &World, style: Style, most: usize) -> Fit {
         .collect();
     unequal(rng, world, style, &mut fit);
     fit
+}
+
+/// The kinds of slot that a fit uses: all, or a few, so that items meet.
+fn kinds(rng: &mut Rng) -> Vec<u8> {
+    match rng.below(5) {
+        0 => {
+            let (one, other) = (rng.below(12) as u8, rng.below(12) as u8);
+            vec![one, one, other]
+        }
+        _ => (0..12).collect(),
+    }
+}
+
+/// Stacks of drones that come to about 32 bits together.
+fn hangar(rng: &mut Rng, world: &World, fit: &mut Fit) {
+    let stacks: &[u32] = rng.pick(&[
+        &[4_294_967_295, 1],
+        &[4_294_967_294, 1],
+        &[2_147_483_648, 2_147_483_648],
+        &[2_147_483_648, 2_147_483_647],
+        &[1, 0, 4_294_967_295, 7],
+    ]);
+    for quantity in stacks {
+        fit.items.push(Item {
+            type_id: world.a(rng, Role::Drone),
+            quantity: *quantity,
+            kind: DRONE_BAY,
+            zero: 0,
+            index: 0,
+        });
+    }
 }
 
 /// Sometimes a few items without result, or results without item.
@@ -53,7 +93,8 @@ fn unequal(rng: &mut Rng, world: &World, style: Style, fit: &mut Fit) {
         }
         1 => {
             for _ in 0..rng.below(4) {
-                let item = item(rng, world, style, fit);
+                let kind = rng.below(12) as u8;
+                let item = item(rng, world, style, fit, kind);
                 let extra = result(rng, world, style, &item, fit.ship_type, 1.0);
                 fit.results.push(extra);
             }
@@ -78,7 +119,7 @@ fn skills(rng: &mut Rng, world: &World, style: Style, fit: &mut Fit) {
         }
     }
     while rng.chance(style.wrong) {
-        trained.insert(world.any(rng), rng.next() as u8);
+        trained.insert(world.any(rng), rng.draw() as u8);
     }
     fit.skills = trained
         .into_iter()
@@ -86,10 +127,15 @@ fn skills(rng: &mut Rng, world: &World, style: Style, fit: &mut Fit) {
         .collect();
 }
 
-pub fn item(rng: &mut Rng, world: &World, style: Style, fit: &Fit) -> Item {
-    let kind = rng.below(12) as u8;
+/// An item in a slot of a kind.
+pub fn item(rng: &mut Rng, world: &World, style: Style, fit: &Fit, kind: u8) -> Item {
     let role = match kind {
-        HIGH => rng.pick(&[Role::Rack(0), Role::Turret, Role::Launcher, Role::StructureModule]),
+        HIGH => rng.pick(&[
+            Role::Rack(0),
+            Role::Turret,
+            Role::Launcher,
+            Role::StructureModule,
+        ]),
         MEDIUM..=SERVICE => Role::Rack(kind),
         FIGHTER_TUBE | FIGHTER_BAY => Role::Fighter,
         IMPLANT | BOOSTER => Role::Implant,
@@ -119,7 +165,7 @@ pub fn item(rng: &mut Rng, world: &World, style: Style, fit: &Fit) -> Item {
             rng.pick(&[0, 2, 65_536, 2_147_483_648, 4_294_967_294, 4_294_967_295])
         }
         DRONE_BAY | FIGHTER_TUBE | FIGHTER_BAY => rng.between(1, 9) as u32,
-        CARGO if rng.chance(100) => rng.next() as u32,
+        CARGO if rng.chance(250) => rng.draw() as u32,
         CARGO => rng.between(1, 2000) as u32,
         _ => 1,
     };
@@ -146,7 +192,13 @@ fn ship(rng: &mut Rng, world: &World, style: Style, fit: &Fit) -> Outcome {
             _ => available * 1.25,
         };
         some(rng, &mut values, world, LOADS + 2 * row, used.to_bits());
-        some(rng, &mut values, world, LOADS + 2 * row + 1, available.to_bits());
+        some(
+            rng,
+            &mut values,
+            world,
+            LOADS + 2 * row + 1,
+            available.to_bits(),
+        );
     }
     for slot in 0..8 {
         let count = match slot {
@@ -230,22 +282,30 @@ pub fn result(
         }
     }
     if rng.chance(if kind == SUBSYSTEM { 850 } else { 30 }) {
-        let part = match rng.chance(style.odd) {
-            true => numbers::odd(rng),
-            false => (rng.between(125, 129) as f64).to_bits(),
+        let part = match rng.below(3) {
+            _ if rng.chance(style.odd / 2) => rng.pick(&[f64::NAN, 0.0, -0.0, 125.5]),
+            0 if rng.chance(style.odd) => f64::from_bits(numbers::odd(rng)),
+            _ => rng.between(125, 129) as f64,
         };
+        let part = part.to_bits();
         put(SUBSYSTEM_SLOT, part);
     }
     if rng.chance(500) {
         let volume = match rng.below(4) {
             _ if rng.chance(style.odd) => numbers::odd(rng),
-            0 => rng.pick(&[3500.0, 3500.5, 3500.0_f64.next_up(), 3500.0_f64.next_down()]).to_bits(),
+            0 => rng
+                .pick(&[3500.0, 3500.5, 3500.0_f64.next_up(), 3500.0_f64.next_down()])
+                .to_bits(),
             1 => 4000f64.to_bits(),
             _ => (rng.between(1, 50) as f64).to_bits(),
         };
         put(VOLUME, volume);
     }
-    if rng.chance(if kind == FIGHTER_TUBE || kind == FIGHTER_BAY { 400 } else { 20 }) {
+    if rng.chance(if kind == FIGHTER_TUBE || kind == FIGHTER_BAY {
+        400
+    } else {
+        20
+    }) {
         let mark = match rng.chance(style.odd) {
             true => numbers::odd(rng),
             false => 1f64.to_bits(),

@@ -25,10 +25,15 @@ pub fn growth(rng: &mut Rng) -> Case {
     };
     for _ in 0..rng.below(8) {
         let added = match old.items.is_empty() || rng.chance(700) {
-            true => item(rng, &world, style, &old),
+            true => {
+                let kind = rng.below(12) as u8;
+                item(rng, &world, style, &old, kind)
+            }
             false => rng.pick(&old.items),
         };
-        growth.results.push(result(rng, &world, style, &added, old.ship_type, 1.0));
+        growth
+            .results
+            .push(result(rng, &world, style, &added, old.ship_type, 1.0));
         growth.items.push(added);
     }
     for _ in 0..rng.below(3) {

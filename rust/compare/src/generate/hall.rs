@@ -49,6 +49,13 @@ pub fn hall(rng: &mut Rng) -> Case {
         1 => shift_lengths(&mut case),
         _ => {}
     }
+    if rng.chance(100) {
+        match rng.below(3) {
+            0 => case.catalogue.damage.extra.push(0),
+            1 => case.catalogue.types.reverse(),
+            _ => case.catalogue.types[0].flag = 2,
+        }
+    }
     case
 }
 
@@ -59,6 +66,7 @@ fn one(rng: &mut Rng, world: &World, style: Style) -> Fit {
             ship_type: world.a(rng, Role::Hull),
             ..Fit::default()
         },
+        1 if rng.chance(50) => fit(rng, world, style, 200),
         _ => fit(rng, world, style, 6),
     };
     match rng.below(12) {
@@ -107,7 +115,7 @@ pub fn break_frame(rng: &mut Rng, case: &mut Case, way: usize) {
         }
         1 => frame.cut = usize::MAX,
         2 => case.fits.resize(65, Fit::default()),
-        3 => frame.extra.push(rng.next() as u8),
+        3 => frame.extra.push(rng.draw() as u8),
         4 => frame.cut = 1,
         5 => {
             case.fits.push(Fit::default());

@@ -64,7 +64,15 @@ pub fn one_full(which: usize) -> Case {
     let mut sketch = Sketch::hull();
     match which {
         0 => sketch.fit.skills = (0..1_024).map(|id| Skill { id, level: 1 }).collect(),
-        1 => sketch.fit.items = vec![Item { type_id: 5, ..Item::default() }; 256],
+        1 => {
+            sketch.fit.items = vec![
+                Item {
+                    type_id: 5,
+                    ..Item::default()
+                };
+                256
+            ]
+        }
         2 => sketch.fit.results = vec![Outcome::default(); 256],
         3 => fill(&mut sketch.fit.ship, 30_000),
         _ => {

@@ -24,7 +24,9 @@ type Dig = fn(&mut Ground, &mut Rng);
 /// Every plant: its refusal, how it is deserved, and the change that does it.
 /// No plant brings about any other refusal.
 pub const PLANTS: &[(u8, &str, Dig)] = &[
-    (1, "catalogue one byte short", |g, _| g.catalogue.damage.cut += 1),
+    (1, "catalogue one byte short", |g, _| {
+        g.catalogue.damage.cut += 1
+    }),
     (1, "catalogue of 3 bytes", |g, _| {
         g.catalogue.damage.cut = usize::MAX;
         g.catalogue.damage.extra = vec![1, 0, 0];
@@ -33,9 +35,11 @@ pub const PLANTS: &[(u8, &str, Dig)] = &[
         g.catalogue.damage.cut = usize::MAX;
         g.catalogue.damage.extra = vec![0; 19];
     }),
-    (1, "no catalogue", |g, _| g.catalogue.damage.cut = usize::MAX),
+    (1, "no catalogue", |g, _| {
+        g.catalogue.damage.cut = usize::MAX
+    }),
     (1, "one byte behind the catalogue", |g, rng| {
-        g.catalogue.damage.extra.push(rng.next() as u8);
+        g.catalogue.damage.extra.push(rng.draw() as u8);
     }),
     (1, "catalogue size one too high", |g, rng| {
         let block = rng.below(5);
@@ -81,21 +85,36 @@ pub const PLANTS: &[(u8, &str, Dig)] = &[
         g.catalogue.types.push(a_type(i32::MIN));
     }),
     (2, "links descend", |g, _| {
-        g.catalogue.links.push(Link { type_id: 9, effect: 1 });
-        g.catalogue.links.push(Link { type_id: 8, effect: 1 });
+        g.catalogue.links.push(Link {
+            type_id: 9,
+            effect: 1,
+        });
+        g.catalogue.links.push(Link {
+            type_id: 8,
+            effect: 1,
+        });
     }),
     (2, "bases descend", |g, _| {
         g.catalogue.bases.push(a_base(i32::MAX, 0, 0.0));
         g.catalogue.bases.push(a_base(-1, 0, 0.0));
     }),
     (3, "name 88", |g, _| {
-        g.catalogue.names.push(Name { number: 88, attribute: 1 });
+        g.catalogue.names.push(Name {
+            number: 88,
+            attribute: 1,
+        });
     }),
     (3, "name 4,294,967,295", |g, _| {
-        g.catalogue.names.push(Name { number: u32::MAX, attribute: 1 });
+        g.catalogue.names.push(Name {
+            number: u32::MAX,
+            attribute: 1,
+        });
     }),
     (3, "mark 9", |g, _| {
-        g.catalogue.effects.push(Effect { id: i32::MAX, mark: 9 });
+        g.catalogue.effects.push(Effect {
+            id: i32::MAX,
+            mark: 9,
+        });
     }),
     (3, "mark 4,294,967,295", |g, _| {
         g.catalogue.effects[0].mark = u32::MAX;
@@ -116,7 +135,7 @@ pub const PLANTS: &[(u8, &str, Dig)] = &[
         g.fit.damage.extra = vec![0; 15];
     }),
     (4, "one byte behind the fit", |g, rng| {
-        g.fit.damage.extra.push(rng.next() as u8);
+        g.fit.damage.extra.push(rng.draw() as u8);
     }),
     (4, "1,025 skills", |g, _| {
         let mut id = g.fit.skills.last().map_or(0, |skill| skill.id);
@@ -164,12 +183,21 @@ pub const PLANTS: &[(u8, &str, Dig)] = &[
         g.fit.skills.push(last);
     }),
     (5, "skills descend", |g, _| {
-        g.fit.skills.push(Skill { id: i32::MIN, level: 0 });
+        g.fit.skills.push(Skill {
+            id: i32::MIN,
+            level: 0,
+        });
     }),
     (5, "ship attribute twice", |g, _| twice(&mut g.fit.ship)),
-    (5, "ship attributes descend", |g, _| descend(&mut g.fit.ship)),
-    (5, "character attributes descend", |g, _| descend(&mut g.fit.character)),
-    (5, "item attribute twice", |g, _| twice(&mut g.fit.results[0])),
+    (5, "ship attributes descend", |g, _| {
+        descend(&mut g.fit.ship)
+    }),
+    (5, "character attributes descend", |g, _| {
+        descend(&mut g.fit.character)
+    }),
+    (5, "item attribute twice", |g, _| {
+        twice(&mut g.fit.results[0])
+    }),
     (5, "last result's attributes descend", |g, _| {
         let mut last = Outcome::default();
         descend(&mut last);
@@ -183,21 +211,30 @@ pub const PLANTS: &[(u8, &str, Dig)] = &[
     (6, "index 256 in a rack", |g, rng| {
         g.fit.items[0] = an_item(rng.pick(&[0, 1, 2, 3, 4, 5, 6, 8]), 256);
     }),
-    (6, "index 65,535 in a rack", |g, _| g.fit.items[0] = an_item(HIGH, 65_535)),
+    (6, "index 65,535 in a rack", |g, _| {
+        g.fit.items[0] = an_item(HIGH, 65_535)
+    }),
     (6, "index in a bay", |g, rng| {
         g.fit.items[0] = an_item(rng.pick(&[FIGHTER_BAY, DRONE_BAY]), 1);
     }),
-    (6, "index in Cargo", |g, _| g.fit.items[0] = an_item(CARGO, 1)),
+    (6, "index in Cargo", |g, _| {
+        g.fit.items[0] = an_item(CARGO, 1)
+    }),
     (6, "bad item without a result", |g, _| {
         g.fit.results.truncate(g.fit.items.len());
         g.fit.items.push(an_item(13, 0));
     }),
     (6, "state 4 of the ship", |g, _| g.fit.ship.state = 4),
-    (6, "state 4 of the character", |g, _| g.fit.character.state = 4),
+    (6, "state 4 of the character", |g, _| {
+        g.fit.character.state = 4
+    }),
     (6, "state 4 of an item", |g, _| g.fit.results[0].state = 4),
     (6, "state 255 without an item", |g, _| {
         g.fit.items.truncate(g.fit.results.len());
-        g.fit.results.push(Outcome { state: 255, ..Outcome::default() });
+        g.fit.results.push(Outcome {
+            state: 255,
+            ..Outcome::default()
+        });
     }),
     (6, "result's zero byte", |g, rng| {
         g.fit.results[0].zero = rng.between(1, 255) as u8;
@@ -209,7 +246,9 @@ pub const PLANTS: &[(u8, &str, Dig)] = &[
         g.fit.mode_flag = 0;
         g.fit.mode = rng.pick(&[1, -1, i32::MIN]);
     }),
-    (8, "result R + 2", |g, _| g.result = g.fit.results.len() as u32 + 2),
+    (8, "result R + 2", |g, _| {
+        g.result = g.fit.results.len() as u32 + 2
+    }),
     (8, "result 4,294,967,295", |g, _| g.result = u32::MAX),
     (7, "over 32 bits of launched drones", |g, rng| {
         launch(g, &[4_294_967_295, 1]);
@@ -245,10 +284,7 @@ pub fn pairs() -> Vec<(u8, u8)> {
 /// 7 belongs to the list call, 8 and 9 to the skill call; a result that is
 /// not there wants no skills and lists nothing.
 fn can_meet(first: u8, second: u8) -> bool {
-    !matches!(
-        (first, second),
-        (8, 7) | (7, 9) | (8, 9) | (8, 10)
-    )
+    !matches!((first, second), (8, 7) | (7, 9) | (8, 9) | (8, 10))
 }
 
 /// One plant alone.
@@ -284,7 +320,10 @@ fn planted(rng: &mut Rng, mut ground: Ground, plants: &[(u8, &'static str, Dig)]
         asks: vec![ask],
         planted: plants
             .iter()
-            .map(|(refusal, how, _)| Plant { refusal: *refusal, how })
+            .map(|(refusal, how, _)| Plant {
+                refusal: *refusal,
+                how,
+            })
             .collect(),
         ..Case::default()
     }
@@ -438,7 +477,8 @@ fn chain(ground: &mut Ground, length: i32) {
     let attribute = |name: usize| {
         let names = &ground.catalogue.names;
         let row = names.iter().find(|row| row.number == name as u32);
-        row.expect("the ground has every name that a plant needs").attribute
+        row.expect("the ground has every name that a plant needs")
+            .attribute
     };
     let (skill, level) = (attribute(REQUIRED), attribute(REQUIRED + 1));
     let first = 1_000_000;
@@ -450,7 +490,10 @@ fn chain(ground: &mut Ground, length: i32) {
     ground.fit.ship.attributes = demanded;
     for number in 0..length - 1 {
         let id = first + number;
-        ground.catalogue.bases.push(a_base(id, skill, (id + 1) as f32));
+        ground
+            .catalogue
+            .bases
+            .push(a_base(id, skill, (id + 1) as f32));
         ground.catalogue.bases.push(a_base(id, level, 4.0));
     }
     ground.catalogue.bases.sort_by_key(|base| base.type_id);

@@ -38,12 +38,12 @@ fn harm(rng: &mut Rng, length: usize) -> Damage {
         1 => damage.extra = bytes(rng, 40),
         2 => {
             // The header, where a byte decides most.
-            damage.patches.push((rng.below(28), rng.next() as u8));
+            damage.patches.push((rng.below(28), rng.draw() as u8));
         }
         _ => {
             for _ in 0..rng.between(1, 4) {
                 let value = match rng.below(3) {
-                    0 => rng.next() as u8,
+                    0 => rng.draw() as u8,
                     1 => rng.below(5) as u8,
                     _ => 255,
                 };
@@ -56,7 +56,7 @@ fn harm(rng: &mut Rng, length: usize) -> Damage {
 
 fn bytes(rng: &mut Rng, most: usize) -> Vec<u8> {
     (0..rng.between(1, most as i64))
-        .map(|_| rng.next() as u8)
+        .map(|_| rng.draw() as u8)
         .collect()
 }
 

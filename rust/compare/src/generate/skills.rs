@@ -86,7 +86,11 @@ pub fn graph(rng: &mut Rng) -> Case {
     };
     for id in lowest..=lowest + count {
         if rng.chance(500) {
-            let level = if rng.chance(50) { rng.next() as u8 } else { rng.below(6) as u8 };
+            let level = if rng.chance(50) {
+                rng.draw() as u8
+            } else {
+                rng.below(6) as u8
+            };
             fit.skills.push(Skill { id, level });
         }
     }
@@ -149,7 +153,13 @@ pub fn reaching(rng: &mut Rng, count: usize) -> Case {
     }
     if branches == 1 && rng.chance(500) {
         let level = level(rng);
-        demand(&mut bases, ids[count - 1], 3, ids[rng.below(count)] as f32, level);
+        demand(
+            &mut bases,
+            ids[count - 1],
+            3,
+            ids[rng.below(count)] as f32,
+            level,
+        );
     }
     let asking = Outcome {
         attributes: vec![
@@ -174,13 +184,7 @@ pub fn reaching(rng: &mut Rng, count: usize) -> Case {
     finish("skills around the limit", names(), bases, fit, rng)
 }
 
-fn finish(
-    title: &str,
-    names: Vec<Name>,
-    mut bases: Vec<Base>,
-    fit: Fit,
-    rng: &mut Rng,
-) -> Case {
+fn finish(title: &str, names: Vec<Name>, mut bases: Vec<Base>, fit: Fit, rng: &mut Rng) -> Case {
     bases.sort_by_key(|base| base.type_id);
     let results = fit.results.len() as u32;
     let mut asks = Vec::new();

@@ -175,7 +175,12 @@ impl World {
     }
 
     fn add_links(&mut self, rng: &mut Rng, style: Style) {
-        let effect_of = |mark: u32| EFFECTS.iter().find(|row| row.1 == mark).map_or(16, |row| row.0);
+        let effect_of = |mark: u32| {
+            EFFECTS
+                .iter()
+                .find(|row| row.1 == mark)
+                .map_or(16, |row| row.0)
+        };
         let mut links = Vec::new();
         for (role, ids) in &self.roles {
             for type_id in ids {
@@ -263,8 +268,8 @@ fn attribute_ids(rng: &mut Rng, style: Style) -> Vec<i32> {
         .map(|number| match style.strange_ids {
             true if rng.chance(50) => rng.pick(&[i32::MIN, -1, 0, i32::MAX]),
             true => rng.between(-60, 60) as i32,
-            // Spread out, never the name's own number, no two alike.
-            false => 11 + number * 37 % 3001,
+            // Spread out in no order of the names', no two alike.
+            false => 11 + number * 1237 % 3001,
         })
         .collect()
 }
@@ -308,8 +313,10 @@ fn a_type(rng: &mut Rng, style: Style, role: Role, id: i32) -> Type {
     let volume = match rng.chance(style.odd) {
         true => numbers::odd_single(rng),
         // Any mantissa: products then take more digits than an f64 holds.
-        false if rng.chance(200) => 0x3C00_0000 + (rng.next() as u32 & 0x07FF_FFFF),
-        false => rng.pick(&[0.01f32, 0.1, 1.0, 5.0, 25.0, 50.0, 4000.0]).to_bits(),
+        false if rng.chance(400) => 0x3C00_0000 + (rng.draw() as u32 & 0x07FF_FFFF),
+        false => rng
+            .pick(&[0.01f32, 0.1, 1.0, 5.0, 25.0, 50.0, 4000.0])
+            .to_bits(),
     };
     Type {
         id,

@@ -125,7 +125,9 @@ pub fn kind(context: &Context, entries: &mut Entries) {
         }
     }
 
-    let mut ids: Vec<i32> = (0..fit.skills()).map(|number| fit.skill_id(number)).collect();
+    let mut ids: Vec<i32> = (0..fit.skills())
+        .map(|number| fit.skill_id(number))
+        .collect();
     if flaw.has(Fault::NotASkillBackwards) {
         ids.reverse();
     }

@@ -145,8 +145,8 @@ impl<'a> Fit<'a> {
 
     fn result_is_right(&self, number: usize, flaw: Flaw) -> bool {
         let last_state = if flaw.has(Fault::State4) { 4 } else { 3 };
-        let state_is_right = self.state(number) <= last_state
-            || (number < 2 && flaw.has(Fault::ShipStateIgnored));
+        let state_is_right =
+            self.state(number) <= last_state || (number < 2 && flaw.has(Fault::ShipStateIgnored));
         let zero = self.image[self.head(number) + 1];
         state_is_right && (zero == 0 || flaw.has(Fault::ResultZeroIgnored))
     }

@@ -62,7 +62,9 @@ fn fits(input: &[u8], flaw: Flaw) -> Result<Vec<&[u8]>, u8> {
     if input.len() < head {
         return Err(4);
     }
-    let lengths: Vec<u64> = (0..count).map(|n| u32_at(input, 4 + 4 * n).into()).collect();
+    let lengths: Vec<u64> = (0..count)
+        .map(|n| u32_at(input, 4 + 4 * n).into())
+        .collect();
     let mut total = head as u64 + lengths.iter().sum::<u64>();
     if flaw.has(Fault::HallLengthsWrap) {
         total %= 1 << 32;

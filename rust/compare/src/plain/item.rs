@@ -213,7 +213,12 @@ fn group_limit(context: &Context, entries: &mut Entries, limit: u8, pair: &Pair)
         false => to_u32(allowed),
     };
     if used > allowed {
-        entries.add(pair.target(), 17, limit, &[pair.group as u32, used, allowed]);
+        entries.add(
+            pair.target(),
+            17,
+            limit,
+            &[pair.group as u32, used, allowed],
+        );
     }
 }
 

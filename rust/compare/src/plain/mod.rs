@@ -126,12 +126,7 @@ fn list(catalogue: &Catalogue, fit: &Fit, flaw: Flaw) -> Result<Vec<Entry>, u8> 
 }
 
 /// The entries of one result's skills, or refusal 8 or 9.
-fn skill(
-    catalogue: &Catalogue,
-    fit: &Fit,
-    result: usize,
-    flaw: Flaw,
-) -> Result<Vec<Entry>, u8> {
+fn skill(catalogue: &Catalogue, fit: &Fit, result: usize, flaw: Flaw) -> Result<Vec<Entry>, u8> {
     let last = match () {
         () if flaw.has(Fault::ResultOneLess) => fit.results(),
         () if flaw.has(Fault::UnpairedResultRefused) => fit.pairs() + 1,
@@ -179,7 +174,11 @@ fn answer(listed: Result<Vec<Entry>, u8>, out: &mut [u8], flaw: Flaw) -> u64 {
             let whole = out.len() / ENTRY * ENTRY;
             out[..whole].copy_from_slice(&bytes[..whole]);
         }
-        let counted = if flaw.has(Fault::RefusalCounts) { count } else { 0 };
+        let counted = if flaw.has(Fault::RefusalCounts) {
+            count
+        } else {
+            0
+        };
         return refused(10) + counted;
     }
     if !flaw.has(Fault::NothingWritten) {

@@ -27,7 +27,11 @@ const SLACK: u64 = 0x3E11_2E0B_E826_D695;
 
 pub fn validate(context: &Context, entries: &mut Entries) {
     let flaw = context.flaw;
-    let holder = if flaw.has(Fault::LoadOfCharacter) { CHARACTER } else { SHIP };
+    let holder = if flaw.has(Fault::LoadOfCharacter) {
+        CHARACTER
+    } else {
+        SHIP
+    };
     for (row, resource) in LOADS.into_iter().enumerate() {
         let amount = |name: usize| match context.id(name) {
             Some(id) => Some(context.amount(holder, id)),
@@ -37,7 +41,11 @@ pub fn validate(context: &Context, entries: &mut Entries) {
             continue;
         };
         if over(used, available, flaw) {
-            let number = if flaw.has(Fault::ResourceByRow) { row as u8 } else { resource };
+            let number = if flaw.has(Fault::ResourceByRow) {
+                row as u8
+            } else {
+                resource
+            };
             entries.add_resource(number, used, available);
         }
     }
@@ -69,7 +77,11 @@ fn over(used: f64, available: f64, flaw: Flaw) -> bool {
 /// The drones in space, by every pair at state Active or above.
 pub fn drone_total(context: &Context) -> u64 {
     let flaw = context.flaw;
-    let least = if flaw.has(Fault::DronesOnline) { ONLINE } else { ACTIVE };
+    let least = if flaw.has(Fault::DronesOnline) {
+        ONLINE
+    } else {
+        ACTIVE
+    };
     context
         .pairs
         .iter()
@@ -96,7 +108,10 @@ pub fn drones_refuse(context: &Context) -> bool {
     }
     let mut total = drone_total(context);
     if flaw.has(Fault::DroneTotalAnyState) {
-        let drones = context.pairs.iter().filter(|pair| pair.item.kind == DRONE_BAY);
+        let drones = context
+            .pairs
+            .iter()
+            .filter(|pair| pair.item.kind == DRONE_BAY);
         total = drones.map(|pair| u64::from(pair.item.quantity)).sum();
     }
     if flaw.has(Fault::DroneTotalUnpaired) {
@@ -140,9 +155,17 @@ fn cargo(context: &Context, entries: &mut Entries) {
     let mut used = 0.0;
     for item in items.iter().filter(|item| item.kind == CARGO) {
         let row = context.catalogue.type_of(item.type_id);
-        let none = if flaw.has(Fault::CargoNoVolume) { 1.0 } else { 0.0 };
+        let none = if flaw.has(Fault::CargoNoVolume) {
+            1.0
+        } else {
+            0.0
+        };
         let volume = row.and_then(|row| row.volume).unwrap_or(none);
-        let quantity = if flaw.has(Fault::CargoUnits) { 1 } else { item.quantity };
+        let quantity = if flaw.has(Fault::CargoUnits) {
+            1
+        } else {
+            item.quantity
+        };
         used = match flaw.has(Fault::CargoFused) {
             true => f64::from(volume).mul_add(f64::from(quantity), used),
             false => used + f64::from(volume) * f64::from(quantity),

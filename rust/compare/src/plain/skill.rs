@@ -110,7 +110,11 @@ fn demands(
         let Some(id) = value(*skill) else {
             continue;
         };
-        let missing = if flaw.has(Fault::LevelMissingIsOne) { 1.0 } else { 0.0 };
+        let missing = if flaw.has(Fault::LevelMissingIsOne) {
+            1.0
+        } else {
+            0.0
+        };
         let level = level.and_then(&value).unwrap_or(missing);
         let level = match flaw.has(Fault::LevelWraps) {
             true => level as i64 as u8,

@@ -4,9 +4,7 @@ use super::bytes::{to_u8, to_u16, to_u32};
 use super::context::{Context, Pair};
 use super::entry::{Entries, Target};
 use super::fault::Fault;
-use super::fit::{
-    BOOSTER, CARGO, DRONE_BAY, FIGHTER_BAY, FIGHTER_TUBE, IMPLANT, Item, SUBSYSTEM,
-};
+use super::fit::{BOOSTER, CARGO, DRONE_BAY, FIGHTER_BAY, FIGHTER_TUBE, IMPLANT, Item, SUBSYSTEM};
 
 const RACKS: usize = 22;
 const HARDPOINTS: usize = 28;
@@ -35,7 +33,11 @@ const CHECKS: [fn(&Context, &Pair, &mut Entries); 8] = [
 pub fn validate(context: &Context, entries: &mut Entries) {
     let racks = |entries: &mut Entries| {
         for rack in 0..6 {
-            let used = context.pairs.iter().filter(|pair| pair.item.kind == rack).count();
+            let used = context
+                .pairs
+                .iter()
+                .filter(|pair| pair.item.kind == rack)
+                .count();
             slots(context, entries, rack, RACKS + usize::from(rack), used);
         }
     };
@@ -79,7 +81,9 @@ fn slots(context: &Context, entries: &mut Entries, slot: u8, name: usize, used: 
     let Some(id) = context.id(name) else {
         return;
     };
-    let Some(amount) = context.value(0, id).or((!flaw.has(Fault::SlotsMissing)).then_some(0.0))
+    let Some(amount) = context
+        .value(0, id)
+        .or((!flaw.has(Fault::SlotsMissing)).then_some(0.0))
     else {
         return;
     };

@@ -14,8 +14,8 @@ pub fn fit(tally: &mut Tally, catalogue: &Catalogue, fit: &Fit) {
     let Some(ship) = catalogue.get_type(fit.fit.ship.type_id) else {
         return;
     };
-    let is_hull = matches!(ship.category_id(), 6 | 65)
-        || [12, 340, 448, 649].contains(&ship.group_id());
+    let is_hull =
+        matches!(ship.category_id(), 6 | 65) || [12, 340, 448, 649].contains(&ship.group_id());
     if !is_hull {
         return;
     }
@@ -241,7 +241,9 @@ fn bases(tally: &mut Tally, catalogue: &Catalogue, skill: i32, name: usize) {
         tally.meet(Point::Shape(Shape::BasesDiffer));
     }
     if let Some(next) = first.first()
-        && demands(*next as i32).first().is_some_and(|back| *back as i32 == skill)
+        && demands(*next as i32)
+            .first()
+            .is_some_and(|back| *back as i32 == skill)
     {
         tally.meet(Point::Shape(Shape::SkillRing));
     }

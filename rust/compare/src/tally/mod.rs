@@ -147,15 +147,33 @@ impl Tally {
             self.meet(Point::GrownRule(entry[1]));
         }
         let shapes = [
-            (growth.items.is_empty() && growth.results.is_empty(), Shape::GrownByNothing),
-            (growth.items.len() > growth.results.len(), Shape::GrownMoreItems),
-            (growth.items.len() < growth.results.len(), Shape::GrownMoreResults),
-            (growth.items.iter().any(|item| item.kind == 11), Shape::GrownCargo),
-            (growth.lowered.iter().any(|fall| *fall > 0), Shape::GrownLowered),
+            (
+                growth.items.is_empty() && growth.results.is_empty(),
+                Shape::GrownByNothing,
+            ),
+            (
+                growth.items.len() > growth.results.len(),
+                Shape::GrownMoreItems,
+            ),
+            (
+                growth.items.len() < growth.results.len(),
+                Shape::GrownMoreResults,
+            ),
+            (
+                growth.items.iter().any(|item| item.kind == 11),
+                Shape::GrownCargo,
+            ),
+            (
+                growth.lowered.iter().any(|fall| *fall > 0),
+                Shape::GrownLowered,
+            ),
             (new.len() > old.len(), Shape::GrownEntries),
             (
                 grown::places(old, new).is_ok_and(|places| {
-                    places.iter().zip(old).any(|(place, entry)| new[*place] != *entry)
+                    places
+                        .iter()
+                        .zip(old)
+                        .any(|(place, entry)| new[*place] != *entry)
                 }),
                 Shape::GrownNumbers,
             ),
