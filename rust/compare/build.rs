@@ -21,10 +21,11 @@ fn main() {
         println!("cargo:rustc-link-search=native={}", directory.display());
         println!("cargo:rustc-link-lib=static=fitcheck");
         println!("cargo:rustc-cfg=fitcheck");
-    } else if env::var_os("FITCHECK_LIB_DIR").is_some() {
+    } else {
         println!(
-            "cargo:warning=FITCHECK_LIB_DIR holds no {LIBRARY}; run `rt staticlib fitcheck` at \
-             the repository root, or leave FITCHECK_LIB_DIR unset"
+            "cargo:warning=no {LIBRARY} in FITCHECK_LIB_DIR or the repository's target/staticlib: \
+             comparing the plain port alone. To compare the library too, run \
+             `rt staticlib fitcheck` at the repository root and build again."
         );
     }
 }

@@ -10,8 +10,3 @@ pub fn case(seed: u64, number: u64) -> Case {
         None => generate::case(seed, number),
     }
 }
-
-/// Whether a case is generated, so that its seed matters.
-pub fn is_generated(number: u64) -> bool {
-    number as usize >= fixed::count()
-}

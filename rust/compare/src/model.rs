@@ -105,10 +105,6 @@ pub struct Damage {
 }
 
 impl Damage {
-    pub fn is_none(&self) -> bool {
-        *self == Damage::default()
-    }
-
     fn apply(&self, image: &mut Vec<u8>) {
         for (position, size) in &self.sizes {
             let at = 4 * position;

@@ -77,7 +77,7 @@ pub const PLANTS: &[(u8, &str, Dig)] = &[
     (2, "effects descend", |g, _| {
         g.catalogue.effects.push(Effect { id: -1, mark: 0 });
     }),
-    (2, "types 5, 5", |g, _| {
+    (2, "type twice", |g, _| {
         g.catalogue.types.push(a_type(i32::MAX));
         g.catalogue.types.push(a_type(i32::MAX));
     }),
@@ -375,6 +375,8 @@ impl Ground {
         }
         fit.items.insert(0, an_item(BOOSTER, 1));
         fit.results.insert(0, Outcome::default());
+        // Plants put skills behind the last, so that has to leave room.
+        fit.skills.retain(|skill| skill.id < 1_000_000);
         if fit.skills.is_empty() {
             let id = world.a(rng, Role::Skill);
             fit.skills.push(Skill { id, level: 1 });

@@ -28,6 +28,9 @@ pub fn fit(tally: &mut Tally, catalogue: &Catalogue, fit: &Fit) {
     }
     for (item, result) in fit.pairs() {
         tally.meet(Point::Kind(kind(item.slot)));
+        if is_highest(item.slot) {
+            tally.meet(Point::HighestIndex(kind(item.slot)));
+        }
         tally.meet(Point::State(result.state as u8));
         types(tally, catalogue, item.type_id);
         casts(tally, catalogue, fit, item.slot, result);
@@ -79,6 +82,21 @@ fn kind(slot: Slot) -> u8 {
         Slot::Booster(_) => 9,
         Slot::DroneBay => 10,
         Slot::Cargo => 11,
+    }
+}
+
+fn is_highest(slot: Slot) -> bool {
+    match slot {
+        Slot::High(index)
+        | Slot::Medium(index)
+        | Slot::Low(index)
+        | Slot::Rig(index)
+        | Slot::Subsystem(index)
+        | Slot::Service(index)
+        | Slot::FighterTube(index)
+        | Slot::Implant(index) => index == 255,
+        Slot::Booster(index) => index == 65_535,
+        Slot::FighterBay | Slot::DroneBay | Slot::Cargo => false,
     }
 }
 

@@ -16,6 +16,8 @@ pub enum Point {
     WrongSlot(u8),
     Limit(u8),
     Kind(u8),
+    /// The highest index that a kind of slot takes.
+    HighestIndex(u8),
     State(u8),
     Refusal(Call, u8),
     Planted(Plant),
@@ -61,6 +63,17 @@ impl From<Room> for RoomKind {
     }
 }
 
+impl RoomKind {
+    fn words(self) -> &'static str {
+        match self {
+            RoomKind::Empty => "empty buffer",
+            RoomKind::OneShort => "buffer one byte short",
+            RoomKind::Exact => "buffer of the exact length",
+            RoomKind::Longer => "longer buffer",
+        }
+    }
+}
+
 /// What becomes of a fit in a hall.
 #[derive(Clone, Copy, Debug, PartialEq, Eq, PartialOrd, Ord)]
 pub enum Fate {
@@ -77,6 +90,18 @@ pub enum Size {
     Results,
     Attributes,
     All,
+}
+
+impl Size {
+    fn words(self) -> &'static str {
+        match self {
+            Size::Skills => "1,024 skills",
+            Size::Items => "256 items",
+            Size::Results => "256 results",
+            Size::Attributes => "30,000 attributes",
+            Size::All => "1,024 skills, 256 items, 256 results and 30,000 attributes at once",
+        }
+    }
 }
 
 /// Where a number stands to the range of its cast.
@@ -200,6 +225,16 @@ pub enum CapitalEdge {
     HalfOver,
 }
 
+impl CapitalEdge {
+    fn words(self) -> &'static str {
+        match self {
+            CapitalEdge::At => "3500",
+            CapitalEdge::StepOver => "one step over 3500",
+            CapitalEdge::HalfOver => "3500.5",
+        }
+    }
+}
+
 /// A shape of the input, or of a growth.
 #[derive(Clone, Copy, Debug, PartialEq, Eq, PartialOrd, Ord)]
 pub enum Shape {
@@ -281,6 +316,7 @@ pub fn required() -> Vec<Point> {
     points.extend((0..6).map(Point::WrongSlot));
     points.extend((0..3).map(Point::Limit));
     points.extend((0..12).map(Point::Kind));
+    points.extend([0, 1, 2, 3, 4, 5, 6, 8, 9].map(Point::HighestIndex));
     points.extend((0..4).map(Point::State));
     points.extend([1, 2, 3, 4, 5, 6, 7, 10].map(|refusal| Point::Refusal(Call::List, refusal)));
     points.extend([1, 2, 3, 4, 5, 6, 8, 9, 10].map(|refusal| Point::Refusal(Call::Skill, refusal)));
@@ -351,19 +387,24 @@ impl fmt::Display for Point {
             Point::WrongSlot(slot) => write!(out, "WrongSlot {}", name(&RACKS, slot)),
             Point::Limit(limit) => write!(out, "MaxGroup {}", name(&LIMITS, limit)),
             Point::Kind(kind) => write!(out, "slot kind {}", name(&KINDS, kind)),
+            Point::HighestIndex(kind) => write!(out, "highest index of {}", name(&KINDS, kind)),
             Point::State(state) => write!(out, "state {}", name(&STATES, state)),
             Point::Refusal(call, refusal) => write!(out, "refusal {refusal} by the {call}"),
             Point::Planted(plant) => write!(out, "refusal {}: {}", plant.refusal, plant.how),
             Point::Pair(a, b) => write!(out, "refusal {a} where {b} is deserved too"),
-            Point::Room(call, room) => write!(out, "{call} with entries, buffer {room:?}"),
+            Point::Room(call, room) => write!(out, "{call} with entries, {}", room.words()),
             Point::HallFits(count) => write!(out, "hall of {count} fits"),
-            Point::HallFit(fate) => write!(out, "hall: a fit {fate:?}"),
+            Point::HallFit(Fate::Clear) => out.write_str("hall: a clear fit"),
+            Point::HallFit(Fate::Faulted) => out.write_str("hall: a faulted fit"),
+            Point::HallFit(Fate::Refused(refusal)) => {
+                write!(out, "hall: a fit refused by {refusal}")
+            }
             Point::Wanted(count) => write!(out, "{count} wanted skills"),
-            Point::Full(size) => write!(out, "full limit: {size:?}"),
+            Point::Full(size) => out.write_str(size.words()),
             Point::CatalogueLength(length) => write!(out, "catalogue of {length} bytes"),
             Point::Cast(width, spot) => write!(out, "cast to {width:?}: {}", spot.words()),
             Point::Over(edge) => write!(out, "over: {}", edge.words()),
-            Point::Volume(edge) => write!(out, "volume against 3500: {edge:?}"),
+            Point::Volume(edge) => write!(out, "an item's volume is {}", edge.words()),
             Point::NameMissing(number) => write!(out, "no id for {}", name(&NAMES, number)),
             Point::Shape(shape) => out.write_str(shape.words()),
             Point::Grown(call) => write!(out, "two fits compared, {call}"),
