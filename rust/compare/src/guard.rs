@@ -82,6 +82,36 @@ impl Guarded {
     }
 }
 
+/// An image, and the copies of it that the checker gets.
+pub struct Held {
+    pub image: Vec<u8>,
+    copies: [(Fill, Guarded); 2],
+}
+
+impl Held {
+    pub fn new(image: Vec<u8>) -> Held {
+        let copies = [Fill::First, Fill::Second].map(|fill| (fill, Guarded::image(&image, fill)));
+        Held { image, copies }
+    }
+
+    pub fn copy(&self, fill: Fill) -> &Guarded {
+        let [(first, one), (_, other)] = &self.copies;
+        if fill == *first { one } else { other }
+    }
+
+    /// Whether a copy is as it was, and the bytes beside it too.
+    pub fn unharmed(&self, fill: Fill, what: &str) -> Result<(), String> {
+        let copy = self.copy(fill);
+        if copy.bytes() != self.image {
+            return Err(format!("the checker changed the {what}"));
+        }
+        if !copy.guards_hold() {
+            return Err(format!("the checker wrote beside the {what}"));
+        }
+        Ok(())
+    }
+}
+
 #[cfg(test)]
 mod tests {
     use super::*;

@@ -22,4 +22,5 @@ pub mod run;
 pub mod shrink;
 pub mod sketch;
 pub mod tally;
+mod verdict;
 pub mod words;

@@ -6,47 +6,17 @@ use std::panic::{self, AssertUnwindSafe};
 use crate::case::{Ask, Case, Room};
 use crate::checker::{Checker, ENTRY, Entry, in_words, refused};
 use crate::grown;
-use crate::guard::{Fill, Guarded};
+use crate::guard::{Fill, Guarded, Held};
 use crate::model::{Fit, hall_image};
 use crate::reference::{self, Listed, Refusal};
 use crate::tally::Tally;
-use crate::words;
+use crate::verdict::{compare, expected, hall_in_words};
 
 /// Where the two part.
 #[derive(Clone, Debug)]
 pub struct Difference {
     pub ask: Ask,
     pub what: String,
-}
-
-/// An image, and the copies of it that the checker gets.
-struct Held {
-    image: Vec<u8>,
-    copies: [(Fill, Guarded); 2],
-}
-
-impl Held {
-    fn new(image: Vec<u8>) -> Held {
-        let copies = [Fill::First, Fill::Second].map(|fill| (fill, Guarded::image(&image, fill)));
-        Held { image, copies }
-    }
-
-    fn copy(&self, fill: Fill) -> &Guarded {
-        let [(first, one), (_, other)] = &self.copies;
-        if fill == *first { one } else { other }
-    }
-
-    /// Whether a copy is as it was, and the bytes beside it too.
-    fn unharmed(&self, fill: Fill, what: &str) -> Result<(), String> {
-        let copy = self.copy(fill);
-        if copy.bytes() != self.image {
-            return Err(format!("the checker changed the {what}"));
-        }
-        if !copy.guards_hold() {
-            return Err(format!("the checker wrote beside the {what}"));
-        }
-        Ok(())
-    }
 }
 
 /// A fit's image, and what the reference makes of it.
@@ -76,12 +46,6 @@ struct Stage<'a> {
     catalogue: Result<reference::Catalogue, Refusal>,
     fit: OnceCell<Subject>,
     grown: OnceCell<Subject>,
-}
-
-/// What a call must give.
-struct Expected {
-    word: u64,
-    listed: Listed,
 }
 
 /// Runs every call of a case; the first difference, if there is one.
@@ -274,24 +238,6 @@ impl Stage<'_> {
     }
 }
 
-/// The word and the entries for a buffer of so many bytes.
-fn expected(listed: Result<Listed, Refusal>, length: usize) -> Expected {
-    match listed {
-        Ok(listed) if length < ENTRY * listed.entries.len() => Expected {
-            word: refused(10),
-            listed: Listed::default(),
-        },
-        Ok(listed) => Expected {
-            word: listed.entries.len() as u64,
-            listed,
-        },
-        Err(refusal) => Expected {
-            word: refused(refusal),
-            listed: Listed::default(),
-        },
-    }
-}
-
 thread_local! {
     /// Whether the checker is at work.
     static CALLED: Cell<bool> = const { Cell::new(false) };
@@ -314,108 +260,4 @@ fn caught(call: impl FnOnce() -> u64) -> Result<u64, String> {
     let word = panic::catch_unwind(AssertUnwindSafe(call));
     CALLED.set(false);
     word.map_err(|_| "the checker panicked".to_string())
-}
-
-/// The word and every byte of the buffer.
-fn compare(expected: &Expected, word: u64, out: &Guarded) -> Result<(), String> {
-    if !out.guards_hold() {
-        return Err("the checker wrote beside the buffer".to_string());
-    }
-    let entries = &expected.listed.entries;
-    if word != expected.word {
-        let mut what = format!(
-            "the original makes it {}, the checker {}",
-            in_words(expected.word),
-            in_words(word)
-        );
-        for entry in entries {
-            what += &format!("\n  original: {}", words::entry(entry));
-        }
-        if word >> 32 == 0 {
-            let written = (word as usize).saturating_mul(ENTRY).min(out.bytes().len());
-            for entry in words::entries(&out.bytes()[..written]) {
-                what += &format!("\n  checker:  {entry}");
-            }
-        }
-        return Err(what);
-    }
-    for (number, entry) in entries.iter().enumerate() {
-        let given = &out.bytes()[ENTRY * number..ENTRY * (number + 1)];
-        if given == entry {
-            continue;
-        }
-        if expected.listed.either_zero == Some(number) && differs_in_zero(entry, given) {
-            continue;
-        }
-        let place = (0..ENTRY).find(|at| given[*at] != entry[*at]).unwrap_or(0);
-        return Err(format!(
-            "entry {number} differs, first in its byte {place}\n  original: {}\n  checker:  {}",
-            words::entry(entry),
-            words::entries(given).concat()
-        ));
-    }
-    if let Some(place) = out.first_written(ENTRY * entries.len()) {
-        return Err(format!(
-            "byte {place} of the buffer was written; the {} entries end before it",
-            entries.len()
-        ));
-    }
-    Ok(())
-}
-
-/// Whether two Resource entries differ in the sign of a zero `used` alone.
-fn differs_in_zero(entry: &Entry, given: &[u8]) -> bool {
-    let mut flipped = *entry;
-    flipped[15] ^= 0x80;
-    entry[8..15] == [0; 7] && given == flipped
-}
-
-fn hall_in_words(word: u64) -> String {
-    if word >> 32 != 0 {
-        return in_words(word);
-    }
-    format!(
-        "clear {}, faulted {}, refused {} ({word})",
-        word % 256,
-        word / 256 % 256,
-        word / 65_536
-    )
-}
-
-#[cfg(test)]
-mod tests {
-    use super::*;
-
-    #[test]
-    fn only_the_sign_of_a_zero_used_is_passed_over() {
-        let mut entry = [0; 24];
-        entry[1..3].copy_from_slice(&[1, 11]);
-        entry[16..].copy_from_slice(&(-1f64).to_le_bytes());
-        let mut given = entry;
-        given[15] = 0x80;
-        assert!(differs_in_zero(&entry, &given));
-        given[2] = 10;
-        assert!(!differs_in_zero(&entry, &given));
-        given[2] = 11;
-        given[23] ^= 0x80;
-        assert!(!differs_in_zero(&entry, &given));
-        let mut one = entry;
-        one[8] = 1;
-        let mut other = one;
-        other[15] = 0x80;
-        assert!(!differs_in_zero(&one, &other));
-    }
-
-    #[test]
-    fn a_short_buffer_is_refusal_10() {
-        let listed = Listed {
-            entries: vec![[0; 24]; 2],
-            either_zero: None,
-        };
-        assert_eq!(expected(Ok(listed.clone()), 47).word, refused(10));
-        assert_eq!(expected(Ok(listed.clone()), 48).word, 2);
-        assert_eq!(expected(Ok(listed), 49).word, 2);
-        assert_eq!(expected(Ok(Listed::default()), 0).word, 0);
-        assert_eq!(expected(Err(9), 0).word, refused(9));
-    }
 }

@@ -3,7 +3,8 @@
 use original::{Info, ItemResult, Slot};
 
 use super::Tally;
-use super::point::{CapitalEdge, Edge, Point, Shape, Size, Spot};
+use super::edge::{CapitalEdge, Edge, Shape, Spot};
+use super::point::{Point, Size};
 use crate::names::*;
 use crate::numbers::{Width, limit};
 use crate::reference::{Catalogue, Fit};

@@ -1,5 +1,6 @@
 //! Counts what the cases met, and names what they never met.
 
+mod edge;
 mod look;
 mod point;
 
@@ -10,7 +11,8 @@ use crate::checker::{ENTRY, Entry};
 use crate::grown;
 use crate::reference::{self, Catalogue, Fit, Listed};
 
-pub use point::{Call, Fate, Point, Shape, Size, Spot};
+pub use edge::{Shape, Spot};
+pub use point::{Call, Fate, Point, Size};
 
 /// How often each point was met.
 #[derive(Default)]

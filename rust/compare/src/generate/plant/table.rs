@@ -1,25 +1,12 @@
-//! Refusals planted on purpose: each way to deserve each number, alone or
-//! together with another.
+//! The plants, one by one.
 
-use super::fit::fit;
-use super::world::{Role, Style, World};
-use crate::case::{Ask, Case, Plant, Room, rank};
-use crate::model::{Base, Catalogue, Effect, Fit, Item, Link, Name, Outcome, Skill, Type};
-use crate::names::{CAPACITY, MAX_ACTIVE_DRONES, REQUIRED, RIG_SIZE};
+use super::ground::{Ground, a_base, an_entry, chain, launch};
+use crate::case::Room;
+use crate::model::{Catalogue, Effect, Fit, Item, Link, Name, Outcome, Skill, Type};
 use crate::rng::Rng;
-use crate::sketch::*;
+use crate::sketch::{CARGO, DRONE_BAY, FIGHTER_BAY, HIGH};
 
-/// What a plant may change.
-pub struct Ground {
-    catalogue: Catalogue,
-    fit: Fit,
-    drone: i32,
-    hull: i32,
-    result: u32,
-    room: Room,
-}
-
-type Dig = fn(&mut Ground, &mut Rng);
+pub type Dig = fn(&mut Ground, &mut Rng);
 
 /// Every plant: its refusal, how it is deserved, and the change that does it.
 /// No plant brings about any other refusal.
@@ -268,130 +255,6 @@ pub const PLANTS: &[(u8, &str, Dig)] = &[
     }),
 ];
 
-/// The pairs of refusals that can meet in one call, the first to be given.
-pub fn pairs() -> Vec<(u8, u8)> {
-    let mut found = Vec::new();
-    for first in 1..=10 {
-        for second in 1..=10 {
-            if rank(first) < rank(second) && can_meet(first, second) {
-                found.push((first, second));
-            }
-        }
-    }
-    found
-}
-
-/// 7 belongs to the list call, 8 and 9 to the skill call; a result that is
-/// not there wants no skills and lists nothing.
-fn can_meet(first: u8, second: u8) -> bool {
-    !matches!((first, second), (8, 7) | (7, 9) | (8, 9) | (8, 10))
-}
-
-/// One plant alone.
-pub fn alone(rng: &mut Rng, ground: Ground, number: usize) -> Case {
-    planted(rng, ground, &[PLANTS[number]])
-}
-
-/// A plant of each of two refusals.
-pub fn together(rng: &mut Rng, ground: Ground, first: u8, second: u8) -> Case {
-    let mut one = |refusal: u8| {
-        let ways: Vec<_> = PLANTS.iter().filter(|row| row.0 == refusal).collect();
-        *ways[rng.below(ways.len())]
-    };
-    let both = [one(second), one(first)];
-    planted(rng, ground, &both)
-}
-
-/// The later refusal is planted first, so that the earlier one surely stands.
-fn planted(rng: &mut Rng, mut ground: Ground, plants: &[(u8, &'static str, Dig)]) -> Case {
-    for (_, _, dig) in plants {
-        dig(&mut ground, rng);
-    }
-    let has = |refusal: u8| plants.iter().any(|plant| plant.0 == refusal);
-    let ask = if has(8) || has(9) || (!has(7) && rng.chance(400)) {
-        Ask::Skill(ground.result, ground.room)
-    } else {
-        Ask::List(ground.room)
-    };
-    Case {
-        title: "planted refusals".to_string(),
-        catalogue: ground.catalogue,
-        fits: vec![ground.fit],
-        asks: vec![ask],
-        planted: plants
-            .iter()
-            .map(|(refusal, how, _)| Plant {
-                refusal: *refusal,
-                how,
-            })
-            .collect(),
-        ..Case::default()
-    }
-}
-
-impl Ground {
-    /// The least that every plant can stand on.
-    pub fn small() -> Ground {
-        let sketch = Sketch::hull()
-            .name(MAX_ACTIVE_DRONES)
-            .name(REQUIRED)
-            .name(REQUIRED + 1)
-            .known(9, 100, CATEGORY_DRONE)
-            .mark(9, 1)
-            .ship(CAPACITY, 5.0)
-            .ship(RIG_SIZE, 1.0)
-            .character(MAX_ACTIVE_DRONES, 5.0)
-            .skill(3300, 1)
-            .item(9, DRONE_BAY, 0)
-            .finish();
-        Ground {
-            catalogue: sketch.catalogue,
-            fit: sketch.fit,
-            drone: 9,
-            hull: SHIP,
-            result: 0,
-            room: Room::Longer(48),
-        }
-    }
-
-    /// A realistic fit with something of everything that a plant may break.
-    pub fn realistic(rng: &mut Rng) -> Ground {
-        let style = Style {
-            missing: 0,
-            odd: 0,
-            wrong: 50,
-            strange_ids: false,
-        };
-        let world = World::new(rng, style);
-        let mut fit = fit(rng, &world, style, 8);
-        let hull = world.a(rng, Role::Hull);
-        fit.ship_type = hull;
-        let drone = world.a(rng, Role::Drone);
-        for outcome in [&mut fit.ship, &mut fit.character] {
-            while outcome.attributes.len() < 2 {
-                let id = outcome.attributes.last().map_or(1, |row| row.0 + 1);
-                outcome.attributes.push((id, 0));
-            }
-        }
-        fit.items.insert(0, an_item(BOOSTER, 1));
-        fit.results.insert(0, Outcome::default());
-        // Plants put skills behind the last, so that has to leave room.
-        fit.skills.retain(|skill| skill.id < 1_000_000);
-        if fit.skills.is_empty() {
-            let id = world.a(rng, Role::Skill);
-            fit.skills.push(Skill { id, level: 1 });
-        }
-        Ground {
-            catalogue: world.catalogue,
-            fit,
-            drone,
-            hull,
-            result: 0,
-            room: Room::Longer(24 * 700),
-        }
-    }
-}
-
 fn catalogue_sizes(catalogue: &Catalogue) -> [u32; 5] {
     [
         catalogue.names.len() as u32,
@@ -421,15 +284,7 @@ fn a_type(id: i32) -> Type {
     }
 }
 
-fn a_base(type_id: i32, attribute: i32, value: f32) -> Base {
-    Base {
-        type_id,
-        attribute,
-        value: value.to_bits(),
-    }
-}
-
-fn an_item(kind: u8, index: u16) -> Item {
+pub fn an_item(kind: u8, index: u16) -> Item {
     Item {
         type_id: 1,
         quantity: 1,
@@ -450,77 +305,4 @@ fn twice(outcome: &mut Outcome) {
 fn descend(outcome: &mut Outcome) {
     outcome.attributes.push((i32::MAX, 0));
     outcome.attributes.push((i32::MIN, 0));
-}
-
-/// Puts stacks of active drones behind the pairs of a hull.
-fn launch(ground: &mut Ground, stacks: &[u32]) {
-    let fit = &mut ground.fit;
-    fit.ship_type = ground.hull;
-    let pairs = fit.items.len().min(fit.results.len());
-    fit.items.truncate(pairs);
-    fit.results.truncate(pairs);
-    for quantity in stacks {
-        fit.items.push(Item {
-            type_id: ground.drone,
-            quantity: *quantity,
-            kind: DRONE_BAY,
-            zero: 0,
-            index: 0,
-        });
-        fit.results.push(Outcome {
-            state: ACTIVE,
-            ..Outcome::default()
-        });
-    }
-}
-
-/// Has the ship demand so many skills, each demanding the next at level 4.
-fn chain(ground: &mut Ground, length: i32) {
-    let attribute = |name: usize| {
-        let names = &ground.catalogue.names;
-        let row = names.iter().find(|row| row.number == name as u32);
-        row.expect("the ground has every name that a plant needs")
-            .attribute
-    };
-    let (skill, level) = (attribute(REQUIRED), attribute(REQUIRED + 1));
-    let first = 1_000_000;
-    let mut demanded = ground.fit.ship.attributes.clone();
-    demanded.retain(|row| row.0 != skill && row.0 != level);
-    demanded.push((skill, f64::from(first).to_bits()));
-    demanded.push((level, 4f64.to_bits()));
-    demanded.sort_by_key(|row| row.0);
-    ground.fit.ship.attributes = demanded;
-    for number in 0..length - 1 {
-        let id = first + number;
-        ground
-            .catalogue
-            .bases
-            .push(a_base(id, skill, (id + 1) as f32));
-        ground.catalogue.bases.push(a_base(id, level, 4.0));
-    }
-    ground.catalogue.bases.sort_by_key(|base| base.type_id);
-    ground.result = 0;
-}
-
-/// Makes sure that the list call and the skill call each have an entry.
-fn an_entry(ground: &mut Ground) {
-    chain(ground, 2);
-    let last = ground.fit.skills.last().map_or(0, |skill| skill.id);
-    ground.fit.skills.push(Skill {
-        id: last.max(2_000_000) + 1,
-        level: 1,
-    });
-}
-
-#[cfg(test)]
-mod tests {
-    use super::*;
-
-    #[test]
-    fn every_refusal_has_a_plant_and_41_pairs_can_meet() {
-        for refusal in 1..=10 {
-            assert!(PLANTS.iter().any(|plant| plant.0 == refusal));
-        }
-        assert_eq!(pairs().len(), 41);
-    }
 }
