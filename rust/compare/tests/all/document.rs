@@ -180,3 +180,112 @@ fn the_list_goes_mode_skills_loads_drones_cargo_racks_hardpoints_checks_items() 
         ],
     );
 }
+
+#[test]
+fn a_nan_capital_size_is_not_zero() {
+    let sketch = in_high_slot(4000.0);
+    assert_list(sketch.clone(), &[item(0, 14)]);
+    assert_list(sketch.clone().ship(IS_CAPITAL_SIZE, -0.0), &[item(0, 14)]);
+    assert_list(sketch.ship(IS_CAPITAL_SIZE, f64::NAN), &[]);
+}
+
+#[test]
+fn rig_sizes_that_show_the_same_can_differ() {
+    let rig = |ship: f64, rig: f64| {
+        Sketch::hull()
+            .known(5, 1, CATEGORY_MODULE)
+            .ship(RIG_SIZE, ship)
+            .item(5, RIG, 0)
+            .with(RIG_SIZE, rig)
+    };
+    assert_list(rig(f64::NAN, f64::NAN), &[entry(1, 12, 0, 0, [0; 4])]);
+    assert_list(rig(300.0, 400.0), &[entry(1, 12, 0, 0, [255, 255, 0, 0])]);
+    assert_list(rig(0.0, -0.0), &[]);
+}
+
+#[test]
+fn a_standup_mark_is_anything_but_zero() {
+    for (mark, is_set) in [
+        (1.0, true),
+        (-1.0, true),
+        (f64::NAN, true),
+        (f64::from_bits(1), true),
+        (0.0, false),
+        (-0.0, false),
+    ] {
+        let sketch = Sketch::hull()
+            .known(5, 1, CATEGORY_FIGHTER)
+            .item(5, FIGHTER_BAY, 0)
+            .with(STANDUP_FIGHTERS + 2, mark);
+        let expected = if is_set { vec![item(0, 15)] } else { vec![] };
+        assert_list(sketch, &expected);
+    }
+}
+
+#[test]
+fn the_limit_of_over_can_be_infinite() {
+    assert_list(load(f64::INFINITY, f64::MAX), &[]);
+    assert_list(
+        load(f64::INFINITY, 1e300),
+        &[resource(0, f64::INFINITY, 1e300)],
+    );
+}
+
+#[test]
+fn a_missing_name_skips_its_line_and_a_missing_value_is_zero() {
+    // Load without an output's id: skipped. Output without a value: 0.
+    assert_list(Sketch::hull().ship(LOADS, 3.0), &[]);
+    assert_list(
+        Sketch::hull().ship(LOADS, 3.0).name(LOADS + 1),
+        &[resource(0, 3.0, 0.0)],
+    );
+    // Standup still reads the category where none of its names has an id.
+    let sketch = Sketch::hull()
+        .known(5, 1, CATEGORY_STRUCTURE_MODULE)
+        .item(5, SERVICE, 0);
+    assert_list(sketch, &[item(0, 15)]);
+}
+
+#[test]
+fn pairs_are_the_first_of_items_and_results() {
+    let crowded = |sketch: Sketch| sketch.known(5, 1, CATEGORY_MODULE).name(RACKS);
+    let two = crowded(Sketch::hull()).item(5, HIGH, 0).item(5, HIGH, 0);
+    assert_list(
+        two,
+        &[entry(0, 2, 0, 0, [2, 0, 0, 0]), item(0, 8), item(1, 8)],
+    );
+    let one = crowded(Sketch::hull())
+        .item(5, HIGH, 0)
+        .unpaired(5, HIGH, 0);
+    assert_list(one, &[entry(0, 2, 0, 0, [1, 0, 0, 0])]);
+}
+
+#[test]
+fn of_a_types_marks_the_last_rack_and_the_last_hardpoint_win() {
+    let sketch = Sketch::hull()
+        .known(5, 1, CATEGORY_MODULE)
+        .mark(5, 3)
+        .mark(5, 8)
+        .mark(5, 7)
+        .link(5, 99)
+        .mark(5, 2)
+        .name(HARDPOINTS)
+        .name(HARDPOINTS + 1)
+        .item(5, HIGH, 0);
+    assert_list(
+        sketch,
+        &[entry(0, 2, 6, 0, [1, 0, 0, 0]), entry(1, 3, 1, 0, [0; 4])],
+    );
+}
+
+#[test]
+fn of_base_values_the_first_in_stored_order_counts() {
+    let sketch = Sketch::hull()
+        .ship(REQUIRED, 1.0)
+        .name(REQUIRED + 1)
+        .base(1, REQUIRED, 3.0)
+        .base(1, REQUIRED, 2.0)
+        .base(1, REQUIRED + 1, 4.0)
+        .base(1, REQUIRED + 1, 5.0);
+    assert_skills(sketch, 0, &[entry(0, 11, 0, 0, [3, 4, 0, 0])]);
+}
