@@ -1,0 +1,122 @@
+//! A case: one catalogue, one or more fits, and the calls made on them.
+
+use crate::model::{Catalogue, Damage, Fit, Item, Outcome};
+
+#[derive(Clone, Debug, Default)]
+pub struct Case {
+    /// Where it comes from, in a few words.
+    pub title: String,
+    pub catalogue: Catalogue,
+    /// The list and skill calls take the first; the hall call takes all.
+    pub fits: Vec<Fit>,
+    /// What is done to the hall input's own bytes.
+    pub frame: Damage,
+    /// What the first fit grows by, for the comparison of two fits.
+    pub growth: Growth,
+    pub asks: Vec<Ask>,
+    /// The refusals that were planted: every call must give the first of them
+    /// in document 01's order.
+    pub planted: Vec<Plant>,
+}
+
+/// A refusal planted on purpose, and how.
+#[derive(Clone, Copy, Debug, PartialEq, Eq, PartialOrd, Ord)]
+pub struct Plant {
+    pub refusal: u8,
+    pub how: &'static str,
+}
+
+/// One call.
+#[derive(Clone, Copy, Debug, PartialEq)]
+pub enum Ask {
+    List(Room),
+    Skill(u32, Room),
+    Hall,
+    /// The lists of the first fit and of the grown one, held against each other.
+    GrownList,
+    /// The same for the skills of one old result.
+    GrownSkill(u32),
+}
+
+/// How long a buffer is lent.
+#[derive(Clone, Copy, Debug, PartialEq, Eq, PartialOrd, Ord)]
+pub enum Room {
+    Empty,
+    /// One byte less than the entries take.
+    OneShort,
+    Exact,
+    /// So many bytes more than the entries take.
+    Longer(usize),
+}
+
+impl Room {
+    /// The length for so many bytes of entries.
+    pub fn length(self, entries: usize) -> usize {
+        match self {
+            Room::Empty => 0,
+            Room::OneShort => entries.saturating_sub(1),
+            Room::Exact => entries,
+            Room::Longer(more) => entries + more,
+        }
+    }
+}
+
+/// Items and results put behind a fit's own, and levels lowered.
+#[derive(Clone, Debug, Default, PartialEq)]
+pub struct Growth {
+    pub items: Vec<Item>,
+    pub results: Vec<Outcome>,
+    /// How far each trained level falls; skills beyond the end keep theirs.
+    pub lowered: Vec<u8>,
+}
+
+impl Growth {
+    /// The grown fit.
+    pub fn of(&self, old: &Fit) -> Fit {
+        let mut new = old.clone();
+        new.items.extend_from_slice(&self.items);
+        new.results.extend_from_slice(&self.results);
+        for (skill, fall) in new.skills.iter_mut().zip(&self.lowered) {
+            skill.level = skill.level.saturating_sub(*fall);
+        }
+        new
+    }
+}
+
+/// Where a refusal stands in document 01's order.
+pub fn rank(refusal: u8) -> usize {
+    const ORDER: [u8; 10] = [1, 2, 3, 4, 5, 6, 8, 7, 9, 10];
+    ORDER
+        .iter()
+        .position(|number| *number == refusal)
+        .expect("refusals are numbered 1 to 10")
+}
+
+impl Case {
+    /// The refusal that every call of this case must give, if one is planted.
+    pub fn expected_refusal(&self) -> Option<u8> {
+        let refusals = self.planted.iter().map(|plant| plant.refusal);
+        refusals.min_by_key(|refusal| rank(*refusal))
+    }
+}
+
+#[cfg(test)]
+mod tests {
+    use super::*;
+
+    #[test]
+    fn refusals_rank_as_in_the_table() {
+        let mut numbers: Vec<u8> = (1..=10).collect();
+        numbers.sort_by_key(|number| rank(*number));
+        assert_eq!(numbers, [1, 2, 3, 4, 5, 6, 8, 7, 9, 10]);
+    }
+
+    #[test]
+    fn room_follows_the_entries() {
+        assert_eq!(Room::Empty.length(48), 0);
+        assert_eq!(Room::OneShort.length(48), 47);
+        assert_eq!(Room::Exact.length(48), 48);
+        assert_eq!(Room::Longer(5).length(48), 53);
+        assert_eq!(Room::OneShort.length(0), 0);
+    }
+}

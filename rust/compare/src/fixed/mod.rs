@@ -1,0 +1,89 @@
+//! Cases that do not depend on the seed: document 01's examples and edges,
+//! then each rule and each call at its corners. They come before the
+//! generated cases, so their numbers stay.
+
+mod chains;
+mod document;
+mod items;
+mod resources;
+mod slots;
+
+use std::ops::Range;
+
+use crate::case::Case;
+use crate::generate::{hall, limits, plant, skills};
+use crate::rng::Rng;
+
+/// Makes one case.
+pub type Make = fn() -> Case;
+
+const TABLES: [&[Make]; 5] = [
+    document::CASES,
+    resources::CASES,
+    slots::CASES,
+    items::CASES,
+    chains::CASES,
+];
+
+/// The cases that a generator makes with numbers of its own: how many there
+/// are, and how each is made.
+type Row = (fn() -> usize, fn(usize) -> Case);
+
+const MADE: [Row; 7] = [
+    (
+        || plant::PLANTS.len(),
+        |number| plant::alone(&mut Rng::new(number as u64), plant::Ground::small(), number),
+    ),
+    (
+        || plant::pairs().len(),
+        |number| {
+            let (first, second) = plant::pairs()[number];
+            let ground = plant::Ground::small();
+            plant::together(&mut Rng::new(number as u64), ground, first, second)
+        },
+    ),
+    (|| hall::CORNERS, hall::corner),
+    (
+        || 5,
+        |number| skills::reaching(&mut Rng::new(number as u64), 510 + number),
+    ),
+    (|| limits::FULL_SIZES, limits::one_full),
+    (|| 1, |number| limits::full(&mut Rng::new(number as u64))),
+    (|| limits::LENGTHS, limits::lengths),
+];
+
+/// The numbers of the cases written by hand, of those about skills among
+/// them, and of the planted refusals, pairs of them and hall inputs.
+pub fn parts() -> [Range<usize>; 3] {
+    let written: usize = TABLES.iter().map(|table| table.len()).sum();
+    let made: usize = MADE[..3].iter().map(|(count, _)| count()).sum();
+    [
+        0..written,
+        written - chains::CASES.len()..written,
+        written..written + made,
+    ]
+}
+
+/// How many fixed cases there are.
+pub fn count() -> usize {
+    let written: usize = TABLES.iter().map(|table| table.len()).sum();
+    let made: usize = MADE.iter().map(|(count, _)| count()).sum();
+    written + made
+}
+
+/// The fixed case of a number, if it is one.
+pub fn case(mut number: usize) -> Option<Case> {
+    for table in TABLES {
+        match table.get(number) {
+            Some(make) => return Some(make()),
+            None => number -= table.len(),
+        }
+    }
+    for (count, make) in MADE {
+        match number < count() {
+            true => return Some(make(number)),
+            false => number -= count(),
+        }
+    }
+    None
+}

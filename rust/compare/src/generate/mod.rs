@@ -1,0 +1,87 @@
+//! Makes cases from a seed.
+
+mod fit;
+pub mod growth;
+pub mod hall;
+pub mod limits;
+pub mod plant;
+mod raw;
+pub mod skills;
+mod world;
+
+use crate::case::{Ask, Case, Room};
+use crate::model::Fit;
+use crate::rng::Rng;
+use world::{Style, World};
+
+/// The generated case of a number.
+pub fn case(seed: u64, number: u64) -> Case {
+    let rng = &mut Rng::for_case(seed, number);
+    match rng.below(1000) {
+        0..=299 => {
+            let style = Style::realistic(rng);
+            single(rng, style, 24, "a realistic fit")
+        }
+        300..=549 => {
+            let style = Style::adversarial(rng);
+            single(rng, style, 10, "an adversarial fit")
+        }
+        550..=649 => skills::graph(rng),
+        650..=769 => growth::growth(rng),
+        770..=839 => hall::hall(rng),
+        840..=899 => {
+            let way = rng.below(plant::PLANTS.len());
+            let ground = plant::Ground::realistic(rng);
+            plant::alone(rng, ground, way)
+        }
+        900..=949 => {
+            let (first, second) = rng.pick(&plant::pairs());
+            let ground = plant::Ground::realistic(rng);
+            plant::together(rng, ground, first, second)
+        }
+        950..=979 => raw::flipped(rng),
+        980..=989 => raw::noise(rng),
+        990..=997 => {
+            let count = rng.between(505, 516) as usize;
+            skills::reaching(rng, count)
+        }
+        _ => limits::full(rng),
+    }
+}
+
+/// One fit of a style with its calls.
+fn single(rng: &mut Rng, style: Style, most: usize, title: &str) -> Case {
+    let world = World::new(rng, style);
+    let made = fit::fit(rng, &world, style, most);
+    let asks = asks(rng, &made);
+    Case {
+        title: title.to_string(),
+        catalogue: world.catalogue,
+        fits: vec![made],
+        asks,
+        ..Case::default()
+    }
+}
+
+/// The list call with every kind of buffer, and the skill call of some results.
+fn asks(rng: &mut Rng, fit: &Fit) -> Vec<Ask> {
+    let results = fit.results.len() as u32;
+    let longer = Room::Longer(rng.below(100));
+    let rooms = [Room::Empty, Room::OneShort, Room::Exact, longer];
+    let mut asks = rooms.map(Ask::List).to_vec();
+    let any = rng.below(results as usize + 3) as u32;
+    for result in [0, 1, any, results + 1] {
+        asks.push(Ask::Skill(result, Room::Exact));
+        asks.push(Ask::Skill(result, a_room(rng)));
+    }
+    asks
+}
+
+fn a_room(rng: &mut Rng) -> Room {
+    match rng.below(4) {
+        0 => Room::Empty,
+        1 => Room::OneShort,
+        2 => Room::Exact,
+        _ => Room::Longer(rng.below(200)),
+    }
+}

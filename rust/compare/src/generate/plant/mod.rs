@@ -1,0 +1,87 @@
+//! Refusals planted on purpose: each way to deserve each number, alone or
+//! together with another.
+
+mod ground;
+mod table;
+
+use crate::case::{Ask, Case, Plant, rank};
+use crate::rng::Rng;
+
+pub use ground::Ground;
+pub use table::PLANTS;
+
+use table::Dig;
+
+/// The pairs of refusals that can meet in one call, the first to be given.
+pub fn pairs() -> Vec<(u8, u8)> {
+    let mut found = Vec::new();
+    for first in 1..=10 {
+        for second in 1..=10 {
+            if rank(first) < rank(second) && can_meet(first, second) {
+                found.push((first, second));
+            }
+        }
+    }
+    found
+}
+
+/// 7 belongs to the list call, 8 and 9 to the skill call; a result that is
+/// not there wants no skills and lists nothing.
+fn can_meet(first: u8, second: u8) -> bool {
+    !matches!((first, second), (8, 7) | (7, 9) | (8, 9) | (8, 10))
+}
+
+/// One plant alone.
+pub fn alone(rng: &mut Rng, ground: Ground, number: usize) -> Case {
+    planted(rng, ground, &[PLANTS[number]])
+}
+
+/// A plant of each of two refusals.
+pub fn together(rng: &mut Rng, ground: Ground, first: u8, second: u8) -> Case {
+    let mut one = |refusal: u8| {
+        let ways: Vec<_> = PLANTS.iter().filter(|row| row.0 == refusal).collect();
+        *ways[rng.below(ways.len())]
+    };
+    let both = [one(second), one(first)];
+    planted(rng, ground, &both)
+}
+
+/// The later refusal is planted first, so that the earlier one surely stands.
+fn planted(rng: &mut Rng, mut ground: Ground, plants: &[(u8, &'static str, Dig)]) -> Case {
+    for (_, _, dig) in plants {
+        dig(&mut ground, rng);
+    }
+    let has = |refusal: u8| plants.iter().any(|plant| plant.0 == refusal);
+    let ask = if has(8) || has(9) || (!has(7) && rng.chance(400)) {
+        Ask::Skill(ground.result, ground.room)
+    } else {
+        Ask::List(ground.room)
+    };
+    Case {
+        title: "planted refusals".to_string(),
+        catalogue: ground.catalogue,
+        fits: vec![ground.fit],
+        asks: vec![ask],
+        planted: plants
+            .iter()
+            .map(|(refusal, how, _)| Plant {
+                refusal: *refusal,
+                how,
+            })
+            .collect(),
+        ..Case::default()
+    }
+}
+
+#[cfg(test)]
+mod tests {
+    use super::*;
+
+    #[test]
+    fn every_refusal_has_a_plant_and_41_pairs_can_meet() {
+        for refusal in 1..=10 {
+            assert!(PLANTS.iter().any(|plant| plant.0 == refusal));
+        }
+        assert_eq!(pairs().len(), 41);
+    }
+}

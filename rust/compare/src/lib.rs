@@ -1,0 +1,26 @@
+//! Holds a fit checker against the original Rust by running both on the same
+//! images: see `README.md` in the workspace.
+
+pub mod args;
+pub mod case;
+pub mod cases;
+pub mod checker;
+pub mod faults;
+pub mod fixed;
+pub mod generate;
+pub mod grown;
+pub mod guard;
+pub mod model;
+pub mod names;
+pub mod numbers;
+pub mod plain;
+pub mod rattle;
+pub mod record;
+pub mod reference;
+pub mod rng;
+pub mod run;
+pub mod shrink;
+pub mod sketch;
+pub mod tally;
+mod verdict;
+pub mod words;

@@ -1,0 +1,101 @@
+//! The hall number: how many fits are clear, faulted and refused.
+
+use super::bytes::u32_at;
+use super::catalogue::Catalogue;
+use super::fault::Fault;
+use super::fit::Fit;
+use super::{Flaw, list};
+use crate::checker::refused;
+
+#[derive(Clone, Copy, PartialEq)]
+enum Verdict {
+    Clear,
+    Faulted,
+    Refused,
+}
+
+pub fn hall(catalogue: &[u8], input: &[u8], flaw: Flaw) -> u64 {
+    let catalogue = Catalogue::open(catalogue, flaw);
+    let fits = fits(input, flaw);
+    let (catalogue, fits) = match (catalogue, fits) {
+        (Err(_), Err(number)) if flaw.has(Fault::HallCatalogueLast) => return refused(number),
+        (Err(number), _) | (_, Err(number)) => return refused(number),
+        (Ok(catalogue), Ok(fits)) => (catalogue, fits),
+    };
+
+    let mut verdicts = Vec::new();
+    for fit in fits {
+        let verdict = judge(&catalogue, fit, flaw);
+        verdicts.push(verdict);
+        if verdict == Verdict::Refused && flaw.has(Fault::HallStops) {
+            break;
+        }
+    }
+    let count = |asked| verdicts.iter().filter(|verdict| **verdict == asked).count() as u64;
+    let (clear, faulted, refused) = (
+        count(Verdict::Clear),
+        count(Verdict::Faulted),
+        count(Verdict::Refused),
+    );
+    match () {
+        () if flaw.has(Fault::HallDecimal) => clear + 100 * faulted + 10_000 * refused,
+        () if flaw.has(Fault::HallInvented) => verdicts.len() as u64,
+        () => clear + 256 * faulted + 65_536 * refused,
+    }
+}
+
+/// The fits of the input, or refusal 4.
+fn fits(input: &[u8], flaw: Flaw) -> Result<Vec<&[u8]>, u8> {
+    if input.len() < 4 {
+        return Err(4);
+    }
+    let count = u32_at(input, 0) as usize;
+    let most = match () {
+        () if flaw.has(Fault::Hall64) => 63,
+        () if flaw.has(Fault::Hall65) => 65,
+        () => 64,
+    };
+    if count > most || (count == 0 && flaw.has(Fault::HallNone)) {
+        return Err(4);
+    }
+    let head = 4 + 4 * count;
+    if input.len() < head {
+        return Err(4);
+    }
+    let lengths: Vec<u64> = (0..count)
+        .map(|n| u32_at(input, 4 + 4 * n).into())
+        .collect();
+    let mut total = head as u64 + lengths.iter().sum::<u64>();
+    if flaw.has(Fault::HallLengthsWrap) {
+        total %= 1 << 32;
+    }
+    let given = input.len() as u64;
+    if total != given && !(given > total && flaw.has(Fault::HallMayBeLonger)) {
+        return Err(4);
+    }
+    let mut at = head;
+    let mut fits = Vec::new();
+    for length in lengths {
+        let end = (at as u64 + length).min(given) as usize;
+        fits.push(&input[at..end]);
+        at = end;
+    }
+    Ok(fits)
+}
+
+fn judge(catalogue: &Catalogue, image: &[u8], flaw: Flaw) -> Verdict {
+    let listed = Fit::open(image, flaw).and_then(|fit| list(catalogue, &fit, flaw));
+    match listed {
+        Err(7) if flaw.has(Fault::HallDronesFaulted) => Verdict::Faulted,
+        Err(_) if flaw.has(Fault::HallRefusedFaulted) => Verdict::Faulted,
+        Err(_) => Verdict::Refused,
+        Ok(entries) if entries.is_empty() => Verdict::Clear,
+        Ok(entries) if entries[0][1] == 19 && flaw.has(Fault::HallNoHullRefused) => {
+            Verdict::Refused
+        }
+        Ok(entries) if entries.len() > 100 && flaw.has(Fault::HallLongListRefused) => {
+            Verdict::Refused
+        }
+        Ok(_) => Verdict::Faulted,
+    }
+}

@@ -1,0 +1,192 @@
+//! A plain port of document 01's calls, straight over the images, with a
+//! switch for one deliberate fault. Without a fault it agrees with the
+//! original; with one, the comparison must tell it apart.
+
+mod bytes;
+mod catalogue;
+mod context;
+mod entry;
+mod fault;
+mod fit;
+mod hall;
+mod item;
+mod resource;
+mod skill;
+mod slot;
+
+use catalogue::Catalogue;
+use context::Context;
+use entry::{Entries, Target};
+use fit::Fit;
+
+use crate::checker::{Checker, ENTRY, Entry, refused};
+
+pub use fault::{FAULTS, Fault};
+
+/// The port, with at most one fault.
+#[derive(Clone, Copy, Default)]
+pub struct Plain {
+    flaw: Flaw,
+}
+
+/// What is wrong, if anything.
+#[derive(Clone, Copy, Debug, Default, PartialEq, Eq)]
+pub enum Flaw {
+    #[default]
+    None,
+    /// One wrong turn.
+    Fault(Fault),
+    /// A name of the tables is passed over.
+    NameLost(usize),
+    /// A name of the tables and the next one change places.
+    NamesSwapped(usize),
+    /// A mark and the next one change places.
+    MarksSwapped(u32),
+}
+
+impl Flaw {
+    fn has(self, fault: Fault) -> bool {
+        self == Flaw::Fault(fault)
+    }
+}
+
+impl Plain {
+    pub fn with(flaw: Flaw) -> Plain {
+        Plain { flaw }
+    }
+}
+
+impl Checker for Plain {
+    fn list(&self, catalogue: &[u8], fit: &[u8], out: &mut [u8]) -> u64 {
+        let listed = opened(catalogue, fit, self.flaw).and_then(|(catalogue, fit)| {
+            let listed = list(&catalogue, &fit, self.flaw);
+            match listed {
+                Err(7) if self.flaw.has(Fault::RoomBeforeDrones) && out.len() < ENTRY => Err(10),
+                listed => listed,
+            }
+        });
+        answer(listed, out, self.flaw)
+    }
+
+    fn skill(&self, catalogue: &[u8], fit: &[u8], result: u32, out: &mut [u8]) -> u64 {
+        let results = fit.get(8..12).map_or(0, |bytes| bytes::u32_at(bytes, 0));
+        let too_high = u64::from(result) > u64::from(results) + 1;
+        if self.flaw.has(Fault::ResultBeforeFit)
+            && too_high
+            && Catalogue::open(catalogue, self.flaw).is_ok()
+            && !matches!(Fit::open(fit, self.flaw), Err(4))
+        {
+            return refused(8);
+        }
+        let listed = opened(catalogue, fit, self.flaw).and_then(|(catalogue, fit)| {
+            match skill(&catalogue, &fit, result as usize, self.flaw) {
+                Err(9) if self.flaw.has(Fault::RoomBeforeWalk) && out.len() < ENTRY => Err(10),
+                listed => listed,
+            }
+        });
+        answer(listed, out, self.flaw)
+    }
+
+    fn hall(&self, catalogue: &[u8], input: &[u8]) -> u64 {
+        hall::hall(catalogue, input, self.flaw)
+    }
+}
+
+/// Both images, or the first refusal of 1 to 6.
+fn opened<'a>(
+    catalogue: &'a [u8],
+    fit: &'a [u8],
+    flaw: Flaw,
+) -> Result<(Catalogue<'a>, Fit<'a>), u8> {
+    if flaw.has(Fault::FitBeforeCatalogue) {
+        Fit::open(fit, flaw)?;
+    }
+    Ok((Catalogue::open(catalogue, flaw)?, Fit::open(fit, flaw)?))
+}
+
+/// The entries of a fit, or refusal 7.
+fn list(catalogue: &Catalogue, fit: &Fit, flaw: Flaw) -> Result<Vec<Entry>, u8> {
+    let context = Context::new(catalogue, fit, flaw);
+    let mut entries = Entries::new(flaw);
+    let hull = context::is_hull(catalogue, fit, flaw);
+    if (hull || flaw.has(Fault::DroneTotalNoHull)) && resource::drones_refuse(&context) {
+        return Err(7);
+    }
+    if !hull || flaw.has(Fault::FixedList) {
+        entries.add(Target::Ship, 19, 0, &[]);
+        if !flaw.has(Fault::HullGoesOn) {
+            return Ok(entries.found);
+        }
+    }
+    context::kind(&context, &mut entries);
+    resource::validate(&context, &mut entries);
+    slot::validate(&context, &mut entries);
+    item::validate(&context, &mut entries);
+    Ok(entries.found)
+}
+
+/// The entries of one result's skills, or refusal 8 or 9.
+fn skill(catalogue: &Catalogue, fit: &Fit, result: usize, flaw: Flaw) -> Result<Vec<Entry>, u8> {
+    let last = match () {
+        () if flaw.has(Fault::ResultOneLess) => fit.results(),
+        () if flaw.has(Fault::UnpairedResultRefused) => fit.pairs() + 1,
+        () => fit.results() + 1,
+    };
+    if flaw.has(Fault::ResultOneMore) && result == last + 1 {
+        return Ok(Vec::new());
+    }
+    if result > last {
+        return Err(8);
+    }
+    let context = Context::new(catalogue, fit, flaw);
+    if flaw.has(Fault::DroneTotalForSkills)
+        && context::is_hull(catalogue, fit, flaw)
+        && resource::drones_refuse(&context)
+    {
+        return Err(7);
+    }
+    let mut entries = Entries::new(flaw);
+    skill::report(&context, result, &mut entries)?;
+    Ok(entries.found)
+}
+
+/// Writes the entries where they have room; the word of the call.
+fn answer(listed: Result<Vec<Entry>, u8>, out: &mut [u8], flaw: Flaw) -> u64 {
+    let entries = match listed {
+        Ok(entries) => entries,
+        Err(number) => {
+            if flaw.has(Fault::RefusalClears) {
+                out.fill(0);
+            }
+            return refused(number);
+        }
+    };
+    let bytes: Vec<u8> = entries.concat();
+    let count = entries.len() as u64;
+    let needed = match () {
+        () if flaw.has(Fault::RoomMustExceed) && count > 0 => bytes.len() + 1,
+        () if flaw.has(Fault::RoomRefusesEmpty) => bytes.len().max(1),
+        () if flaw.has(Fault::RoomOneShort) => bytes.len().saturating_sub(1),
+        () => bytes.len(),
+    };
+    if out.len() < needed {
+        if flaw.has(Fault::ShortRoomFilled) {
+            let whole = out.len() / ENTRY * ENTRY;
+            out[..whole].copy_from_slice(&bytes[..whole]);
+        }
+        let counted = if flaw.has(Fault::RefusalCounts) {
+            count
+        } else {
+            0
+        };
+        return refused(10) + counted;
+    }
+    if !flaw.has(Fault::NothingWritten) {
+        let written = bytes.len().min(out.len());
+        out[..written].copy_from_slice(&bytes[..written]);
+    }
+    if flaw.has(Fault::TailCleared) {
+        out[bytes.len()..].fill(0);
+    }
+    count
+}

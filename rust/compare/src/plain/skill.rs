@@ -1,0 +1,129 @@
+//! The walk over the skills that one result demands.
+
+use super::bytes::{to_i32, to_u8};
+use super::context::Context;
+use super::entry::{Entries, Target};
+use super::fault::Fault;
+
+const REQUIRED: usize = 76;
+
+/// The skills noted, in the order met.
+struct Walk {
+    ids: Vec<i32>,
+    levels: Vec<u8>,
+}
+
+impl Walk {
+    fn note(&mut self, context: &Context, id: i32, level: u8) {
+        match self.ids.iter().position(|known| *known == id) {
+            Some(_) if context.flaw.has(Fault::LevelFirst) => {}
+            Some(place) if context.flaw.has(Fault::LevelLast) => self.levels[place] = level,
+            Some(place) => self.levels[place] = self.levels[place].max(level),
+            None => {
+                self.ids.push(id);
+                self.levels.push(level);
+            }
+        }
+    }
+}
+
+/// What one result lacks, or refusal 9.
+pub fn report(context: &Context, result: usize, entries: &mut Entries) -> Result<(), u8> {
+    let flaw = context.flaw;
+    let walk = wanted_skills(context, result);
+    let target = match result {
+        0 | 1 => Target::Ship,
+        _ if flaw.has(Fault::SkillTarget) => Target::Ship,
+        _ if flaw.has(Fault::SkillIndex) => Target::Pair(result),
+        _ => Target::Pair(result - 2),
+    };
+    let mut wanted: Vec<(i32, u8)> = walk.ids.into_iter().zip(walk.levels).collect();
+    let count = wanted.len();
+    if flaw.has(Fault::SkillSorted) {
+        wanted.sort();
+    }
+    for (id, level) in wanted {
+        let trained = match context.fit.trained(id) {
+            Some(trained) => trained,
+            None if flaw.has(Fault::SkillUntrained) => continue,
+            None => 0,
+        };
+        if trained < level || (trained == level && flaw.has(Fault::SkillAtLevel)) {
+            entries.add(target, 11, 0, &[id as u32, level.into(), trained.into()]);
+        }
+    }
+
+    let counted = match flaw.has(Fault::WalkCountsListed) {
+        true => entries.found.len(),
+        false => count,
+    };
+    let most = match () {
+        () if flaw.has(Fault::Walk511) => 511,
+        () if flaw.has(Fault::Walk513) => 513,
+        () => 512,
+    };
+    if counted > most { Err(9) } else { Ok(()) }
+}
+
+fn wanted_skills(context: &Context, result: usize) -> Walk {
+    let flaw = context.flaw;
+    let rows = if flaw.has(Fault::SkillSixth) { 5 } else { 6 };
+    let pairs: Vec<(i32, Option<i32>)> = (0..rows)
+        .filter_map(|row| {
+            let skill = context.id(REQUIRED + 2 * row)?;
+            match context.id(REQUIRED + 2 * row + 1) {
+                None if !flaw.has(Fault::LevelNameless) => None,
+                level => Some((skill, level)),
+            }
+        })
+        .collect();
+
+    let mut walk = Walk {
+        ids: Vec::new(),
+        levels: Vec::new(),
+    };
+    demands(context, &pairs, &mut walk, |id| context.value(result, id));
+    let direct = walk.ids.len();
+    let mut next = 0;
+    while next < walk.ids.len() {
+        if flaw.has(Fault::WalkDirect) || (next >= direct && flaw.has(Fault::WalkTwoSteps)) {
+            break;
+        }
+        let skill = walk.ids[next];
+        next += 1;
+        demands(context, &pairs, &mut walk, |id| {
+            context.catalogue.base(skill, id)
+        });
+    }
+    walk
+}
+
+/// Notes what one result, or one skill, demands.
+fn demands(
+    context: &Context,
+    pairs: &[(i32, Option<i32>)],
+    walk: &mut Walk,
+    value: impl Fn(i32) -> Option<f64>,
+) {
+    let flaw = context.flaw;
+    for (skill, level) in pairs {
+        let Some(id) = value(*skill) else {
+            continue;
+        };
+        let missing = if flaw.has(Fault::LevelMissingIsOne) {
+            1.0
+        } else {
+            0.0
+        };
+        let level = level.and_then(&value).unwrap_or(missing);
+        let level = match flaw.has(Fault::LevelWraps) {
+            true => level as i64 as u8,
+            false => to_u8(level),
+        };
+        let id = match flaw.has(Fault::SkillRounded) {
+            true => to_i32(id.round()),
+            false => to_i32(id),
+        };
+        walk.note(context, id, level);
+    }
+}

@@ -1,0 +1,224 @@
+//! The reference: document 01's calls, answered by the original.
+//!
+//! The images are decoded here, from document 01 alone; the rules are run by
+//! the crate `original`, which is compiled as published.
+
+mod catalogue;
+mod encode;
+mod fit;
+mod words;
+
+use original::{Rule, Run, State, Target, Violation};
+
+use crate::checker::{Checker, ENTRY, Entry, refused};
+use crate::names;
+
+pub use catalogue::Catalogue;
+pub use fit::Fit;
+
+/// A refusal's number.
+pub type Refusal = u8;
+
+/// The reference as a checker, for whoever wants its word and bytes.
+#[derive(Clone, Copy, Default)]
+pub struct Original;
+
+impl Checker for Original {
+    fn list(&self, catalogue: &[u8], fit: &[u8], out: &mut [u8]) -> u64 {
+        let listed = Catalogue::decode(catalogue).and_then(|catalogue| {
+            let fit = Fit::decode(fit)?;
+            list(&catalogue, &fit)
+        });
+        written(listed, out)
+    }
+
+    fn skill(&self, catalogue: &[u8], fit: &[u8], result: u32, out: &mut [u8]) -> u64 {
+        let listed = Catalogue::decode(catalogue).and_then(|catalogue| {
+            let fit = Fit::decode(fit)?;
+            skill(&catalogue, &fit, result)
+        });
+        written(listed, out)
+    }
+
+    fn hall(&self, catalogue: &[u8], input: &[u8]) -> u64 {
+        let numbers = Catalogue::decode(catalogue).and_then(|catalogue| hall(&catalogue, input));
+        match numbers {
+            Ok(numbers) => numbers.number().into(),
+            Err(refusal) => refused(refusal),
+        }
+    }
+}
+
+/// Writes the entries where they have room; the word of the call.
+fn written(listed: Result<Listed, Refusal>, out: &mut [u8]) -> u64 {
+    let entries = match listed {
+        Ok(listed) => listed.entries,
+        Err(refusal) => return refused(refusal),
+    };
+    match out.get_mut(..ENTRY * entries.len()) {
+        Some(room) => {
+            room.copy_from_slice(&entries.concat());
+            entries.len() as u64
+        }
+        None => refused(10),
+    }
+}
+
+/// The entries of an answered call.
+#[derive(Clone, Debug, Default, PartialEq)]
+pub struct Listed {
+    pub entries: Vec<Entry>,
+    /// The entry, if any, whose `used` is the sum of no cargo at all, or of −0
+    /// alone. There Rust releases differ in the sign of the zero, so both
+    /// count as equal; the entry here has document 01's +0. Nowhere else is a
+    /// byte free.
+    pub either_zero: Option<usize>,
+}
+
+/// The three numbers of a hall call.
+#[derive(Clone, Copy, Debug, Default, PartialEq)]
+pub struct Hall {
+    pub clear: u32,
+    pub faulted: u32,
+    pub refused: u32,
+}
+
+impl Hall {
+    /// What stands in the count's place of the exported call.
+    pub fn number(self) -> u32 {
+        self.clear + 256 * self.faulted + 65_536 * self.refused
+    }
+}
+
+/// The list of a decoded fit, or refusal 7.
+pub fn list(catalogue: &Catalogue, fit: &Fit) -> Result<Listed, Refusal> {
+    let run = fit.run(catalogue);
+    if run.is_hull() && catalogue.name(names::MAX_ACTIVE_DRONES).is_some() {
+        // The original adds these up in 32 bits, so more than that never
+        // reaches it.
+        if fit.launched_drones() > u64::from(u32::MAX) {
+            return Err(7);
+        }
+    }
+
+    let found: Vec<Violation> = run
+        .validate()
+        .into_iter()
+        .filter(|violation| !matches!(violation.rule, Rule::Skill { .. }))
+        .collect();
+    let either_zero = found
+        .iter()
+        .position(is_cargo)
+        .filter(|_| fit.cargo_terms(catalogue).all(is_negative_zero));
+    let mut entries: Vec<Entry> = found.iter().map(encode::entry).collect();
+    if let Some(position) = either_zero {
+        encode::set_used(&mut entries[position], 0.0);
+    }
+    Ok(Listed {
+        entries,
+        either_zero,
+    })
+}
+
+/// What one result lacks, or refusal 8 or 9.
+pub fn skill(catalogue: &Catalogue, fit: &Fit, result: u32) -> Result<Listed, Refusal> {
+    let outcome = fit.result(result).ok_or(8)?;
+    let run = fit.run(catalogue);
+    if run.wanted_skills(outcome).len() > 512 {
+        return Err(9);
+    }
+    let target = match result {
+        0 | 1 => Target::Ship,
+        _ => Target::Item {
+            index: result as usize - 2,
+        },
+    };
+    let found = run.report(outcome, target);
+    Ok(Listed {
+        entries: found.iter().map(encode::entry).collect(),
+        either_zero: None,
+    })
+}
+
+/// How many distinct skills a result wants, at whatever level.
+pub fn wanted(catalogue: &Catalogue, fit: &Fit, result: u32) -> Option<usize> {
+    let outcome = fit.result(result)?;
+    Some(fit.run(catalogue).wanted_skills(outcome).len())
+}
+
+/// The fits of a hall input: refusal 4 where its frame is broken.
+pub fn hall_fits(input: &[u8]) -> Result<Vec<&[u8]>, Refusal> {
+    let mut rest = words::Reader::new(input);
+    let count = rest.u32().ok_or(4)?;
+    if count > 64 {
+        return Err(4);
+    }
+    let mut lengths = Vec::new();
+    for _ in 0..count {
+        lengths.push(rest.u32().ok_or(4)? as usize);
+    }
+    let mut fits = Vec::new();
+    for length in lengths {
+        fits.push(rest.take(length).ok_or(4)?);
+    }
+    if rest.is_empty() { Ok(fits) } else { Err(4) }
+}
+
+/// The hall numbers over a decoded catalogue.
+pub fn hall(catalogue: &Catalogue, input: &[u8]) -> Result<Hall, Refusal> {
+    let mut numbers = Hall::default();
+    for image in hall_fits(input)? {
+        match Fit::decode(image).and_then(|fit| list(catalogue, &fit)) {
+            Err(_) => numbers.refused += 1,
+            Ok(listed) if listed.entries.is_empty() => numbers.clear += 1,
+            Ok(_) => numbers.faulted += 1,
+        }
+    }
+    Ok(numbers)
+}
+
+fn is_cargo(violation: &Violation) -> bool {
+    matches!(
+        violation.rule,
+        Rule::Resource {
+            resource: original::Resource::CargoBay,
+            ..
+        }
+    )
+}
+
+fn is_negative_zero(term: f64) -> bool {
+    term == 0.0 && term.is_sign_negative()
+}
+
+impl Fit {
+    fn run<'a>(&'a self, catalogue: &'a Catalogue) -> Run<'a, Catalogue> {
+        Run {
+            info: catalogue,
+            fit: &self.fit,
+            calculation: &self.calculation,
+        }
+    }
+
+    /// The pairs: the first min(F, R) items with their results.
+    pub fn pairs(&self) -> impl Iterator<Item = (&original::FitItem, &original::ItemResult)> {
+        self.fit.items.iter().zip(&self.calculation.items)
+    }
+
+    fn launched_drones(&self) -> u64 {
+        self.pairs()
+            .filter(|(item, _)| item.slot == original::Slot::DroneBay)
+            .filter(|(_, result)| result.state >= State::Active)
+            .map(|(item, _)| u64::from(item.quantity))
+            .sum()
+    }
+
+    fn cargo_terms<'a>(&'a self, catalogue: &'a Catalogue) -> impl Iterator<Item = f64> + 'a {
+        self.pairs()
+            .filter(|(item, _)| item.slot == original::Slot::Cargo)
+            .map(|(item, _)| {
+                let volume = catalogue.volume(item.type_id).unwrap_or(0.0);
+                f64::from(volume) * f64::from(item.quantity)
+            })
+    }
+}

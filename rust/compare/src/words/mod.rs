@@ -1,0 +1,254 @@
+//! Images, calls and entries in words, for a reader who has to see what
+//! differs without counting bytes.
+
+mod entry;
+mod tables;
+
+use crate::case::{Ask, Case, Room};
+use crate::model::{Catalogue, Damage, Fit, Name, Outcome};
+use crate::names::{MARKS, NAMES};
+
+pub use entry::{double, entries, entry};
+pub use tables::{KINDS, LIMITS, RACKS, RESOURCES, RULES, STATES};
+
+use entry::single;
+use tables::named;
+
+/// The whole case, with the call that is asked.
+pub fn case(case: &Case) -> String {
+    let mut text = format!("{}\n", case.title);
+    catalogue(&mut text, &case.catalogue);
+    let own = |number: usize| match number {
+        0 if case.fits.len() == 1 => "fit".to_string(),
+        _ => format!("fit {number}"),
+    };
+    let names = &case.catalogue.names;
+    for (number, one) in case.fits.iter().enumerate() {
+        fit(&mut text, &own(number), one, names);
+    }
+    damage(&mut text, "hall input", &case.frame);
+    let growth = &case.growth;
+    if case
+        .asks
+        .iter()
+        .any(|ask| matches!(ask, Ask::GrownList | Ask::GrownSkill(_)))
+    {
+        text += &format!(
+            "the fit grows by {} items and {} results; levels fall by {:?}\n",
+            growth.items.len(),
+            growth.results.len(),
+            growth.lowered
+        );
+        let more = Fit {
+            items: growth.items.clone(),
+            results: growth.results.clone(),
+            ..Fit::default()
+        };
+        things(&mut text, &more, names);
+    }
+    for planted in &case.planted {
+        text += &format!("planted: refusal {} by {}\n", planted.refusal, planted.how);
+    }
+    for one in &case.asks {
+        text += &format!("call: {}\n", ask(*one));
+    }
+    text
+}
+
+pub fn ask(ask: Ask) -> String {
+    match ask {
+        Ask::List(room) => format!("list, {}", self::room(room)),
+        Ask::Skill(result, room) => {
+            format!("skill of {}, {}", holder(result), self::room(room))
+        }
+        Ask::Hall => "hall".to_string(),
+        Ask::GrownList => "list of the fit and of the grown fit".to_string(),
+        Ask::GrownSkill(result) => {
+            format!("skill of {}, in the fit and the grown fit", holder(result))
+        }
+    }
+}
+
+fn holder(result: u32) -> String {
+    match result {
+        0 => "the ship (result 0)".to_string(),
+        1 => "the character (result 1)".to_string(),
+        _ => format!("item {} (result {result})", result - 2),
+    }
+}
+
+fn room(room: Room) -> String {
+    match room {
+        Room::Empty => "empty buffer".to_string(),
+        Room::OneShort => "buffer one byte short".to_string(),
+        Room::Exact => "buffer of the exact length".to_string(),
+        Room::Longer(more) => format!("buffer {more} bytes longer than the entries"),
+    }
+}
+
+fn catalogue(text: &mut String, catalogue: &Catalogue) {
+    let Catalogue {
+        names,
+        effects,
+        types,
+        links,
+        bases,
+        damage: harm,
+    } = catalogue;
+    *text += &format!(
+        "catalogue: {} names, {} effects, {} types, {} links, {} bases\n",
+        names.len(),
+        effects.len(),
+        types.len(),
+        links.len(),
+        bases.len()
+    );
+    list(text, names, |row| match NAMES.get(row.number as usize) {
+        Some(name) => format!("{name} is attribute {}", row.attribute),
+        None => format!("name {} is attribute {}", row.number, row.attribute),
+    });
+    list(text, effects, |row| match MARKS.get(row.mark as usize) {
+        Some(name) => format!("effect {} is {name}", row.id),
+        None => format!("effect {} has mark {}", row.id, row.mark),
+    });
+    list(text, types, |row| {
+        let volume = match row.flag {
+            0 => "no volume".to_string(),
+            1 => format!("volume {}", single(row.volume)),
+            flag => format!("volume flag {flag}"),
+        };
+        format!(
+            "type {}: group {}, category {}, {volume}",
+            row.id, row.group, row.category
+        )
+    });
+    list(text, links, |row| {
+        format!("type {} has effect {}", row.type_id, row.effect)
+    });
+    list(text, bases, |row| {
+        format!(
+            "type {} starts with {} = {}",
+            row.type_id,
+            attribute(names, row.attribute),
+            single(row.value)
+        )
+    });
+    damage(text, "catalogue", harm);
+}
+
+/// An attribute by every name that has its id, or by the id alone.
+fn attribute(names: &[Name], id: i32) -> String {
+    let known: Vec<&str> = names
+        .iter()
+        .filter(|row| row.attribute == id)
+        .filter_map(|row| NAMES.get(row.number as usize).copied())
+        .collect();
+    match known.is_empty() {
+        true => format!("attribute {id}"),
+        false => known.join(" and "),
+    }
+}
+
+fn fit(text: &mut String, own: &str, fit: &Fit, names: &[Name]) {
+    let mode = match (fit.mode_flag, fit.mode) {
+        (0, 0) => "no mode".to_string(),
+        (1, mode) => format!("mode {mode}"),
+        (flag, mode) => format!("mode flag {flag}, mode {mode}"),
+    };
+    *text += &format!(
+        "{own}: ship type {}, {mode}, {} skills, {} items, {} results, {} attributes\n",
+        fit.ship_type,
+        fit.skills.len(),
+        fit.items.len(),
+        fit.results.len(),
+        fit.attribute_total()
+    );
+    list(text, &fit.skills, |skill| {
+        format!("skill {} trained to {}", skill.id, skill.level)
+    });
+    list(text, &[&fit.ship], |one| {
+        format!("the ship: {}", outcome(one, names))
+    });
+    list(text, &[&fit.character], |one| {
+        format!("the character: {}", outcome(one, names))
+    });
+    things(text, fit, names);
+    damage(text, own, &fit.damage);
+}
+
+/// Items and results, side by side.
+fn things(text: &mut String, fit: &Fit, names: &[Name]) {
+    let places: Vec<usize> = (0..fit.items.len().max(fit.results.len())).collect();
+    list(text, &places, |place| {
+        let item = match fit.items.get(*place) {
+            Some(item) => format!(
+                "{} of type {} in {} {}{}",
+                item.quantity,
+                item.type_id,
+                named(&KINDS, item.kind),
+                item.index,
+                if item.zero == 0 {
+                    ""
+                } else {
+                    ", zero byte not 0"
+                }
+            ),
+            None => "no item".to_string(),
+        };
+        let result = match fit.results.get(*place) {
+            Some(result) => outcome(result, names),
+            None => "no result".to_string(),
+        };
+        format!("item {place}: {item}; {result}")
+    });
+}
+
+fn outcome(outcome: &Outcome, names: &[Name]) -> String {
+    let values: Vec<String> = outcome
+        .attributes
+        .iter()
+        .take(60)
+        .map(|(id, bits)| format!("{} = {}", attribute(names, *id), double(*bits)))
+        .collect();
+    let more = outcome.attributes.len() - values.len();
+    let mut text = format!("{}, {{{}", named(&STATES, outcome.state), values.join(", "));
+    if more > 0 {
+        text += &format!(" and {more} more");
+    }
+    text.push('}');
+    if let Some(count) = outcome.count {
+        text += &format!(", count written as {count}");
+    }
+    if outcome.zero != 0 {
+        text += ", zero byte not 0";
+    }
+    text
+}
+
+fn damage(text: &mut String, own: &str, damage: &Damage) {
+    for (place, size) in &damage.sizes {
+        *text += &format!("  {own}: size {place} is written as {size}\n");
+    }
+    if damage.cut > 0 {
+        match damage.cut {
+            usize::MAX => *text += &format!("  {own}: all bytes cut off\n"),
+            cut => *text += &format!("  {own}: {cut} bytes cut off the end\n"),
+        }
+    }
+    if !damage.extra.is_empty() {
+        *text += &format!("  {own}: these bytes put behind: {:02x?}\n", damage.extra);
+    }
+    for (place, value) in &damage.patches {
+        *text += &format!("  {own}: byte {place} is {value}\n");
+    }
+}
+
+fn list<T>(text: &mut String, rows: &[T], one: impl Fn(&T) -> String) {
+    const MOST: usize = 100;
+    for row in rows.iter().take(MOST) {
+        *text += &format!("  {}\n", one(row));
+    }
+    if rows.len() > MOST {
+        *text += &format!("  and {} more\n", rows.len() - MOST);
+    }
+}

@@ -1,0 +1,66 @@
+//! The recorded answers: they are what `record` writes, every checker gives
+//! them, and they hold every rule, every refusal and every call.
+
+use std::collections::BTreeSet;
+
+use crate::common::checkers;
+use compare::record::{self, HALL, LIST, MOST, Record};
+
+const FILE: &[u8] = include_bytes!("../../recorded.bin");
+
+fn records() -> Vec<Record> {
+    record::read(FILE).unwrap()
+}
+
+#[test]
+fn the_file_is_what_record_writes() {
+    assert!(
+        FILE == record::file(&record::sample()),
+        "run `compare record compare/recorded.bin`"
+    );
+    assert!(FILE.len() <= MOST);
+}
+
+#[test]
+fn every_checker_gives_the_recorded_answers() {
+    for (name, checker) in checkers() {
+        for (number, record) in records().iter().enumerate() {
+            let mut out = vec![0x5A; record.room as usize];
+            let word = match record.result {
+                LIST => checker.list(&record.catalogue, &record.fit, &mut out),
+                HALL => checker.hall(&record.catalogue, &record.fit),
+                result => checker.skill(&record.catalogue, &record.fit, result, &mut out),
+            };
+            assert_eq!(word, record.word, "{name}, record {number}");
+            let (entries, rest) = out.split_at(record.written.len());
+            assert_eq!(entries, record.written, "{name}, record {number}");
+            assert!(
+                rest.iter().all(|byte| *byte == 0x5A),
+                "{name}, record {number}"
+            );
+        }
+    }
+}
+
+#[test]
+fn every_rule_refusal_and_call_is_recorded() {
+    let mut rules = BTreeSet::new();
+    let mut refusals = BTreeSet::new();
+    let mut calls = BTreeSet::new();
+    for record in records() {
+        let call = match record.result {
+            LIST => "list",
+            HALL => "hall",
+            _ => "skill",
+        };
+        calls.insert((call, record.word >> 32 == 0));
+        refusals.insert(record.word >> 32);
+        rules.extend(record.written.chunks(24).map(|entry| entry[1]));
+    }
+    assert_eq!(rules, (1..=21).collect());
+    assert_eq!(refusals, (0..=10).collect());
+    for call in ["list", "skill", "hall"] {
+        assert!(calls.contains(&(call, true)), "{call} answered");
+        assert!(calls.contains(&(call, false)), "{call} refused");
+    }
+}

@@ -1,0 +1,1 @@
+// Stand-in: ids that only the calculation's passes name.
