@@ -16,12 +16,19 @@ ghost use Rattle.fit.specs.Lookups.{value, amount, trained};
 
 // Slot kinds by their numbers in the image.
 pub const RIG: u8 = 3;
+
 pub const SUBSYSTEM: u8 = 4;
+
 pub const FIGHTER_TUBE: u8 = 6;
+
 pub const FIGHTER_BAY: u8 = 7;
+
 pub const IMPLANT: u8 = 8;
+
 pub const BOOSTER: u8 = 9;
+
 pub const DRONE_BAY: u8 = 10;
+
 pub const CARGO: u8 = 11;
 
 // What is said of a fit: accepted, or refused by 4, 5 or 6.
