@@ -17,7 +17,7 @@ use Rattle.fit.specs.Refusals.{booster, badSize, badOrder, badItem, badR
 use Rattle.fit.specs.Sound.{inBay, Sized, Sound}
 use Rattle.fit.proofs.Decoded.{all-results, counts-sum}
 
--- the other one
+-- what is not false is true
 not-both : (t : Bool) → (t ≡ false → ⊥) → t ≡ true
 not-both true h = refl
 not-both false h = absurd (h refl)

@@ -1,5 +1,6 @@
 -- `refusals::bad_result` meets its contract: the results begin where the caller says.
 use Prim.Native.Nat.{ℕ, _+_, _*_}
+use native.Mathlib.Omega.{arith}
 use mathlib.Core.Path.{_≡_, _∙_, ap, sym}
 use borrow.Author.Tests.{lt-ltb, le-ltb}
 use borrow.Author.Needs.{needs}
@@ -24,7 +25,7 @@ returns c =
     let a = c .before .before .before .args in
     let b = a .fit .now in
     let e : c .before .u8-at .result ≡ resultOf b (a .j) .state = c .before .u8-at .ensures ∙ ap (λ (k : ℕ). u8At b (k + 4 * a .j)) (c .before .before .before .pre .0) in
-    simp (sym e, lt-ltb _ _ (c .if1 .taken))
+    simp (sym e, lt-ltb 3 (c .before .u8-at .result) (omega arith))
 
 add-u8-at : tie.Need-add-u8-at
 add-u8-at c = search needs
@@ -40,7 +41,7 @@ returns-2 c =
     let p = c .before .before .before .before .pre in
     let e : c .before .before .u8-at .result ≡ resultOf b (a .j) .state = c .before .before .u8-at .ensures ∙ ap (λ (k : ℕ). u8At b (k + 4 * a .j)) (p .0) in
     let z : c .u8-at2 .result ≡ resultOf b (a .j) .zero = c .u8-at2 .ensures ∙ ap (λ (k : ℕ). u8At b (k + 4 * a .j + 1)) (p .0) in
-    simp (sym e, sym z, le-ltb _ _ (c .before .if1 .left))
+    simp (sym e, sym z, le-ltb 3 (c .before .before .u8-at .result) (omega arith))
 
 pub bad-result-spec : {M : Type 1} → statement M
 bad-result-spec =
