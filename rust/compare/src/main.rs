@@ -27,7 +27,10 @@ fn main() -> ExitCode {
             );
             Ok(faults::table(settings.cases, settings.seed))
         }
-        Ok(Command::Record(file)) => record::write(&file).map(|records| (records as u64, 0)),
+        Ok(Command::Record(file)) => match record::write(&file) {
+            Ok(()) => return ExitCode::SUCCESS,
+            Err(message) => Err(message),
+        },
         Err(wrong) => Err(format!("{wrong}\n\n{}", args::USAGE)),
     };
     match done {
@@ -63,13 +66,17 @@ fn checker(settings: &Settings) -> Result<(&'static str, Box<dyn Checker>), Stri
 /// Differences that are shrunk and printed; the others are counted.
 const SHOWN: u64 = 5;
 
+/// A long run says now and then how far it is.
+const PROGRESS: u64 = 100_000;
+
 fn compared(settings: &Settings) -> Result<(u64, u64), String> {
     let (name, checker) = checker(settings)?;
     let checker = checker.as_ref();
     let mut tally = Tally::default();
     if let Some(number) = settings.only {
         let case = cases::case(settings.seed, number);
-        println!("case {number}: {}", words::case(&case));
+        print!("case {number}: {}", words::case(&case));
+        print!("{}", words::answers(&case));
         return Ok(match run(&case, checker, &mut tally) {
             Ok(()) => (1, 0),
             Err(difference) => {
@@ -86,6 +93,9 @@ fn compared(settings: &Settings) -> Result<(u64, u64), String> {
     quiet_checker_panics();
     let (mut passed, mut failed) = (0, 0);
     for number in 0..settings.cases {
+        if number > 0 && number % PROGRESS == 0 {
+            eprintln!("{number} cases, {failed} differ");
+        }
         let case = cases::case(settings.seed, number);
         match run(&case, checker, &mut tally) {
             Ok(()) => passed += 1,

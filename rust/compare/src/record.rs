@@ -211,8 +211,8 @@ pub fn file(records: &[Record]) -> Vec<u8> {
     bytes
 }
 
-/// Writes the file; how many records it has.
-pub fn write(name: &str) -> Result<usize, String> {
+/// Writes the file and says how large it is.
+pub fn write(name: &str) -> Result<(), String> {
     let records = sample();
     let bytes = file(&records);
     fs::write(name, &bytes).map_err(|error| format!("cannot write {name}: {error}"))?;
@@ -221,7 +221,7 @@ pub fn write(name: &str) -> Result<usize, String> {
         records.len(),
         bytes.len()
     );
-    Ok(records.len())
+    Ok(())
 }
 
 /// The records of a file, or what is wrong with it.

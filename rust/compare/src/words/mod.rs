@@ -5,8 +5,11 @@ mod entry;
 mod tables;
 
 use crate::case::{Ask, Case, Room};
-use crate::model::{Catalogue, Damage, Fit, Name, Outcome};
+use crate::checker::{Checker, ENTRY, in_words};
+use crate::model::{Catalogue, Damage, Fit, Name, Outcome, hall_image};
 use crate::names::{MARKS, NAMES};
+use crate::reference::Original;
+use crate::verdict::hall_in_words;
 
 pub use entry::{double, entries, entry};
 pub use tables::{KINDS, LIMITS, RACKS, RESOURCES, RULES, STATES};
@@ -51,6 +54,43 @@ pub fn case(case: &Case) -> String {
     }
     for one in &case.asks {
         text += &format!("call: {}\n", ask(*one));
+    }
+    text
+}
+
+/// What the original answers to each kind of call of a case, whatever the
+/// buffers.
+pub fn answers(case: &Case) -> String {
+    let catalogue = case.catalogue.image();
+    let mut text = String::new();
+    let mut asked = Vec::new();
+    for one in &case.asks {
+        let (what, result) = match one {
+            Ask::List(_) | Ask::GrownList => ("list".to_string(), None),
+            Ask::Skill(result, _) | Ask::GrownSkill(result) => {
+                (format!("skill of {}", holder(*result)), Some(*result))
+            }
+            Ask::Hall => {
+                let word = Original.hall(&catalogue, &hall_image(&case.fits, &case.frame));
+                text += &format!("hall: the original makes it {}\n", hall_in_words(word));
+                continue;
+            }
+        };
+        if asked.contains(&result) {
+            continue;
+        }
+        asked.push(result);
+        let fit = case.fits[0].image();
+        let mut out = vec![0; ENTRY * 8_192];
+        let word = match result {
+            None => Original.list(&catalogue, &fit, &mut out),
+            Some(result) => Original.skill(&catalogue, &fit, result, &mut out),
+        };
+        text += &format!("{what}: the original makes it {}\n", in_words(word));
+        let count = if word >> 32 == 0 { word as usize } else { 0 };
+        for entry in entries(&out[..ENTRY * count]) {
+            text += &format!("  {entry}\n");
+        }
     }
     text
 }
