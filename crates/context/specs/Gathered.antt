@@ -73,6 +73,11 @@ pub record TypeFacts (c : Catalogue) (id : Id) (info : TypeInfo) : Type 0 where
   pub category : info .category ≡ categoryOf c id
   pub volume : info .volume ≡ volumeOf c id
 
+-- of the ship's type
+pub record ShipFacts (x : Context) (info : TypeInfo) : Type 0 where
+  pub group : info .group ≡ x .group
+  pub category : info .category ≡ x .category
+
 -- below a limit, where there is a slot
 abbrev pub Below : ℕ → Option ℕ → Type 0
 Below limit none = Unit {0}

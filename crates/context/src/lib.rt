@@ -12,7 +12,7 @@ ghost use Rattle.catalogue.specs.Sound as Catalogue;
 ghost use Rattle.catalogue.specs.Answers.{slotOf};
 ghost use Rattle.fit.specs.Sound as Fit;
 ghost use Rattle.context.specs.Context.{isModuleCategory};
-ghost use Rattle.context.specs.Gathered.{slotIn, Below, TypeFacts, Gathered};
+ghost use Rattle.context.specs.Gathered.{contextOf, slotIn, Below, TypeFacts, ShipFacts, Gathered};
 
 // What the catalogue says of the type of each pair, at the pair's position. A slot of 8 is none.
 pub struct Facts {
@@ -24,7 +24,7 @@ pub struct Facts {
 }
 
 // A type that the catalogue lacks has group 0, category 0 and no volume.
-fn type_facts(catalogue: &[u8], id: i32) -> TypeInfo
+pub fn type_facts(catalogue: &[u8], id: i32) -> TypeInfo
     requires { ⌜ Catalogue.Sound (now catalogue) ⌝ }
     ensures { λ r. ⌜ TypeFacts (catalogueOf (now (catalogue .entry))) id r ⌝ }
 {
@@ -37,6 +37,14 @@ fn type_facts(catalogue: &[u8], id: i32) -> TypeInfo
             volume: 0.0,
         },
     }
+}
+
+// What the catalogue says of the ship's type.
+pub fn ship_facts(catalogue: &[u8], fit: &[u8]) -> TypeInfo
+    requires { ⌜ Catalogue.Sound (now catalogue) × Fit.Sound (now fit) ⌝ }
+    ensures { λ r. ⌜ ShipFacts (contextOf (now (catalogue .entry)) (now (fit .entry))) r ⌝ }
+{
+    type_facts(catalogue, fit::ship(fit))
 }
 
 // A slot as a byte.

@@ -1,1 +1,2 @@
 pub mod Item
+pub mod AtPair

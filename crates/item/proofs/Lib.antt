@@ -1,0 +1,8 @@
+-- Laws of the rules on items.
+pub mod Codes
+pub mod Listings
+pub mod Loops
+pub mod Counts
+pub mod Limits
+pub mod Marks
+pub mod Rules

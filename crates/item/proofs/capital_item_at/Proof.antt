@@ -1,0 +1,37 @@
+-- `item::capital_item_at` meets its contract: the test and the entry are those of the rule.
+use mathlib.Core.Path.{ap, _∙_}
+use lib.IntN.{ℤ}
+use mir.Syntax.{w32}
+use mir.ValLaws.{toZ-ofZ}
+use Rattle.context.specs.Gathered.{pairAt}
+use Rattle.item.specs.AtPair.{isCapitalItem}
+use Rattle.item.proofs.Rules.{capital-test}
+use borrow.Author.Needs.{needs}
+use Rattle.item.proofs.capital_item_at.Statement.{statement}
+use Rattle.item.proofs.capital_item_at.Tie as tie
+
+is-capital-item-requires : tie.Need-is-capital-item-requires
+is-capital-item-requires c κs = search needs
+
+cast-t11 : tie.Need-cast-t11
+cast-t11 c = search needs
+
+emit-when-requires : tie.Need-emit-when-requires
+emit-when-requires c κs = search needs
+
+same-length : tie.Need-same-length
+same-length c = search needs
+
+returns : tie.Need-returns
+returns c =
+    let w = c .before .before in
+    let t = w .before in
+    let s = t .before .before .before .before .before in
+    let p = pairAt (s .args .catalogue .now) (s .args .fit .now) (s .args .i) in
+    capital-test (s .args .volume) p
+    (t .is-capital-item .ensures (s .args .catalogue .now) ∙ ap (λ (z : ℤ). isCapitalItem z p) (toZ-ofZ w32 (s .args .volume) (s .fits .volume)))
+    (w .emit-when .ensures)
+
+pub capital-item-at-spec : {M : Type 1} → statement M
+capital-item-at-spec =
+    tie.close (tie.spec is-capital-item-requires cast-t11 emit-when-requires same-length returns)

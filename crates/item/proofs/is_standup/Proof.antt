@@ -1,0 +1,49 @@
+-- `item::is_standup` meets its contract: by category, or by a mark.
+use mathlib.Core.Path.{_≡_, sym, ap, _∙_}
+use lib.IntN.{ℤ, pos}
+use mir.Syntax.{w32}
+use mir.ValLaws.{toZ-ofZ}
+use Rattle.words.specs.Words.{same}
+use Rattle.context.specs.Context.{context}
+use Rattle.context.specs.Gathered.{contextOf, pairAt}
+use Rattle.item.proofs.Marks.{standup-category, standup-marked}
+use borrow.Author.Needs.{needs}
+use Rattle.item.proofs.is_standup.Statement.{statement}
+use Rattle.item.proofs.is_standup.Tie as tie
+
+-- the category that was gathered is the pair's
+told : (c : tie.After-same-id) → let s = c .before .before .before .before in c .same-id .result ≡ same (pairAt (s .args .catalogue .now) (s .args .fit .now) (s .args .i) .category) (pos 66)
+told c =
+    let s = c .before .before .before .before in
+    c .same-id .ensures
+    ∙ ap (λ (z : ℤ). same z (pos 66)) (toZ-ofZ w32 (c .before .id-at .result) (record { sfits = c .before .id-at .ok }) ∙ c .before .id-at .ensures ∙ s .pre .1 .1 (s .args .i) (s .pre .0 .1))
+
+id-at-requires : tie.Need-id-at-requires
+id-at-requires c κs = search needs
+
+same-id-requires : tie.Need-same-id-requires
+same-id-requires c κs = search needs
+
+returns : tie.Need-returns
+returns c =
+    let a = c .before .before .before .before .before .args in
+    standup-category (contextOf (a .catalogue .now) (a .fit .now)) (pairAt (a .catalogue .now) (a .fit .now) (a .i)) (sym (told (c .before)) ∙ c .if1 .taken)
+
+add-is-marked : tie.Need-add-is-marked
+add-is-marked c = search needs
+
+is-marked-requires : tie.Need-is-marked-requires
+is-marked-requires c κs = search needs
+
+returns-2 : tie.Need-returns-2
+unfolding contextOf context
+returns-2 c =
+    let i = c .before .before in
+    let s = i .before .before .before .before .before in
+    let a = s .args in
+    standup-marked (contextOf (a .catalogue .now) (a .fit .now)) (pairAt (a .catalogue .now) (a .fit .now) (a .i)) (a .markers .now) (c .is-marked .result) (s .pre .1 .0) (sym (told (i .before)) ∙ i .if1 .left) (c .is-marked .ensures)
+
+pub is-standup-spec : {M : Type 1} → statement M
+is-standup-spec =
+    tie.close
+    (tie.spec id-at-requires same-id-requires returns add-is-marked is-marked-requires returns-2)

@@ -1,0 +1,92 @@
+-- `item::ship_restricted` meets its contract: a loop over the pairs, with ids that were looked up once.
+use Prim.Native.Nat.{_-_}
+use native.Mathlib.Omega.{arith}
+use mathlib.Core.Path.{_∙_}
+use mir.Syntax.{w32}
+use mir.ValLaws.{toZ-ofZ}
+use borrow.Author.Needs.{needs}
+use Rattle.entry.proofs.Wrote.{wrote-length}
+use Rattle.context.specs.Context.{context}
+use Rattle.context.specs.Gathered.{contextOf, pairsOf}
+use Rattle.item.specs.AtPair.{shipRestrictedAt}
+use Rattle.item.proofs.Loops.{Passed, passed-none, passed-more, passed-all}
+use Rattle.item.proofs.Rules.{restricted-few, restricted-each}
+use Rattle.item.proofs.ship_restricted.Statement.{statement}
+use Rattle.item.proofs.ship_restricted.Tie as tie
+
+abbrev Inv-loop : tie.InvT-loop
+Inv-loop catalogue fit starts group out₀ n types groups ship count m₀ i₀ out m i =
+    Passed catalogue fit (shipRestrictedAt (contextOf catalogue fit)) out₀ n out m i
+
+abbrev μ-loop : tie.MeasureT-loop
+μ-loop catalogue fit starts group out₀ n types groups ship count m₀ i₀ out m i = count - i
+
+type-ids-requires : tie.Need-type-ids-requires Inv-loop μ-loop
+type-ids-requires c κs = search needs
+
+group-ids-requires : tie.Need-group-ids-requires Inv-loop μ-loop
+group-ids-requires c κs = search needs
+
+ship-requires : tie.Need-ship-requires Inv-loop μ-loop
+ship-requires c κs = search needs
+
+pair-count-requires : tie.Need-pair-count-requires Inv-loop μ-loop
+pair-count-requires c κs = search needs
+
+loop-holds : tie.Need-loop-holds Inv-loop μ-loop
+loop-holds c = passed-none _ _ _ _ _
+
+ship-restricted-at-requires : tie.Need-ship-restricted-at-requires Inv-loop μ-loop
+unfolding contextOf context
+ship-restricted-at-requires c κs =
+    let l = c .before .before .before .before in
+    let h = l .before .before in
+    let s = h .before .before .before .before .before .before in (
+      (s .pre .0, omega arith, omega arith),
+      (
+        (h .before .before .type-ids .ensures, h .before .group-ids .ensures),
+        (
+          toZ-ofZ w32 (h .ship .result) (record { sfits = h .ship .ok }) ∙ h .ship .ensures,
+          toZ-ofZ w32 (s .args .group) (s .fits .group) ∙ s .pre .2,
+        ),
+      ),
+    )
+
+add-i : tie.Need-add-i Inv-loop μ-loop
+add-i c = search needs
+
+loop-less : tie.Need-loop-less Inv-loop μ-loop
+loop-less c = search needs
+
+loop-again : tie.Need-loop-again Inv-loop μ-loop
+loop-again c =
+    let l = c .before .before .before .before .before .before .before in
+    passed-more _ _ _ (restricted-few _) (omega arith) (l .loop .inv) (c .before .before .ship-restricted-at .ensures)
+
+same-length : tie.Need-same-length Inv-loop μ-loop
+same-length c = wrote-length (c .before .loop .inv .wrote)
+
+returns : tie.Need-returns Inv-loop μ-loop
+returns c =
+    let l = c .before in
+    let s = l .before .before .before .before .before .before .before .before in
+    let w = passed-all (s .args .catalogue .now) (s .args .fit .now) _ (s .pre .0 .fit-sound) (omega arith) (l .loop .inv) in
+    (restricted-each (contextOf (s .args .catalogue .now) (s .args .fit .now)) (pairsOf (s .args .catalogue .now) (s .args .fit .now)) (w .0), w .1)
+
+pub ship-restricted-spec : {M : Type 1} → statement M
+ship-restricted-spec =
+    tie.close
+    (tie.spec
+    Inv-loop
+    μ-loop
+    type-ids-requires
+    group-ids-requires
+    ship-requires
+    pair-count-requires
+    loop-holds
+    ship-restricted-at-requires
+    add-i
+    loop-less
+    loop-again
+    same-length
+    returns)

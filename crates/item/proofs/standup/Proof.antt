@@ -1,0 +1,84 @@
+-- `item::standup` meets its contract: a loop over the pairs, with marks that were looked up once.
+use Prim.Native.Nat.{_-_}
+use native.Mathlib.Omega.{arith}
+use mathlib.Core.Path.{ap, _∙_}
+use lib.IntN.{ℤ, pos}
+use mir.Syntax.{w32}
+use mir.ValLaws.{toZ-ofZ}
+use borrow.Author.Needs.{needs}
+use Rattle.words.specs.Words.{same}
+use Rattle.entry.proofs.Wrote.{wrote-length}
+use Rattle.context.specs.Gathered.{contextOf, pairsOf}
+use Rattle.item.specs.Item.{isStructure}
+use Rattle.item.specs.AtPair.{standupAt}
+use Rattle.item.proofs.Loops.{Passed, passed-none, passed-more, passed-all}
+use Rattle.item.proofs.Rules.{standup-few, standup-each}
+use Rattle.item.proofs.standup.Statement.{statement}
+use Rattle.item.proofs.standup.Tie as tie
+
+abbrev Inv-loop : tie.InvT-loop
+Inv-loop catalogue fit starts categories category out₀ n markers structure count m₀ i₀ out m i =
+    Passed catalogue fit (standupAt (contextOf catalogue fit)) out₀ n out m i
+
+abbrev μ-loop : tie.MeasureT-loop
+μ-loop catalogue fit starts categories category out₀ n markers structure count m₀ i₀ out m i = count - i
+
+standup-ids-requires : tie.Need-standup-ids-requires Inv-loop μ-loop
+standup-ids-requires c κs = search needs
+
+same-id-requires : tie.Need-same-id-requires Inv-loop μ-loop
+same-id-requires c κs = search needs
+
+pair-count-requires : tie.Need-pair-count-requires Inv-loop μ-loop
+pair-count-requires c κs = search needs
+
+loop-holds : tie.Need-loop-holds Inv-loop μ-loop
+loop-holds c = passed-none _ _ _ _ _
+
+standup-at-requires : tie.Need-standup-at-requires Inv-loop μ-loop
+unfolding isStructure
+standup-at-requires c κs =
+    let l = c .before .before .before in
+    let t = l .before .before in
+    let s = t .before .before .before .before .before in (
+      (s .pre .0, omega arith, omega arith),
+      (t .before .standup-ids .ensures, s .pre .2, t .same-id .ensures ∙ ap (λ (z : ℤ). same z (pos 65)) (toZ-ofZ w32 (s .args .category) (s .fits .category) ∙ s .pre .3)),
+    )
+
+add-i : tie.Need-add-i Inv-loop μ-loop
+add-i c = search needs
+
+loop-less : tie.Need-loop-less Inv-loop μ-loop
+loop-less c = search needs
+
+loop-again : tie.Need-loop-again Inv-loop μ-loop
+loop-again c =
+    let l = c .before .before .before .before .before .before in
+    passed-more _ _ _ (standup-few _) (omega arith) (l .loop .inv) (c .before .before .standup-at .ensures)
+
+same-length : tie.Need-same-length Inv-loop μ-loop
+same-length c = wrote-length (c .before .loop .inv .wrote)
+
+returns : tie.Need-returns Inv-loop μ-loop
+returns c =
+    let l = c .before in
+    let s = l .before .before .before .before .before .before .before in
+    let w = passed-all (s .args .catalogue .now) (s .args .fit .now) _ (s .pre .0 .fit-sound) (omega arith) (l .loop .inv) in
+    (standup-each (contextOf (s .args .catalogue .now) (s .args .fit .now)) (pairsOf (s .args .catalogue .now) (s .args .fit .now)) (w .0), w .1)
+
+pub standup-spec : {M : Type 1} → statement M
+standup-spec =
+    tie.close
+    (tie.spec
+    Inv-loop
+    μ-loop
+    standup-ids-requires
+    same-id-requires
+    pair-count-requires
+    loop-holds
+    standup-at-requires
+    add-i
+    loop-less
+    loop-again
+    same-length
+    returns)
