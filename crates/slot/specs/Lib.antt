@@ -1,1 +1,3 @@
 pub mod Slot
+pub mod Tables
+pub mod AtPair

@@ -1,0 +1,99 @@
+-- What the code of each check tells of an item is what the check's definition says of the pair. Assumes nothing.
+use Prim.Native.Nat.{ℕ, _+_, _<_, _≤_}
+use native.Mathlib.Omega.{arith}
+use mathlib.Core.Path.{_≡_, refl, sym, ap, _∙_}
+use mathlib.Core.Bool.{Bool, true, false, not, _&&_, _||_, cond}
+use mathlib.Core.List.{List, []}
+use mathlib.Core.Option.{Option, none, some}
+use lib.Dec.{eqb, leb, ltb}
+use lib.IntN.{pos}
+use borrow.Author.Tests.{ne-eqb, ltb-false}
+use Rattle.words.specs.Words.{_>>=_, when, whenAny, anyOf, given, same}
+use Rattle.fit.specs.Refusals.{fighterTube, fighterBay, implant, booster, droneBay, cargoHold}
+use Rattle.entry.specs.declared.Entry.{Entry}
+use Rattle.entry.specs.declared.Rule.the-variants.{WrongSlot, NotAModule, NotADrone, NotAFighter, NotAnImplant, SlotTaken}
+use Rattle.entry.specs.Entries.{onItem}
+use Rattle.entry.specs.Wrote.{Wrote}
+use Rattle.entry.proofs.Wrote.{wrote-same, wrote-none}
+use Rattle.context.specs.Context.{Pair, Context, isFitted, isIn, isFighterSlot, isOther, isModuleCategory}
+use Rattle.context.specs.Gathered.{slotIn}
+use Rattle.slot.specs.declared.Item.{Item}
+use Rattle.slot.specs.Slot.{takesHardpoint, wrongSlot, notAModule, notADrone, notAFighter, notAnImplant, holdsOne, slotTaken}
+use Rattle.slot.specs.AtPair.{Holds, Checked, sharesSlot}
+
+-- ---- a slot in a byte
+-- a byte is a slot below 8 where it is that number
+pub slot-given : (code slot : ℕ) → slot < 8 → eqb code slot ≡ given (slotIn code) false (λ s. eqb s slot)
+unfolding slotIn given
+slot-given code slot h = go (ltb code 8) refl
+  where
+    go : (b : Bool) → ltb code 8 ≡ b → eqb code slot ≡ given (cond b (some code) none) false (λ s. eqb s slot)
+    go true e = refl
+    go false e = let l : 8 ≤ code = ltb-false code 8 e in ne-eqb code slot (apart l)
+      where
+        apart : 8 ≤ code → code ≡ slot → ⊥
+        apart l q = omega arith
+
+-- an entry that shows the slot of a byte
+slot-shown : (code : ℕ) (t : ℕ → Bool) (e : ℕ → Entry) → when (ltb code 8 && t code) (e code) ≡ _>>=_ (slotIn code) (λ s. when (t s) (e s))
+unfolding slotIn _>>=_ when
+slot-shown code t e = go (ltb code 8)
+  where
+    go : (b : Bool) → when (b && t code) (e code) ≡ _>>=_ (cond b (some code) none) (λ s. when (t s) (e s))
+    go true = refl
+    go false = refl
+
+-- ---- checks that look at one pair
+module _ (x : Context) {p : Pair} {item : Item} (h : Holds p item) where
+  pub wrong-slot-is : when (ltb (item .rack) 8 && (leb (item .slot) 5 && not (eqb (item .slot) (item .rack)))) (onItem (item .at) (WrongSlot (item .rack))) ≡ wrongSlot x p
+  unfolding wrongSlot isFitted isIn
+  wrong-slot-is =
+      slot-shown (item .rack) (λ s. leb (item .slot) 5 && not (eqb (item .slot) s)) (λ s. onItem (item .at) (WrongSlot s))
+      ∙ rw (h .rack, h .slot, h .at)
+
+  pub not-a-module-is : when (leb (item .slot) 5 && not (isModuleCategory (item .category))) (onItem (item .at) NotAModule) ≡ notAModule x p
+  unfolding notAModule isFitted
+  not-a-module-is = rw (h .slot, h .category, h .at)
+
+  pub not-a-drone-is : when (eqb (item .slot) 10 && not (same (item .category) (pos 18))) (onItem (item .at) NotADrone) ≡ notADrone x p
+  unfolding notADrone isIn
+  not-a-drone-is = rw (h .slot, h .category, h .at)
+
+  pub not-a-fighter-is : when ((eqb (item .slot) 6 || eqb (item .slot) 7) && not (same (item .category) (pos 87))) (onItem (item .at) NotAFighter) ≡ notAFighter x p
+  unfolding notAFighter isFighterSlot isIn
+  not-a-fighter-is = rw (h .slot, h .category, h .at)
+
+  pub not-an-implant-is : when ((eqb (item .slot) 8 || eqb (item .slot) 9) && not (same (item .category) (pos 20))) (onItem (item .at) NotAnImplant) ≡ notAnImplant x p
+  unfolding notAnImplant isIn
+  not-an-implant-is = rw (h .slot, h .category, h .at)
+
+-- ---- code that writes an entry or none
+module _ {b : List ℕ} {n : ℕ} {item : Item} (check : Context → Pair → List Entry) where
+  pub checked : {a : List ℕ} {k : ℕ} {es : List Entry} → (k ≤ n + 1) × Wrote b n a k es → ((x : Context) (p : Pair) → Holds p item → es ≡ check x p) → Checked item check b n a k
+  checked w told = record { few = w .0; wrote = λ x p h. wrote-same (told x p h) (w .1) }
+
+  pub unchecked : ((x : Context) (p : Pair) → Holds p item → [] ≡ check x p) → Checked item check b n b n
+  unchecked told = record { few = omega arith; wrote = λ x p h. wrote-same (told x p h) (wrote-none b n) }
+
+-- ---- tests
+pub takes-is : (p : Pair) (code slot : ℕ) {s : ℕ} → s ≡ p .slot → slotIn code ≡ p .hardpoint → slot < 8 → leb s 5 && eqb code slot ≡ takesHardpoint slot p
+unfolding takesHardpoint isFitted
+takes-is p code slot e q l = rw (slot-given code slot l, e, q)
+
+pub holds-one-is : (p : Pair) {s : ℕ} → s ≡ p .slot → not ((eqb s 10 || eqb s 7) || eqb s 11) ≡ holdsOne p
+unfolding holdsOne isIn
+holds-one-is p e = rw e
+
+pub shares-slot-is : (o : Pair) {p : Pair} {item : Item} {j s i : ℕ} → Holds p item → j ≡ o .at → s ≡ o .slot → i ≡ o .index → not (eqb j (item .at)) && (eqb s (item .slot) && eqb i (item .index)) ≡ sharesSlot p o
+unfolding sharesSlot isOther
+shares-slot-is o h a b c = rw (a, b, c, h .at, h .slot, h .index)
+
+-- ---- a slot that another pair has
+module _ (x : Context) (ps : List Pair) where
+  pub slot-taken-is : {p : Pair} {item : Item} {found : Bool} → Holds p item → holdsOne p ≡ true → found ≡ anyOf (sharesSlot p) ps → when found (onItem (item .at) SlotTaken) ≡ slotTaken x ps p
+  unfolding slotTaken whenAny sharesSlot
+  slot-taken-is h e q = rw (h .at, e, q)
+
+  pub slot-free : (p : Pair) → holdsOne p ≡ false → [] ≡ slotTaken x ps p
+  unfolding slotTaken whenAny when
+  slot-free p e = rw e

@@ -1,0 +1,40 @@
+-- `slot::push_unless` meets its contract: the comparison of the categories at the numbers themselves.
+use mathlib.Core.Path.{_≡_, ap, _∙_}
+use mathlib.Core.Bool.{Bool, not, _&&_}
+use mir.Syntax.{w32}
+use mir.ValLaws.{toZ-ofZ}
+use Rattle.words.specs.Words.{when, same}
+use Rattle.entry.specs.Entries.{onItem}
+use Rattle.entry.proofs.Wrote.{wrote-same}
+use borrow.Author.Needs.{needs}
+use Rattle.slot.proofs.push_unless.Statement.{statement}
+use Rattle.slot.proofs.push_unless.Tie as tie
+
+same-id-requires : tie.Need-same-id-requires
+same-id-requires c κs = search needs
+
+both-requires : tie.Need-both-requires
+both-requires c κs = search needs
+
+push-when-requires : tie.Need-push-when-requires
+push-when-requires c κs = search needs
+
+same-length : tie.Need-same-length
+same-length c = search needs
+
+returns : tie.Need-returns
+returns c = 
+    let b = c .before .before .before .before in
+    let s = b .before .before .before .before in
+    let a = s .args in
+    let fits = b .before .before .struct-told .given .1 .1 .1 .0 .1 in
+    let e : b .before .same-id .result ≡ same (a .item .category) (a .category) =
+        rw (toZ-ofZ w32 (a .item .category) (record { sfits = fits }), toZ-ofZ w32 (a .category) (s .fits .category)) at (b .before .same-id .ensures) in
+    let w = c .before .before .push-when .ensures in (
+      w .0,
+      wrote-same (ap (λ (t : Bool). when t (onItem (a .item .at) (a .rule))) (b .both .ensures ∙ ap (λ (t : Bool). a .there && not t) e)) (w .1),
+    )
+
+pub push-unless-spec : {M : Type 1} → statement M
+push-unless-spec =
+    tie.close (tie.spec same-id-requires both-requires push-when-requires same-length returns)

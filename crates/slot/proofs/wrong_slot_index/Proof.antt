@@ -1,0 +1,80 @@
+-- `slot::wrong_slot_index` meets its contract: a slot with a number, a name that is known, and the value of its attribute.
+use native.Mathlib.Omega.{arith}
+use Prim.Native.Nat.{ℕ, _+_}
+use mathlib.Core.Path.{_≡_, sym, ap, _∙_}
+use lib.IntN.{ℤ}
+use mir.Syntax.{w32}
+use mir.ValLaws.{toZ-ofZ}
+use Rattle.catalogue.specs.Answers.{idOf}
+use Rattle.floats.specs.Values.{valueOf}
+use Rattle.fit.specs.Fit.{resultOf}
+use Rattle.fit.specs.Lookups.{value}
+use Rattle.entry.proofs.Wrote.{wrote-same, wrote-none}
+use Rattle.slot.proofs.Numbers.{wrong-index-is, wrong-index-none}
+use borrow.Author.Needs.{needs}
+use Rattle.slot.proofs.wrong_slot_index.Statement.{statement}
+use Rattle.slot.proofs.wrong_slot_index.Tie as tie
+
+slot-number-requires : tie.Need-slot-number-requires
+slot-number-requires c κs = search needs
+
+enum-known-number : tie.Need-enum-known-number
+enum-known-number c = search needs
+
+place-requires : tie.Need-place-requires
+place-requires c κs = search needs
+
+add-value : tie.Need-add-value
+add-value c = search needs
+
+value-requires : tie.Need-value-requires
+value-requires c κs = search needs
+
+expect-index-requires : tie.Need-expect-index-requires
+expect-index-requires c κs = search needs
+
+enum-told : tie.Need-enum-told
+enum-told c = search needs
+
+same-length : tie.Need-same-length
+same-length c = search needs
+
+returns : tie.Need-returns
+returns c =
+    let w = c .before .before .expect-index .ensures in
+    let v = c .before .before .before .before in
+    let k = v .before .before in
+    let m = k .before .number .given in
+    let s = k .before .before .before in
+    let a = s .before .before .before .args in
+    let e : valueOf (v .value .result) ≡ value (resultOf (a .fit .now) (a .item .at + 2)) (m .0 .0) =
+        v .value .ensures
+        ∙ ap (value (resultOf (a .fit .now) (v .before .place .result + 2))) (toZ-ofZ w32 (m .0 .0) (record { sfits = k .known-told .given .0 .1 }))
+        ∙ ap (λ (j : ℕ). value (resultOf (a .fit .now) (j + 2)) (m .0 .0)) (v .before .place .ensures) in (
+      w .0,
+      λ x p named h r. wrote-same
+          (wrong-index-is x h (m .0 .0) (sym (s .slot-number .ensures (x .names) p named (h .slot)) ∙ ap idOf (m .1)) (e ∙ ap (λ q. value q (m .0 .0)) (sym r)))
+          (w .1),
+    )
+
+returns-2 : tie.Need-returns-2
+returns-2 c =
+    let s = c .before .before in (
+      omega arith,
+      λ x p named h r. wrote-same (wrong-index-none x p (sym (s .slot-number .ensures (x .names) p named (h .slot)) ∙ ap idOf (c .enum-told .given .1))) (wrote-none _ _),
+    )
+
+pub wrong-slot-index-spec : {M : Type 1} → statement M
+wrong-slot-index-spec =
+    tie.close
+    (tie.spec
+    slot-number-requires
+    enum-known-number
+    place-requires
+    add-value
+    value-requires
+    expect-index-requires
+    enum-told
+    same-length
+    returns
+    returns-2)
