@@ -1,0 +1,3 @@
+-- Laws of the rules on a fit as a whole, and of the list.
+pub mod Tests
+pub mod Lists
