@@ -48,7 +48,6 @@ module _ (x : Context) (ps : List Pair) where
   unfolding hardpoints onHardpoint each tableFrom
   hardpoints-rows = refl
 
-
 -- the slots of the table of hardpoints
 pub hardpoint-small : (i : ℕ) → i < 2 → rowAt hardpointNumbers i .0 < 8
 hardpoint-small zero h = omega arith

@@ -4,7 +4,6 @@ use entry::Entry;
 use entry::Rule;
 use entry::Target;
 use floats::Value;
-
 ghost use mathlib.Core.Path.{_≡_};
 ghost use mathlib.Core.Bool.{Bool, false, not, _&&_, _||_, cond};
 ghost use mathlib.Core.List.{List, _++_};
@@ -39,15 +38,23 @@ const RACKS: [u8; 12] = [0, 22, 1, 23, 2, 24, 3, 25, 4, 26, 5, 27];
 const HARDPOINTS: [u8; 4] = [6, 28, 7, 29];
 
 const SUBSYSTEM: u8 = 4;
+
 const FIGHTER_TUBE: u8 = 6;
+
 const FIGHTER_BAY: u8 = 7;
+
 const IMPLANT: u8 = 8;
+
 const BOOSTER: u8 = 9;
+
 const DRONE_BAY: u8 = 10;
+
 const CARGO: u8 = 11;
 
 const CATEGORY_DRONE: i32 = 18;
+
 const CATEGORY_IMPLANT: i32 = 20;
+
 const CATEGORY_FIGHTER: i32 = 87;
 
 // What the checks read of a pair. A rack of 8 or above is none.
@@ -216,7 +223,14 @@ fn push_when(item: Item, test: bool, rule: Rule, out: &mut [u8], n: usize) -> us
 }
 
 // An entry about an item that is in a slot of another category.
-fn push_unless(item: Item, there: bool, category: i32, rule: Rule, out: &mut [u8], n: usize) -> usize
+fn push_unless(
+    item: Item,
+    there: bool,
+    category: i32,
+    rule: Rule,
+    out: &mut [u8],
+    n: usize,
+) -> usize
     requires { ⌜ n < 4294967296 ⌝ }
     ensures { λ r. ⌜ (r ≤ n + 1) × Wrote (now (out .entry)) n (now (out .exit)) r (when (there && not (same (item .category) category)) (onItem (item .at) rule)) ⌝ }
 {
@@ -370,7 +384,14 @@ fn expect_index(value: Value, item: Item, out: &mut [u8], n: usize) -> usize
 }
 
 // An implant and a booster sit in a numbered slot of their own, which the item names itself.
-fn wrong_slot_index(fit: &[u8], starts: &[u32; 259], ids: Ids, item: Item, out: &mut [u8], n: usize) -> usize
+fn wrong_slot_index(
+    fit: &[u8],
+    starts: &[u32; 259],
+    ids: Ids,
+    item: Item,
+    out: &mut [u8],
+    n: usize,
+) -> usize
     requires { ⌜ Fit.Sound (now fit) × Fit.Starts (now fit) (now starts) × (item .at < pairCount (now fit)) × (n < 4294967296) ⌝ }
     ensures { λ r. ⌜ (r ≤ n + 1) × ((x : Context) (p : Pair) → Named (x .names) ids → Holds p item → p .result ≡ resultOf (now (fit .entry)) (item .at + 2) → Wrote (now (out .entry)) n (now (out .exit)) r (Slot.wrongSlotIndex x p)) ⌝ }
 {
@@ -424,7 +445,15 @@ fn shares_part(fit: &[u8], starts: &[u32; 259], item: Item, id: i32, part: f64) 
 }
 
 // An entry about a subsystem for a part that another is for.
-fn push_shared(fit: &[u8], starts: &[u32; 259], item: Item, id: i32, value: Value, out: &mut [u8], n: usize) -> usize
+fn push_shared(
+    fit: &[u8],
+    starts: &[u32; 259],
+    item: Item,
+    id: i32,
+    value: Value,
+    out: &mut [u8],
+    n: usize,
+) -> usize
     requires { ⌜ Fit.Sound (now fit) × Fit.Starts (now fit) (now starts) × (n < 4294967296) ⌝ }
     ensures { λ r. ⌜ ((catalogue : List ℕ) → Checked item (λ x p. partShared (pairsOf catalogue (now (fit .entry))) p id (valueOf value)) (now (out .entry)) n (now (out .exit)) r) ⌝ }
 {
@@ -438,7 +467,14 @@ fn push_shared(fit: &[u8], starts: &[u32; 259], item: Item, id: i32, value: Valu
 }
 
 // Every subsystem covers one part of the ship, and only one may.
-fn subsystem_taken(fit: &[u8], starts: &[u32; 259], ids: Ids, item: Item, out: &mut [u8], n: usize) -> usize
+fn subsystem_taken(
+    fit: &[u8],
+    starts: &[u32; 259],
+    ids: Ids,
+    item: Item,
+    out: &mut [u8],
+    n: usize,
+) -> usize
     requires { ⌜ Fit.Sound (now fit) × Fit.Starts (now fit) (now starts) × (item .at < pairCount (now fit)) × (n < 4294967296) ⌝ }
     ensures { λ r. ⌜ (r ≤ n + 1) × ((catalogue : List ℕ) (x : Context) (p : Pair) → Named (x .names) ids → Holds p item → p .result ≡ resultOf (now (fit .entry)) (item .at + 2) → Wrote (now (out .entry)) n (now (out .exit)) r (Slot.subsystemTaken x (pairsOf catalogue (now (fit .entry))) p)) ⌝ }
 {
@@ -561,13 +597,7 @@ fn rack_at(
     report(catalogue, fit, starts, row.slot, row.name, used, out, n)
 }
 
-fn racks(
-    catalogue: &[u8],
-    fit: &[u8],
-    starts: &[u32; 259],
-    out: &mut [u8],
-    n: usize,
-) -> usize
+fn racks(catalogue: &[u8], fit: &[u8], starts: &[u32; 259], out: &mut [u8], n: usize) -> usize
     requires { ⌜ Ready (now catalogue) (now fit) (now starts) × (n ≤ 1000100) ⌝ }
     ensures { λ r. ⌜ (r ≤ n + 6) × Wrote (now (out .entry)) n (now (out .exit)) r (Slot.racks (contextOf (now (catalogue .entry)) (now (fit .entry))) (pairsOf (now (catalogue .entry)) (now (fit .entry)))) ⌝ }
 {

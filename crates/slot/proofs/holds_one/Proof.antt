@@ -14,7 +14,7 @@ either-requires-2 : tie.Need-either-requires-2
 either-requires-2 c κs = search needs
 
 returns : tie.Need-returns
-returns c = 
+returns c =
     let s = c .before .before .args .slot in
     λ p e. ap not (c .either2 .ensures ∙ ap (λ (t : Bool). t || eqb s 11) (c .before .either .ensures)) ∙ holds-one-is p e
 

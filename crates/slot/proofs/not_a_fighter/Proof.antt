@@ -21,7 +21,7 @@ same-length : tie.Need-same-length
 same-length c = search needs
 
 returns : tie.Need-returns
-returns c = 
+returns c =
     let b = c .before .before .before .before in
     let a = c .before .before .before .before .before .before .before .before .args in
     checked notAFighter (c .before .before .push-unless .ensures) (λ x p h. ap (λ (t : Bool). when (t && not (same (a .item .category) (pos 87))) (onItem (a .item .at) NotAFighter)) (b .either .ensures) ∙ not-a-fighter-is x h)

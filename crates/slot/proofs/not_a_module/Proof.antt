@@ -30,14 +30,14 @@ same-length : tie.Need-same-length
 same-length c = search needs
 
 returns : tie.Need-returns
-returns c = 
+returns c =
     let b = c .before .before .before .before in
     let a = b .before .before .before .before .before .args in
     let fits = b .before .before .struct-told .given .1 .1 .1 .0 .1 in
     let m : b .before .is-module-category .result ≡ isModuleCategory (a .item .category) =
-        rw (toZ-ofZ w32 (a .item .category) (record { sfits = fits })) at (b .before .is-module-category .ensures) in
+    rw (toZ-ofZ w32 (a .item .category) (record { sfits = fits })) at (b .before .is-module-category .ensures) in
     let t : b .both .result ≡ leb (a .item .slot) 5 && not (isModuleCategory (a .item .category)) =
-        rw (b .before .before .before .is-fitted .ensures, m) at (b .both .ensures) in
+    rw (b .before .before .before .is-fitted .ensures, m) at (b .both .ensures) in
     checked notAModule (c .before .before .push-when .ensures) (λ x p h. ap (λ (t : Bool). when t (onItem (a .item .at) NotAModule)) t ∙ not-a-module-is x h)
 
 pub not-a-module-spec : {M : Type 1} → statement M

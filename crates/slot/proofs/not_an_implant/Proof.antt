@@ -21,7 +21,7 @@ same-length : tie.Need-same-length
 same-length c = search needs
 
 returns : tie.Need-returns
-returns c = 
+returns c =
     let b = c .before .before .before .before in
     let a = c .before .before .before .before .before .before .before .before .args in
     checked notAnImplant (c .before .before .push-unless .ensures) (λ x p h. ap (λ (t : Bool). when (t && not (same (a .item .category) (pos 20))) (onItem (a .item .at) NotAnImplant)) (b .either .ensures) ∙ not-an-implant-is x h)

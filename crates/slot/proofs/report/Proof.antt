@@ -50,8 +50,8 @@ returns c =
     let a = n .before .before .before .before .args in
     let available = t .to-u32 .result in
     let e : available ≡ toU 32 (amount (resultOf (a .fit .now) 0) (m .0 .0)) =
-        t .to-u32 .ensures
-        ∙ ap (toU 32) (t .before .amount .ensures ∙ ap (amount (resultOf (a .fit .now) 0)) (toZ-ofZ w32 (m .0 .0) (record { sfits = k .known-told .given .0 .1 }))) in (
+    t .to-u32 .ensures
+    ∙ ap (toU 32) (t .before .amount .ensures ∙ ap (amount (resultOf (a .fit .now) 0)) (toZ-ofZ w32 (m .0 .0) (record { sfits = k .known-told .given .0 .1 }))) in (
       omega (arith, w .count, few-when (ltb available (a .used)) (onShip (Slots (a .slot) (a .used) available))),
       wrote-same (slots-is (a .catalogue .now) (a .fit .now) (a .slot) (a .name) (a .used) (m .0 .0) available (sym (n .attribute-id .ensures) ∙ ap idOf (m .1)) e) w,
     )

@@ -49,7 +49,7 @@ returns-3 c =
     let s = i .before .before .before .before in
     let a = s .args in
     let e : c .is-part .result ≡ given (value (resultOf (a .fit .now) (a .j + 2)) (a .id)) false (λ v. eq v (a .part)) =
-        c .is-part .ensures ∙ ap (λ (o : Option Float). given o false (λ v. eq v (a .part))) (c .before .value .ensures ∙ ap (value (resultOf (a .fit .now) (a .j + 2))) (toZ-ofZ w32 (a .id) (s .fits .id))) in
+    c .is-part .ensures ∙ ap (λ (o : Option Float). given o false (λ v. eq v (a .part))) (c .before .value .ensures ∙ ap (value (resultOf (a .fit .now) (a .j + 2))) (toZ-ofZ w32 (a .id) (s .fits .id))) in
     λ catalogue p h. part-is (a .id) (a .part) (pairAt catalogue (a .fit .now) (a .j)) h (λ q. i .before .if1 .left (q ∙ sym (i .before .before .place .ensures))) (sym (i .is-in .ensures catalogue) ∙ not-false _ (c .before .before .if2 .left)) e
 
 pub same-part-spec : {M : Type 1} → statement M

@@ -24,12 +24,12 @@ both-requires-2 : tie.Need-both-requires-2
 both-requires-2 c κs = search needs
 
 returns : tie.Need-returns
-returns c = 
+returns c =
     let i = c .before .before .before .before in
     let s = i .before .before in
     let a = s .before .before .args in
     let t : c .both2 .result ≡ not (eqb (a .j) (a .item .at)) && (eqb (s .item-slot .result) (a .item .slot) && eqb (i .item-index .result) (a .item .index)) =
-        rw (c .before .place .ensures, c .before .before .both .ensures) at (c .both2 .ensures) in
+    rw (c .before .place .ensures, c .before .before .both .ensures) at (c .both2 .ensures) in
     λ catalogue p h. t ∙ shares-slot-is (pairAt catalogue (a .fit .now) (a .j)) h refl (s .item-slot .ensures) (i .item-index .ensures)
 
 pub same-slot-spec : {M : Type 1} → statement M

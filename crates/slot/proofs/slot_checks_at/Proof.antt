@@ -61,12 +61,12 @@ returns c =
     let fit = s .args .fit .now in (
       omega (arith, u .subsystem-taken .ensures .0, w .wrong-slot-index .ensures .0, (t .slot-taken .ensures []) .few, a .alone .ensures .0),
       λ catalogue hc hr named.
-      let x = contextOf catalogue fit in
-      let p = pairAt catalogue fit (s .args .i) in
-      let h = m .item-at .ensures .1 catalogue hc hr in
-      let r : resultOf fit (s .args .i + 2) ≡ resultOf fit (m .item-at .result .at + 2) = ap (λ (j : ℕ). resultOf fit (j + 2)) (sym (m .item-at .ensures .0)) in
-      let known = named-context catalogue fit named in
-      wrote-append (wrote-append (wrote-append (a .alone .ensures .1 x p h) ((t .slot-taken .ensures catalogue) .wrote x p h)) (w .wrong-slot-index .ensures .1 x p known h r)) (u .subsystem-taken .ensures .1 catalogue x p known h r),
+          let x = contextOf catalogue fit in
+          let p = pairAt catalogue fit (s .args .i) in
+          let h = m .item-at .ensures .1 catalogue hc hr in
+          let r : resultOf fit (s .args .i + 2) ≡ resultOf fit (m .item-at .result .at + 2) = ap (λ (j : ℕ). resultOf fit (j + 2)) (sym (m .item-at .ensures .0)) in
+          let known = named-context catalogue fit named in
+          wrote-append (wrote-append (wrote-append (a .alone .ensures .1 x p h) ((t .slot-taken .ensures catalogue) .wrote x p h)) (w .wrong-slot-index .ensures .1 x p known h r)) (u .subsystem-taken .ensures .1 catalogue x p known h r),
     )
 
 pub slot-checks-at-spec : {M : Type 1} → statement M

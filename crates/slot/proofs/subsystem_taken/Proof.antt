@@ -56,16 +56,16 @@ returns-2 c =
     let a = i .before .before .before .before .args in
     let z = toZ-ofZ w32 (m .0 .0) (record { sfits = k .known-told .given .0 .1 }) in
     let e : valueOf (v .value .result) ≡ value (resultOf (a .fit .now) (a .item .at + 2)) (m .0 .0) =
-        v .value .ensures
-        ∙ ap (value (resultOf (a .fit .now) (v .before .place .result + 2))) z
-        ∙ ap (λ (j : ℕ). value (resultOf (a .fit .now) (j + 2)) (m .0 .0)) (v .before .place .ensures) in (
+    v .value .ensures
+    ∙ ap (value (resultOf (a .fit .now) (v .before .place .result + 2))) z
+    ∙ ap (λ (j : ℕ). value (resultOf (a .fit .now) (j + 2)) (m .0 .0)) (v .before .place .ensures) in (
       w [] .few,
       λ catalogue x p named h r.
-      let ps = pairsOf catalogue (a .fit .now) in
-      wrote-same
-      (ap (λ (id : ℤ). partShared ps p id (valueOf (v .value .result))) z
-      ∙ subsystem-is x ps p (m .0 .0) (h .slot) (i .if1 .left) (sym (named .part) ∙ ap idOf (m .1)) (e ∙ ap (λ q. value q (m .0 .0)) (sym r)))
-      (w catalogue .wrote x p h),
+          let ps = pairsOf catalogue (a .fit .now) in
+          wrote-same
+          (ap (λ (id : ℤ). partShared ps p id (valueOf (v .value .result))) z
+          ∙ subsystem-is x ps p (m .0 .0) (h .slot) (i .if1 .left) (sym (named .part) ∙ ap idOf (m .1)) (e ∙ ap (λ q. value q (m .0 .0)) (sym r)))
+          (w catalogue .wrote x p h),
     )
 
 returns-3 : tie.Need-returns-3

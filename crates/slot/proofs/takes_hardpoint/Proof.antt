@@ -21,10 +21,10 @@ both-requires : tie.Need-both-requires
 both-requires c κs = search needs
 
 returns : tie.Need-returns
-returns c = 
+returns c =
     let s = c .before .before .before .before .before in
     let t : c .both .result ≡ leb (c .before .before .before .item-slot .result) 5 && eqb (c .before .slot-at .result) (s .args .slot) =
-        rw (c .before .before .is-fitted .ensures) at (c .both .ensures) in
+    rw (c .before .before .is-fitted .ensures) at (c .both .ensures) in
     λ catalogue h. t ∙ takes-is (pairAt catalogue (s .args .fit .now) (s .args .i)) (c .before .slot-at .result) (s .args .slot) (c .before .before .before .item-slot .ensures) (ap slotIn (c .before .slot-at .ensures) ∙ h (s .args .i) (s .pre .1)) (s .pre .2)
 
 pub takes-hardpoint-spec : {M : Type 1} → statement M

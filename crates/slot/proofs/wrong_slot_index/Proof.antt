@@ -48,9 +48,9 @@ returns c =
     let s = k .before .before .before in
     let a = s .before .before .before .args in
     let e : valueOf (v .value .result) ≡ value (resultOf (a .fit .now) (a .item .at + 2)) (m .0 .0) =
-        v .value .ensures
-        ∙ ap (value (resultOf (a .fit .now) (v .before .place .result + 2))) (toZ-ofZ w32 (m .0 .0) (record { sfits = k .known-told .given .0 .1 }))
-        ∙ ap (λ (j : ℕ). value (resultOf (a .fit .now) (j + 2)) (m .0 .0)) (v .before .place .ensures) in (
+    v .value .ensures
+    ∙ ap (value (resultOf (a .fit .now) (v .before .place .result + 2))) (toZ-ofZ w32 (m .0 .0) (record { sfits = k .known-told .given .0 .1 }))
+    ∙ ap (λ (j : ℕ). value (resultOf (a .fit .now) (j + 2)) (m .0 .0)) (v .before .place .ensures) in (
       w .0,
       λ x p named h r. wrote-same
           (wrong-index-is x h (m .0 .0) (sym (s .slot-number .ensures (x .names) p named (h .slot)) ∙ ap idOf (m .1)) (e ∙ ap (λ q. value q (m .0 .0)) (sym r)))
