@@ -1,1 +1,177 @@
-// The calls.
+// The three calls, exported on numbers and byte slices: document 01, "Refusals in their order" and "Hall number".
+use catalogue::AttributeId;
+use entry::Entry;
+use entry::Rule;
+use entry::Target;
+ghost use mathlib.Core.Path.{_≡_};
+ghost use mathlib.Core.Bool.{true, false};
+ghost use mathlib.Core.List.{List, [], _∷_, _++_};
+ghost use Prim.Native.Nat.{ℕ, _+_, _*_, _<_, _≤_};
+ghost use lib.ListN.{length};
+ghost use Rattle.words.specs.Words.{firstOf};
+ghost use Rattle.catalogue.specs.Catalogue.{catalogueOf};
+ghost use Rattle.catalogue.specs.Refusals.{catalogueRefusals, catalogueRefusal};
+ghost use Rattle.catalogue.specs.Sound as Catalogue;
+ghost use Rattle.fit.specs.Fit.{fitOf};
+ghost use Rattle.fit.specs.Refusals.{fitRefusals, fitRefusal};
+ghost use Rattle.fit.specs.Sound as Fit;
+ghost use Rattle.context.specs.Gathered.{Ready, Gathered};
+ghost use Rattle.validate.specs.Kind.{isHull};
+ghost use Rattle.validate.specs.Validate.{listOf};
+ghost use Rattle.fitcheck.specs.Calls.{listCall, answer, tooManyDrones, tooShort, returned, buffered};
+ghost use Rattle.fitcheck.specs.Gave.{Gave, lent};
+
+// Refusals 1 to 3, or 0.
+fn catalogue_refusal(catalogue: &[u8]) -> u64
+    ensures { λ r. ⌜ r ≡ catalogueRefusal (now (catalogue .entry)) ⌝ }
+{
+    let verdict = catalogue::verdict_of(catalogue);
+    match verdict {
+        catalogue::Verdict::Accepted => 0,
+        catalogue::Verdict::BadLength => 1,
+        catalogue::Verdict::BadOrder => 2,
+        catalogue::Verdict::BadField => 3,
+    }
+}
+
+// Refusals 4 to 6, or 0.
+fn fit_refusal(fit: &[u8]) -> u64
+    ensures { λ r. ⌜ r ≡ fitRefusal (now (fit .entry)) ⌝ }
+{
+    let verdict = fit::refusals::verdict(fit);
+    match verdict {
+        fit::Verdict::Accepted => 0,
+        fit::Verdict::BadSize => 4,
+        fit::Verdict::BadOrder => 5,
+        fit::Verdict::BadField => 6,
+    }
+}
+
+// The first of refusals 1 to 6 that holds, or 0.
+fn image_refusal(catalogue: &[u8], fit: &[u8]) -> u64
+    ensures { λ r. ⌜ r ≡ firstOf (catalogueRefusals (now (catalogue .entry)) ++ fitRefusals (now (fit .entry))) ⌝ }
+{
+    let first = catalogue_refusal(catalogue);
+    if 0 < first {
+        return first;
+    }
+    fit_refusal(fit)
+}
+
+// Whether the ship is a hull.
+fn on_hull(catalogue: &[u8], fit: &[u8]) -> bool
+    requires { ⌜ Catalogue.Sound (now catalogue) × Fit.Sound (now fit) ⌝ }
+    ensures { λ r. ⌜ r ≡ isHull (catalogueOf (now (catalogue .entry))) (fitOf (now (fit .entry)) .frame .ship) ⌝ }
+{
+    validate::is_hull(catalogue, fit::ship(fit))
+}
+
+// Refusal 7, on a hull.
+fn too_many_drones(catalogue: &[u8], fit: &[u8]) -> bool
+    requires { ⌜ Catalogue.Sound (now catalogue) × Fit.Sound (now fit) × (isHull (catalogueOf (now catalogue)) (fitOf (now fit) .frame .ship) ≡ true) ⌝ }
+    ensures { λ r. ⌜ r ≡ tooManyDrones (catalogueOf (now (catalogue .entry))) (fitOf (now (fit .entry))) ⌝ }
+{
+    let max_active = catalogue::attribute_id(catalogue, 20);
+    match max_active {
+        AttributeId::Known(_) => 4294967295 < resource::launched(fit),
+        AttributeId::Unknown => false,
+    }
+}
+
+// The list of a ship that is no hull.
+fn not_a_hull(catalogue: &[u8], fit: &[u8], out: &mut [u8]) -> u64
+    requires { ⌜ isHull (catalogueOf (now catalogue)) (fitOf (now fit) .frame .ship) ≡ false ⌝ }
+    ensures { λ r. ⌜ Gave (now (out .entry)) (now (out .exit)) r (lent (now (out .entry)) (listOf (catalogueOf (now (catalogue .entry))) (fitOf (now (fit .entry))))) ⌝ }
+{
+    if out.len() < 24 {
+        return 42949672960;
+    }
+    let n = entry::emit(
+        out,
+        0,
+        Entry {
+            target: Target::Ship,
+            rule: Rule::NotAHull,
+        },
+    );
+    n as u64
+}
+
+// The list of a hull. A buffer that holds any list need not be counted for.
+fn hull_list(catalogue: &[u8], fit: &[u8], out: &mut [u8]) -> u64
+    requires { ⌜ Catalogue.Sound (now catalogue) × Fit.Sound (now fit) × (isHull (catalogueOf (now catalogue)) (fitOf (now fit) .frame .ship) ≡ true) ⌝ }
+    ensures { λ r. ⌜ Gave (now (out .entry)) (now (out .exit)) r (lent (now (out .entry)) (listOf (catalogueOf (now (catalogue .entry))) (fitOf (now (fit .entry))))) ⌝ }
+{
+    let starts = fit::starts(fit);
+    let facts = context::gather(catalogue, fit);
+    if 123384 <= out.len() {
+        let n = validate::validate(
+            catalogue,
+            fit,
+            &starts,
+            &facts.groups,
+            &facts.categories,
+            &facts.racks,
+            &facts.hardpoints,
+            &facts.volumes,
+            out,
+        );
+        return n as u64;
+    }
+    let mut none = [0u8; 0];
+    let count = validate::validate(
+        catalogue,
+        fit,
+        &starts,
+        &facts.groups,
+        &facts.categories,
+        &facts.racks,
+        &facts.hardpoints,
+        &facts.volumes,
+        &mut none,
+    );
+    if count == 0 {
+        return 0;
+    }
+    if out.len() / 24 < count {
+        return 42949672960;
+    }
+    let n = validate::validate(
+        catalogue,
+        fit,
+        &starts,
+        &facts.groups,
+        &facts.categories,
+        &facts.racks,
+        &facts.hardpoints,
+        &facts.volumes,
+        out,
+    );
+    n as u64
+}
+
+// The list call on images that are accepted.
+fn listed(catalogue: &[u8], fit: &[u8], out: &mut [u8]) -> u64
+    requires { ⌜ Catalogue.Sound (now catalogue) × Fit.Sound (now fit) ⌝ }
+    ensures { λ r. ⌜ Gave (now (out .entry)) (now (out .exit)) r (answer ((7, tooManyDrones (catalogueOf (now (catalogue .entry))) (fitOf (now (fit .entry)))) ∷ (10, tooShort (now (out .entry)) (listOf (catalogueOf (now (catalogue .entry))) (fitOf (now (fit .entry))))) ∷ []) (listOf (catalogueOf (now (catalogue .entry))) (fitOf (now (fit .entry))))) ⌝ }
+{
+    if !on_hull(catalogue, fit) {
+        return not_a_hull(catalogue, fit, out);
+    }
+    if too_many_drones(catalogue, fit) {
+        return 30064771072;
+    }
+    hull_list(catalogue, fit, out)
+}
+
+// The list call: every rule that a fit breaks.
+#[no_mangle]
+pub extern "C" fn fit_list(catalogue: &[u8], fit: &[u8], out: &mut [u8]) -> u64
+    ensures { λ r. ⌜ (r ≡ returned (listCall (now (catalogue .entry)) (now (fit .entry)) (now (out .entry)))) × (now (out .exit) ≡ buffered (now (out .entry)) (listCall (now (catalogue .entry)) (now (fit .entry)) (now (out .entry)))) ⌝ }
+{
+    let first = image_refusal(catalogue, fit);
+    if 0 < first {
+        return first * 4294967296;
+    }
+    listed(catalogue, fit, out)
+}

@@ -1,0 +1,73 @@
+-- Numbers with conditions, one list behind another: which is the first that holds. By cases on the conditions. Assumes nothing.
+use Prim.Native.Nat.{ℕ, zero, suc, _≤_, _<_, zero-le}
+use native.Mathlib.Decide.{decLe}
+use native.Mathlib.Omega.{arith}
+use mathlib.Core.Path.{_≡_, refl, sym, ap, _∙_}
+use mathlib.Core.Bool.{Bool, true, false, cond}
+use mathlib.Core.List.{List, [], _∷_, _++_}
+use Rattle.words.specs.Words.{firstOf}
+use Rattle.catalogue.specs.Refusals.{catalogueRefusals, catalogueRefusal}
+use Rattle.catalogue.specs.Sound as Catalogue
+use Rattle.catalogue.proofs.Sound.{accepted-sound}
+use Rattle.fit.specs.Refusals.{fitRefusals, fitRefusal}
+use Rattle.fit.specs.Sound as Fit
+use Rattle.fit.proofs.Soundness.{sound}
+
+-- every number is one of 1 to limit
+abbrev pub Numbered : ℕ → List (ℕ × Bool) → Type 0
+Numbered limit [] = Unit {0}
+Numbered limit (x ∷ l) = (0 < x .0) × (x .0 ≤ limit) × Numbered limit l
+
+pub first-small : (limit : ℕ) (l : List (ℕ × Bool)) → Numbered limit l → firstOf l ≤ limit
+unfolding firstOf
+first-small limit [] h = zero-le
+first-small limit (x ∷ l) h = go (x .1) (first-small limit l (h .2))
+  where
+    go : (b : Bool) → firstOf l ≤ limit → cond b (x .0) (firstOf l) ≤ limit
+    go true f = h .1
+    go false f = f
+
+-- one that holds in front is the first
+pub first-kept : (l m : List (ℕ × Bool)) → 0 < firstOf l → firstOf (l ++ m) ≡ firstOf l
+unfolding firstOf
+first-kept [] m h = absurd (omega arith)
+first-kept (x ∷ l) m h = go (x .1) h (first-kept l m)
+  where
+    go : (b : Bool) → 0 < cond b (x .0) (firstOf l) → (0 < firstOf l → firstOf (l ++ m) ≡ firstOf l) → cond b (x .0) (firstOf (l ++ m)) ≡ cond b (x .0) (firstOf l)
+    go true h f = refl
+    go false h f = f h
+
+-- where none holds in front, the first is one behind
+pub first-past : (limit : ℕ) (l m : List (ℕ × Bool)) → Numbered limit l → firstOf l ≡ 0 → firstOf (l ++ m) ≡ firstOf m
+unfolding firstOf
+first-past limit [] m a e = refl
+first-past limit (x ∷ l) m a e = go (x .1) e (first-past limit l m (a .2))
+  where
+    go : (b : Bool) → cond b (x .0) (firstOf l) ≡ 0 → (firstOf l ≡ 0 → firstOf (l ++ m) ≡ firstOf m) → cond b (x .0) (firstOf (l ++ m)) ≡ firstOf m
+    go true e f = absurd (omega (arith, e, a .0))
+    go false e f = f e
+
+-- ---- of both images
+numbered-catalogue : (catalogue : List ℕ) → Numbered 6 (catalogueRefusals catalogue)
+unfolding catalogueRefusals
+numbered-catalogue catalogue = (omega arith, omega arith, (omega arith, omega arith, (omega arith, omega arith, tt)))
+
+pub numbered-images : (catalogue fit : List ℕ) → Numbered 6 (catalogueRefusals catalogue ++ fitRefusals fit)
+unfolding catalogueRefusals fitRefusals
+numbered-images catalogue fit = (omega arith, omega arith, (omega arith, omega arith, (omega arith, omega arith, (omega arith, omega arith, (omega arith, omega arith, (omega arith, omega arith, tt))))))
+
+module _ (catalogue fit : List ℕ) where
+  pub catalogue-first : 0 < catalogueRefusal catalogue → catalogueRefusal catalogue ≡ firstOf (catalogueRefusals catalogue ++ fitRefusals fit)
+  unfolding catalogueRefusal
+  catalogue-first h = sym (first-kept (catalogueRefusals catalogue) (fitRefusals fit) h)
+
+  pub fit-first : catalogueRefusal catalogue ≡ 0 → fitRefusal fit ≡ firstOf (catalogueRefusals catalogue ++ fitRefusals fit)
+  unfolding catalogueRefusal fitRefusal
+  fit-first e = sym (first-past 6 (catalogueRefusals catalogue) (fitRefusals fit) (numbered-catalogue catalogue) e)
+
+  pub images-sound : firstOf (catalogueRefusals catalogue ++ fitRefusals fit) ≡ 0 → Catalogue.Sound catalogue × Fit.Sound fit
+  images-sound e = go (catalogueRefusal catalogue) refl
+    where
+      go : (k : ℕ) → catalogueRefusal catalogue ≡ k → Catalogue.Sound catalogue × Fit.Sound fit
+      go zero q = (accepted-sound catalogue q, sound fit (fit-first q ∙ e))
+      go (suc k) q = absurd (omega (arith, q, e, catalogue-first (omega (arith, q))))

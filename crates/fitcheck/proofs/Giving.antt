@@ -1,0 +1,110 @@
+-- What a call answers, from its conditions, and that code which writes or refuses gives it. Assumes nothing.
+use Prim.Native.Nat.{ℕ, zero, suc, _*_, _≤_, _<_}
+use native.Mathlib.Omega.{arith}
+use mathlib.Core.Path.{_≡_, refl, sym, ap, _∙_, subst}
+use mathlib.Core.Bool.{Bool, true, false, _&&_}
+use mathlib.Core.List.{List, [], _∷_, _++_}
+use mathlib.Core.Option.{none, some}
+use lib.Dec.{ltb}
+use lib.ListN.{length}
+use borrow.Author.Tests.{lt-ltb, le-ltb}
+use Rattle.words.specs.Words.{firstOf, given}
+use Rattle.catalogue.specs.Catalogue.{Id, catalogueOf}
+use Rattle.catalogue.specs.Refusals.{catalogueRefusals}
+use Rattle.catalogue.specs.Lookups.{nameId}
+use Rattle.fit.specs.Fit.{fitOf}
+use Rattle.fit.specs.Refusals.{fitRefusals}
+use Rattle.entry.specs.declared.Entry.{Entry}
+use Rattle.entry.specs.Wrote.{Wrote}
+use Rattle.entry.proofs.Wrote.{wrote-count, wrote-written, wrote-none, wrote-same}
+use Rattle.context.specs.Context.{pairs}
+use Rattle.context.specs.Gathered.{pairsOf}
+use Rattle.resource.specs.Resource.{launched}
+use Rattle.resource.specs.Rows.{launchedIn}
+use Rattle.resource.proofs.Sums.{launched-in}
+use Rattle.validate.specs.Kind.{isHull}
+use Rattle.validate.specs.Validate.{listOf}
+use Rattle.fitcheck.specs.Calls.{Answer, Refused, Listed, answerBy, answer, tooManyDrones, tooShort, listCall, skillCall, returned, buffered}
+use Rattle.fitcheck.specs.Gave.{Gave, lent}
+use Rattle.fitcheck.proofs.First.{Numbered, first-kept, first-past, numbered-images}
+
+-- ---- which answer
+by-number : (k : ℕ) (es : List Entry) → 0 < k → answerBy k es ≡ Refused k
+unfolding answerBy
+by-number zero es h = absurd (omega arith)
+by-number (suc k) es h = refl
+
+module _ (l m : List (ℕ × Bool)) (es : List Entry) where
+  -- a condition in front holds
+  pub answer-kept : 0 < firstOf l → answer (l ++ m) es ≡ Refused (firstOf l)
+  unfolding answer
+  answer-kept h = ap (λ (k : ℕ). answerBy k es) (first-kept l m h) ∙ by-number (firstOf l) es h
+
+  -- none in front holds
+  pub answer-past : (limit : ℕ) → Numbered limit l → firstOf l ≡ 0 → answer (l ++ m) es ≡ answer m es
+  unfolding answer
+  answer-past limit n e = ap (λ (k : ℕ). answerBy k es) (first-past limit l m n e)
+
+-- the first condition of a list holds or does not
+module _ (n : ℕ) {t : Bool} (m : List (ℕ × Bool)) (es : List Entry) where
+  pub answer-true : 0 < n → t ≡ true → answer ((n, t) ∷ m) es ≡ Refused n
+  unfolding answer firstOf
+  answer-true h e = rw e (by-number n es h)
+
+  pub answer-false : t ≡ false → answer ((n, t) ∷ m) es ≡ answer m es
+  unfolding answer firstOf
+  answer-false e = rw e
+
+-- ---- what code has done
+pub gave-same : {b a : List ℕ} {w : ℕ} {x y : Answer} → x ≡ y → Gave b a w x → Gave b a w y
+gave-same {b} {a} {w} e g = subst (Gave b a w) e g
+
+pub gave-refused : (b : List ℕ) (n : ℕ) {w : ℕ} → w ≡ n * 4294967296 → Gave b b w (Refused n)
+unfolding returned buffered
+gave-refused b n e = record { word = e; buffer = refl }
+
+module _ {b : List ℕ} (es : List Entry) where
+  -- no room: refusal 10
+  pub gave-short : length b < 24 * length es → Gave b b 42949672960 (lent b es)
+  unfolding tooShort
+  gave-short h = gave-same (sym (answer-true 10 [] es (omega arith) (lt-ltb (length b) (24 * length es) h))) (gave-refused b 10 (omega arith))
+
+  -- room: the list
+  pub gave-list : {a : List ℕ} {k : ℕ} → 24 * length es ≤ length b → Wrote b 0 a k es → Gave b a k (lent b es)
+  unfolding answer answerBy firstOf tooShort returned buffered
+  gave-list h w = rw (le-ltb (length b) (24 * length es) h) record { word = wrote-count w; buffer = wrote-written w h }
+
+  -- an empty list needs no room
+  pub gave-none : length es ≡ 0 → Gave b b 0 (lent b es)
+  gave-none e = gave-list (omega (arith, e)) (wrote-same (nil es e) (wrote-none b 0))
+    where
+      nil : (l : List Entry) → length l ≡ 0 → [] ≡ l
+      nil [] q = refl
+      nil (x ∷ l) q = absurd (omega arith)
+
+-- ---- refusal 7
+module _ (catalogue fit : List ℕ) where
+  pub drones-no-hull : isHull (catalogueOf catalogue) (fitOf fit .frame .ship) ≡ false → tooManyDrones (catalogueOf catalogue) (fitOf fit) ≡ false
+  unfolding tooManyDrones
+  drones-no-hull e = rw e
+
+  pub drones-unnamed : isHull (catalogueOf catalogue) (fitOf fit .frame .ship) ≡ true → nameId (catalogueOf catalogue .names) 20 ≡ none → false ≡ tooManyDrones (catalogueOf catalogue) (fitOf fit)
+  unfolding tooManyDrones given
+  drones-unnamed e n = rw (e, n)
+
+  pub drones-over : (id : Id) → isHull (catalogueOf catalogue) (fitOf fit .frame .ship) ≡ true → nameId (catalogueOf catalogue .names) 20 ≡ some id
+      → ltb 4294967295 (launchedIn fit) ≡ tooManyDrones (catalogueOf catalogue) (fitOf fit)
+  unfolding tooManyDrones given pairsOf
+  drones-over id e n = rw (e, n, ← launched-in catalogue fit)
+
+-- ---- the list call, by the refusals of both images
+module _ (catalogue fit buffer : List ℕ) where
+  pub list-refused : 0 < firstOf (catalogueRefusals catalogue ++ fitRefusals fit) → listCall catalogue fit buffer ≡ Refused (firstOf (catalogueRefusals catalogue ++ fitRefusals fit))
+  unfolding listCall
+  list-refused h = answer-kept (catalogueRefusals catalogue ++ fitRefusals fit) _ _ h
+
+  pub list-past : firstOf (catalogueRefusals catalogue ++ fitRefusals fit) ≡ 0
+      → listCall catalogue fit buffer
+      ≡ answer ((7, tooManyDrones (catalogueOf catalogue) (fitOf fit)) ∷ (10, tooShort buffer (listOf (catalogueOf catalogue) (fitOf fit))) ∷ []) (listOf (catalogueOf catalogue) (fitOf fit))
+  unfolding listCall
+  list-past e = answer-past (catalogueRefusals catalogue ++ fitRefusals fit) _ _ 6 (numbered-images catalogue fit) e

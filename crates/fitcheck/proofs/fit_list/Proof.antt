@@ -1,0 +1,52 @@
+-- `fitcheck::fit_list` meets its contract: refusals 1 to 6 of the images, then the list.
+use native.Mathlib.Omega.{arith}
+use Prim.Native.Nat.{ℕ, _*_}
+use mathlib.Core.Path.{_≡_, sym, ap, _∙_}
+use mathlib.Core.List.{List, _++_}
+use Rattle.words.specs.Words.{firstOf}
+use Rattle.catalogue.specs.Refusals.{catalogueRefusals}
+use Rattle.fit.specs.Refusals.{fitRefusals}
+use Rattle.fitcheck.proofs.First.{first-small, numbered-images, images-sound}
+use Rattle.fitcheck.proofs.Giving.{gave-same, gave-refused, list-refused, list-past}
+use borrow.Author.Needs.{needs}
+use Rattle.fitcheck.proofs.fit_list.Statement.{statement}
+use Rattle.fitcheck.proofs.fit_list.Tie as tie
+
+image-refusal-requires : tie.Need-image-refusal-requires
+image-refusal-requires c κs = search needs
+
+mul-result : tie.Need-mul-result
+mul-result c =
+    let k = c .before in
+    let a = k .before .before .before .before .args in
+    let small = first-small 6 (catalogueRefusals (a .catalogue .now) ++ fitRefusals (a .fit .now)) (numbered-images (a .catalogue .now) (a .fit .now)) in
+    omega (arith, k .image-refusal .ensures, small)
+
+returns : tie.Need-returns
+returns c =
+    let k = c .before in
+    let a = k .before .before .before .before .args in
+    let e = k .image-refusal .ensures in
+    let g = gave-same (sym (list-refused (a .catalogue .now) (a .fit .now) (a .out .now) (omega (arith, e, c .if1 .taken)))) (gave-refused (a .out .now) _ (ap (λ (n : ℕ). n * 4294967296) e)) in
+    (g .word, g .buffer)
+
+listed-requires : tie.Need-listed-requires
+listed-requires c κs =
+    let i = c .before in
+    let a = i .before .before .before .before .before .args in
+    images-sound (a .catalogue .now) (a .fit .now) (omega (arith, i .before .image-refusal .ensures, i .if1 .left))
+
+same-length : tie.Need-same-length
+same-length c = search needs
+
+returns-2 : tie.Need-returns-2
+returns-2 c =
+    let i = c .before .before .before .before in
+    let a = i .before .before .before .before .before .args in
+    let g = gave-same (sym (list-past (a .catalogue .now) (a .fit .now) (a .out .now) (omega (arith, i .before .image-refusal .ensures, i .if1 .left)))) (c .before .before .listed .ensures) in
+    (g .word, g .buffer)
+
+pub fit-list-spec : {M : Type 1} → statement M
+fit-list-spec =
+    tie.close
+    (tie.spec image-refusal-requires mul-result returns listed-requires same-length returns-2)

@@ -1,0 +1,47 @@
+-- `fitcheck::fit_refusal` meets its contract: the number of each verdict.
+use mathlib.Core.Path.{sym, ap, _∙_}
+use Rattle.fit.specs.Answers.{numberOf}
+use borrow.Author.Needs.{needs}
+use Rattle.fitcheck.proofs.fit_refusal.Statement.{statement}
+use Rattle.fitcheck.proofs.fit_refusal.Tie as tie
+
+verdict-requires : tie.Need-verdict-requires
+verdict-requires c κs = search needs
+
+enum-told : tie.Need-enum-told
+enum-told c = search needs
+
+enum-told-2 : tie.Need-enum-told-2
+enum-told-2 c = search needs
+
+enum-told-3 : tie.Need-enum-told-3
+enum-told-3 c = search needs
+
+enum-told-4 : tie.Need-enum-told-4
+enum-told-4 c = search needs
+
+returns : tie.Need-returns
+returns c = sym (ap numberOf (c .enum-told .given .1)) ∙ c .before .before .verdict .ensures
+
+returns-2 : tie.Need-returns-2
+returns-2 c = sym (ap numberOf (c .enum-told2 .given .1)) ∙ c .before .before .verdict .ensures
+
+returns-3 : tie.Need-returns-3
+returns-3 c = sym (ap numberOf (c .enum-told3 .given .1)) ∙ c .before .before .verdict .ensures
+
+returns-4 : tie.Need-returns-4
+returns-4 c = sym (ap numberOf (c .enum-told4 .given .1)) ∙ c .before .before .verdict .ensures
+
+pub fit-refusal-spec : {M : Type 1} → statement M
+fit-refusal-spec =
+    tie.close
+    (tie.spec
+    verdict-requires
+    enum-told
+    enum-told-2
+    enum-told-3
+    enum-told-4
+    returns
+    returns-2
+    returns-3
+    returns-4)

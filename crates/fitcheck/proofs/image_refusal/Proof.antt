@@ -1,0 +1,30 @@
+-- `fitcheck::image_refusal` meets its contract: the catalogue's refusals come first.
+use native.Mathlib.Omega.{arith}
+use mathlib.Core.Path.{_∙_}
+use Rattle.fitcheck.proofs.First.{catalogue-first, fit-first}
+use borrow.Author.Needs.{needs}
+use Rattle.fitcheck.proofs.image_refusal.Statement.{statement}
+use Rattle.fitcheck.proofs.image_refusal.Tie as tie
+
+catalogue-refusal-requires : tie.Need-catalogue-refusal-requires
+catalogue-refusal-requires c κs = search needs
+
+returns : tie.Need-returns
+returns c =
+    let k = c .before .catalogue-refusal .ensures in
+    let a = c .before .before .before .before .args in
+    k ∙ catalogue-first (a .catalogue .now) (a .fit .now) (omega (arith, k, c .if1 .taken))
+
+fit-refusal-requires : tie.Need-fit-refusal-requires
+fit-refusal-requires c κs = search needs
+
+returns-2 : tie.Need-returns-2
+returns-2 c =
+    let k = c .before .before .catalogue-refusal .ensures in
+    let a = c .before .before .before .before .before .args in
+    c .fit-refusal .ensures ∙ fit-first (a .catalogue .now) (a .fit .now) (omega (arith, k, c .before .if1 .left))
+
+pub image-refusal-spec : {M : Type 1} → statement M
+image-refusal-spec =
+    tie.close
+    (tie.spec catalogue-refusal-requires returns fit-refusal-requires returns-2)
