@@ -28,7 +28,7 @@ same-not (pos m) (negsuc n) h = refl
 same-not (negsuc m) (pos n) h = refl
 same-not (negsuc m) (negsuc n) h = ne-eqb m n (λ e. h (ap negsuc e))
 
-demand-eq : {a b : ℤ} {x y : ℕ} → a ≡ b → x ≡ y → _≡_ {A = Demand} (a, x) (b, y)
+pub demand-eq : {a b : ℤ} {x y : ℕ} → a ≡ b → x ≡ y → _≡_ {A = Demand} (a, x) (b, y)
 demand-eq p q = ap₂ (λ (a : ℤ) (x : ℕ). (a, x)) p q
 
 abbrev nothing : Demand

@@ -1,3 +1,4 @@
 pub mod Skill
 pub mod Wanted
+pub mod Steps
 pub mod Held

@@ -1,0 +1,60 @@
+-- `skill::note_reached` meets its contract, by whether the skill is given.
+use mathlib.Core.Path.{_≡_, sym, ap, _∙_}
+use mir.Syntax.{w32}
+use mir.ValLaws.{toZ-ofZ}
+use Rattle.floats.specs.Values.{valueOf}
+use Rattle.fit.specs.Fit.{resultOf}
+use Rattle.fit.specs.Lookups.{value}
+use Rattle.skill.proofs.Required.{asked-one, asked-not}
+use Rattle.skill.proofs.Notes.{notes-none, notes-same}
+use borrow.Author.Needs.{needs}
+use Rattle.skill.proofs.note_reached.Statement.{statement}
+use Rattle.skill.proofs.note_reached.Tie as tie
+
+value-requires : tie.Need-value-requires
+value-requires c κs = search needs
+
+enum-known-wanted : tie.Need-enum-known-wanted
+enum-known-wanted c = search needs
+
+value-requires-2 : tie.Need-value-requires-2
+value-requires-2 c κs = search needs
+
+note-value-requires : tie.Need-note-value-requires
+note-value-requires c κs = search needs
+
+enum-told : tie.Need-enum-told
+enum-told c = search needs
+
+returns : tie.Need-returns
+returns c =
+    let s = c .before .before .before .before .before .before .before .before .before in
+    let look = value (resultOf (s .args .fit .now) (s .args .result)) in
+    let w = c .before .before .before .before .before .wanted .given in
+    notes-same
+    (asked-one look (s .args .skill, s .args .level)
+    (ap look (sym (toZ-ofZ w32 (s .args .skill) (s .fits .skill))) ∙ sym (c .before .before .before .before .before .before .before .value .ensures) ∙ ap valueOf (w .1))
+    (c .before .value2 .ensures ∙ ap look (toZ-ofZ w32 (s .args .level) (s .fits .level))))
+    (c .note-value .ensures)
+
+returns-2 : tie.Need-returns-2
+returns-2 c =
+    let s = c .before .before .before .before in
+    let look = value (resultOf (s .args .fit .now) (s .args .result)) in
+    let l = s .pre in
+    notes-same
+    (asked-not look (s .args .skill, s .args .level)
+    (ap look (sym (toZ-ofZ w32 (s .args .skill) (s .fits .skill))) ∙ sym (c .before .before .value .ensures) ∙ ap valueOf (c .enum-told .given .1)))
+    (notes-none (l .4) (l .5) (l .3))
+
+pub note-reached-spec : {M : Type 1} → statement M
+note-reached-spec =
+    tie.close
+    (tie.spec
+    value-requires
+    enum-known-wanted
+    value-requires-2
+    note-value-requires
+    enum-told
+    returns
+    returns-2)

@@ -1,0 +1,103 @@
+-- `skill::wanted_skills` meets its contract. The invariant: the demands met once the first i skills of the order are walked are noted.
+use Prim.Native.Nat.{_≤_, _-_}
+use native.Mathlib.Omega.{arith}
+use mathlib.Core.Path.{_≡_, ap, _∙_}
+use mathlib.Core.List.{[]}
+use lib.IntN.{pos}
+use lib.ListN.{getD}
+use mir.Syntax.{w32}
+use mir.Val.{toZ, ofZ}
+use mir.ValLaws.{toZ-ofZ}
+use borrow.Author.Needs.{needs}
+use Rattle.catalogue.specs.Catalogue.{catalogueOf}
+use Rattle.fit.specs.Fit.{resultOf}
+use Rattle.skill.specs.Skill.{ofSkill, met}
+use Rattle.skill.specs.Held.{Notes, pairsOf}
+use Rattle.skill.proofs.Walks.{met-first}
+use Rattle.skill.proofs.Required.{result-asks, skill-asks}
+use Rattle.skill.proofs.Notes.{notes-same, notes-begin, walk-step, walked-all, walked-over}
+use Rattle.skill.proofs.wanted_skills.Statement.{statement}
+use Rattle.skill.proofs.wanted_skills.Tie as tie
+
+abbrev Inv-loop : tie.InvT-loop
+Inv-loop catalogue fit starts result pairs ids₀ levels₀ len₀ i₀ ids levels len i = (i ≤ 512) × Notes [] [] 0 ids levels len (met (catalogueOf catalogue) (resultOf fit result) i)
+
+abbrev μ-loop : tie.MeasureT-loop
+μ-loop catalogue fit starts result pairs ids₀ levels₀ len₀ i₀ ids levels len i = 512 - i
+
+required-of-requires : tie.Need-required-of-requires Inv-loop μ-loop
+required-of-requires c κs = search needs
+
+new-requires : tie.Need-new-requires Inv-loop μ-loop
+new-requires c κs = search needs
+
+note-result-requires : tie.Need-note-result-requires Inv-loop μ-loop
+note-result-requires c κs = search needs
+
+loop-holds : tie.Need-loop-holds Inv-loop μ-loop
+loop-holds c =
+    let a = c .before .before .before .before .before .before .before .before .before .args in
+    let cat = catalogueOf (a .catalogue .now) in
+    let r = resultOf (a .fit .now) (a .result) in
+    let ps = c .before .before .before .before .before .before .required-of in
+    (omega arith, notes-begin (c .before .before .before .before .before .new .ensures .1) (notes-same (result-asks cat r (pairsOf (ps .result)) (ps .ensures .0) ∙ met-first cat r) (c .note-result .ensures)))
+
+returns : tie.Need-returns Inv-loop μ-loop
+returns c =
+    let l = c .before .before .loop in
+    let a = c .before .before .before .before .before .before .before .before .before .before .before .before .args in
+    walked-over (a .catalogue .now) (a .fit .now) (a .result) (l .i) (record { ids = l .ids; levels = l .levels; len = l .len }) (l .inv .1) (l .inv .0) (c .if1 .taken)
+
+mul-id : tie.Need-mul-id Inv-loop μ-loop
+mul-id c = search needs
+
+array-copy-out-id : tie.Need-array-copy-out-id Inv-loop μ-loop
+array-copy-out-id c = search needs
+
+note-skill-requires : tie.Need-note-skill-requires Inv-loop μ-loop
+note-skill-requires c κs = search needs
+
+add-i : tie.Need-add-i Inv-loop μ-loop
+add-i c = search needs
+
+loop-less : tie.Need-loop-less Inv-loop μ-loop
+loop-less c = search needs
+
+loop-again : tie.Need-loop-again Inv-loop μ-loop
+loop-again c =
+    let l = c .before .before .before .before .before .before .loop in
+    let a = c .before .before .before .before .before .before .before .before .before .before .before .before .before .before .before .before .args in
+    let cat = catalogueOf (a .catalogue .now) in
+    let r = resultOf (a .fit .now) (a .result) in
+    let ps = c .before .before .before .before .before .before .before .before .before .before .before .before .before .required-of in
+    let id = getD (l .ids) (l .i) (pos 0) in
+    let e = toZ-ofZ w32 id (record { sfits = c .before .before .before .id .given }) in (
+      omega arith,
+      walk-step cat r (l .i) (l .inv .1) (c .before .before .before .before .before .loop-test .taken) (c .before .before .before .before .if1 .left)
+          (notes-same (skill-asks cat (toZ w32 (ofZ w32 id)) (pairsOf (ps .result)) (ps .ensures .0) ∙ ap (ofSkill cat) e) (c .note-skill .ensures)),
+    )
+
+returns-2 : tie.Need-returns-2 Inv-loop μ-loop
+returns-2 c =
+    let l = c .before .loop in
+    let a = c .before .before .before .before .before .before .before .before .before .before .before .args in
+    walked-all (a .catalogue .now) (a .fit .now) (a .result) (l .i) (record { ids = l .ids; levels = l .levels; len = l .len }) (l .inv .1) (l .inv .0) (c .loop-test .left)
+
+pub wanted-skills-spec : {M : Type 1} → statement M
+wanted-skills-spec =
+    tie.close
+    (tie.spec
+    Inv-loop
+    μ-loop
+    required-of-requires
+    new-requires
+    note-result-requires
+    loop-holds
+    returns
+    mul-id
+    array-copy-out-id
+    note-skill-requires
+    add-i
+    loop-less
+    loop-again
+    returns-2)
