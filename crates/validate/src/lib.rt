@@ -1,1 +1,152 @@
-// The rules of a hull.
+// Whether the hull, the mode and the skills of a fit are such: calculate/mod.rs, `is_hull` to `is_skill`, and validate/mod.rs, `kind`.
+use catalogue::TypeAnswer;
+use entry::Entry;
+use entry::Rule;
+use entry::Target;
+use fit::ModeAnswer;
+ghost use mathlib.Core.Path.{_≡_};
+ghost use mathlib.Core.Bool.{not, _||_};
+ghost use mathlib.Core.List.{[], _∷_, _++_};
+ghost use Prim.Native.Nat.{_+_, _<_, _≤_};
+ghost use lib.IntN.{pos};
+ghost use Rattle.words.specs.Words.{when, same, contains};
+ghost use Rattle.catalogue.specs.Catalogue.{catalogueOf};
+ghost use Rattle.catalogue.specs.Sound as Catalogue;
+ghost use Rattle.fit.specs.Fit.{modeOf, fitOf};
+ghost use Rattle.fit.specs.Sound as Fit;
+ghost use Rattle.entry.specs.declared.Rule.the-variants.{NotASkill};
+ghost use Rattle.entry.specs.Entries.{onShip};
+ghost use Rattle.entry.specs.Wrote.{Wrote};
+ghost use Rattle.validate.specs.Kind.{isHull, isMode, isSkill, notAMode, notASkill};
+
+const CATEGORY_SHIP: i32 = 6;
+
+const CATEGORY_SKILL: i32 = 16;
+
+const CATEGORY_STRUCTURE: i32 = 65;
+
+const GROUP_CONTAINERS: [i32; 4] = [12, 340, 448, 649];
+
+const GROUP_SHIP_MODIFIERS: i32 = 1306;
+
+fn either(a: bool, b: bool) -> bool
+    ensures { λ r. ⌜ r ≡ (a || b) ⌝ }
+{
+    if a { true } else { b }
+}
+
+fn is_container(group: i32) -> bool
+    ensures { λ r. ⌜ r ≡ contains group (pos 12 ∷ pos 340 ∷ pos 448 ∷ pos 649 ∷ []) ⌝ }
+{
+    let a = context::same_id(group, GROUP_CONTAINERS[0]);
+    let b = context::same_id(group, GROUP_CONTAINERS[1]);
+    let c = context::same_id(group, GROUP_CONTAINERS[2]);
+    let d = context::same_id(group, GROUP_CONTAINERS[3]);
+    either(either(a, b), either(c, d))
+}
+
+// A category of ships or structures, or a group of containers.
+fn is_hull_kind(category: i32, group: i32) -> bool
+    ensures { λ r. ⌜ r ≡ (same category (pos 6) || same category (pos 65) || contains group (pos 12 ∷ pos 340 ∷ pos 448 ∷ pos 649 ∷ [])) ⌝ }
+{
+    if context::same_id(category, CATEGORY_SHIP) {
+        return true;
+    }
+    if context::same_id(category, CATEGORY_STRUCTURE) {
+        return true;
+    }
+    is_container(group)
+}
+
+// Whether the type can be the hull of a fit: a ship, structure or container.
+pub fn is_hull(catalogue: &[u8], id: i32) -> bool
+    requires { ⌜ Catalogue.Sound (now catalogue) ⌝ }
+    ensures { λ r. ⌜ r ≡ isHull (catalogueOf (now (catalogue .entry))) id ⌝ }
+{
+    let answer = catalogue::type_of(catalogue, id);
+    let TypeAnswer::Known(info) = answer else {
+        return false;
+    };
+    is_hull_kind(info.category, info.group)
+}
+
+// Whether the type is a tactical mode.
+pub fn is_mode(catalogue: &[u8], id: i32) -> bool
+    requires { ⌜ Catalogue.Sound (now catalogue) ⌝ }
+    ensures { λ r. ⌜ r ≡ isMode (catalogueOf (now (catalogue .entry))) id ⌝ }
+{
+    let answer = catalogue::type_of(catalogue, id);
+    let TypeAnswer::Known(info) = answer else {
+        return false;
+    };
+    context::same_id(info.group, GROUP_SHIP_MODIFIERS)
+}
+
+// Whether the type is a skill.
+pub fn is_skill(catalogue: &[u8], id: i32) -> bool
+    requires { ⌜ Catalogue.Sound (now catalogue) ⌝ }
+    ensures { λ r. ⌜ r ≡ isSkill (catalogueOf (now (catalogue .entry))) id ⌝ }
+{
+    let answer = catalogue::type_of(catalogue, id);
+    let TypeAnswer::Known(info) = answer else {
+        return false;
+    };
+    context::same_id(info.category, CATEGORY_SKILL)
+}
+
+fn not_a_mode(catalogue: &[u8], fit: &[u8], out: &mut [u8], n: usize) -> usize
+    requires { ⌜ Catalogue.Sound (now catalogue) × Fit.Sound (now fit) × (n ≤ 1000000) ⌝ }
+    ensures { λ r. ⌜ Wrote (now (out .entry)) n (now (out .exit)) r (notAMode (catalogueOf (now (catalogue .entry))) (modeOf (fitOf (now (fit .entry)) .frame))) × (r ≤ n + 1) ⌝ }
+{
+    let answer = fit::mode(fit);
+    let ModeAnswer::Mode(mode) = answer else {
+        return n;
+    };
+    entry::emit_when(
+        out,
+        n,
+        !is_mode(catalogue, mode),
+        Entry {
+            target: Target::Ship,
+            rule: Rule::NotAMode,
+        },
+    )
+}
+
+fn not_a_skill_at(catalogue: &[u8], id: i32, out: &mut [u8], n: usize) -> usize
+    requires { ⌜ Catalogue.Sound (now catalogue) × (n < 4294967296) ⌝ }
+    ensures { λ r. ⌜ Wrote (now (out .entry)) n (now (out .exit)) r (when (not (isSkill (catalogueOf (now (catalogue .entry))) id)) (onShip (NotASkill id))) ⌝ }
+{
+    entry::emit_when(
+        out,
+        n,
+        !is_skill(catalogue, id),
+        Entry {
+            target: Target::Ship,
+            rule: Rule::NotASkill(id),
+        },
+    )
+}
+
+fn not_a_skill(catalogue: &[u8], fit: &[u8], out: &mut [u8], n: usize) -> usize
+    requires { ⌜ Catalogue.Sound (now catalogue) × Fit.Sound (now fit) × (n ≤ 2000000) ⌝ }
+    ensures { λ r. ⌜ Wrote (now (out .entry)) n (now (out .exit)) r (notASkill (catalogueOf (now (catalogue .entry))) (fitOf (now (fit .entry)) .skills)) × (r ≤ n + 1024) ⌝ }
+{
+    let count = fit::skill_count(fit);
+    let mut m = n;
+    let mut i = 0;
+    while i < count {
+        m = not_a_skill_at(catalogue, fit::skill_id(fit, i), out, m);
+        i += 1;
+    }
+    m
+}
+
+// The mode and the skills that are none.
+pub fn kind(catalogue: &[u8], fit: &[u8], out: &mut [u8], n: usize) -> usize
+    requires { ⌜ Catalogue.Sound (now catalogue) × Fit.Sound (now fit) × (n ≤ 1000000) ⌝ }
+    ensures { λ r. ⌜ Wrote (now (out .entry)) n (now (out .exit)) r (notAMode (catalogueOf (now (catalogue .entry))) (modeOf (fitOf (now (fit .entry)) .frame)) ++ notASkill (catalogueOf (now (catalogue .entry))) (fitOf (now (fit .entry)) .skills)) × (r ≤ n + 1025) ⌝ }
+{
+    let m = not_a_mode(catalogue, fit, out, n);
+    not_a_skill(catalogue, fit, out, m)
+}

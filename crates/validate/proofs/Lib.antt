@@ -1,0 +1,2 @@
+-- Laws of the rules on a fit as a whole.
+pub mod Tests

@@ -1,0 +1,75 @@
+-- `validate::is_container` meets its contract: a comparison with each group.
+use mathlib.Core.Path.{_≡_, ap, ap₂, _∙_}
+use mathlib.Core.Bool.{Bool, _||_}
+use lib.IntN.{ℤ, pos}
+use mir.Syntax.{w32}
+use mir.ValLaws.{toZ-ofZ}
+use Rattle.words.specs.Words.{same}
+use Rattle.validate.proofs.Tests.{contains-four}
+use borrow.Author.Needs.{needs}
+use Rattle.validate.proofs.is_container.Statement.{statement}
+use Rattle.validate.proofs.is_container.Tie as tie
+
+array-copy-out-same-id : tie.Need-array-copy-out-same-id
+array-copy-out-same-id c = search needs
+
+same-id-requires : tie.Need-same-id-requires
+same-id-requires c κs = search needs
+
+array-copy-out-same-id-2 : tie.Need-array-copy-out-same-id-2
+array-copy-out-same-id-2 c = search needs
+
+same-id-requires-2 : tie.Need-same-id-requires-2
+same-id-requires-2 c κs = search needs
+
+array-copy-out-same-id-3 : tie.Need-array-copy-out-same-id-3
+array-copy-out-same-id-3 c = search needs
+
+same-id-requires-3 : tie.Need-same-id-requires-3
+same-id-requires-3 c κs = search needs
+
+array-copy-out-same-id-4 : tie.Need-array-copy-out-same-id-4
+array-copy-out-same-id-4 c = search needs
+
+same-id-requires-4 : tie.Need-same-id-requires-4
+same-id-requires-4 c κs = search needs
+
+either-requires : tie.Need-either-requires
+either-requires c κs = search needs
+
+either-requires-2 : tie.Need-either-requires-2
+either-requires-2 c κs = search needs
+
+either-requires-3 : tie.Need-either-requires-3
+either-requires-3 c κs = search needs
+
+returns : tie.Need-returns
+returns c =
+    let d = c .before .before .before in
+    let b = d .before .before .before .before in
+    let s = b .before .before .before .before in
+    let at : (g : ℤ) → same _ g ≡ same (s .args .group) g = λ g. ap (λ (z : ℤ). same z g) (toZ-ofZ w32 (s .args .group) (s .fits .group)) in
+    let p : b .before .before .same-id .result ≡ same (s .args .group) (pos 12) = b .before .before .same-id .ensures ∙ at (pos 12) in
+    let q : b .same-id2 .result ≡ same (s .args .group) (pos 340) = b .same-id2 .ensures ∙ at (pos 340) in
+    let r : d .before .before .same-id3 .result ≡ same (s .args .group) (pos 448) = d .before .before .same-id3 .ensures ∙ at (pos 448) in
+    let t : d .same-id4 .result ≡ same (s .args .group) (pos 649) = d .same-id4 .ensures ∙ at (pos 649) in
+    c .either3 .ensures
+    ∙ ap₂ (λ (x y : Bool). x || y) (c .before .before .either .ensures ∙ ap₂ (λ (x y : Bool). x || y) p q) (c .before .either2 .ensures ∙ ap₂ (λ (x y : Bool). x || y) r t)
+    ∙ contains-four (s .args .group) (pos 12) (pos 340) (pos 448) (pos 649)
+
+pub is-container-spec : {M : Type 1} → statement M
+is-container-spec =
+    tie.close
+    (tie.spec
+    array-copy-out-same-id
+    same-id-requires
+    array-copy-out-same-id-2
+    same-id-requires-2
+    array-copy-out-same-id-3
+    same-id-requires-3
+    array-copy-out-same-id-4
+    same-id-requires-4
+    either-requires
+    either-requires-2
+    either-requires-3
+    returns)

@@ -1,0 +1,33 @@
+-- `validate::not_a_skill_at` meets its contract: an entry where the type is no skill.
+use mathlib.Core.Path.{ap, ap₂, _∙_}
+use mathlib.Core.Bool.{Bool, not}
+use mir.Syntax.{w32}
+use mir.ValLaws.{toZ-ofZ}
+use Rattle.words.specs.Words.{when}
+use Rattle.catalogue.specs.Catalogue.{Id, catalogueOf}
+use Rattle.entry.specs.declared.Rule.the-variants.{NotASkill}
+use Rattle.entry.specs.Entries.{onShip}
+use Rattle.entry.proofs.Wrote.{wrote-same}
+use Rattle.validate.specs.Kind.{isSkill}
+use borrow.Author.Needs.{needs}
+use Rattle.validate.proofs.not_a_skill_at.Statement.{statement}
+use Rattle.validate.proofs.not_a_skill_at.Tie as tie
+
+is-skill-requires : tie.Need-is-skill-requires
+is-skill-requires c κs = search needs
+
+emit-when-requires : tie.Need-emit-when-requires
+emit-when-requires c κs = search needs
+
+same-length : tie.Need-same-length
+same-length c = search needs
+
+returns : tie.Need-returns
+returns c =
+    let w = c .before .before in
+    let s = w .before .before .before .before .before in
+    let id = toZ-ofZ w32 (s .args .id) (s .fits .id) in
+    wrote-same (ap₂ (λ (t : Bool) (i : Id). when (not t) (onShip (NotASkill i))) (w .before .is-skill .ensures ∙ ap (isSkill (catalogueOf (s .args .catalogue .now))) id) id) (w .emit-when .ensures)
+
+pub not-a-skill-at-spec : {M : Type 1} → statement M
+not-a-skill-at-spec = tie.close (tie.spec is-skill-requires emit-when-requires same-length returns)
