@@ -1,3 +1,4 @@
--- Laws of the calls: the first condition that holds, and what code that answers has done.
+-- Laws of the calls: the first condition that holds, what code that answers has done, and the conditions of the skill call.
 pub mod First
 pub mod Giving
+pub mod Skills
