@@ -91,19 +91,19 @@ pub fn list_into<'a>(
 /// };
 ///
 /// // Attribute 182 names a skill and 277 its level; the ship asks for skill
-/// // 3331 at level 2, and it is trained to 1.
+/// // 3329 at level 2, and it is trained to 1.
 /// let catalogue = CatalogueBuilder::new()
 ///     .name(Attribute::RequiredSkill1, 182)
 ///     .name(Attribute::RequiredSkill1Level, 277)
 ///     .build()?;
 /// let fit = FitBuilder::new(587)
-///     .skill(3331, 1)
-///     .ship(ItemResult::new(State::Online).with(182, 3331.0).with(277, 2.0))
+///     .skill(3329, 1)
+///     .ship(ItemResult::new(State::Online).with(182, 3329.0).with(277, 2.0))
 ///     .build()?;
 ///
 /// let lacking = fitcheck::skills(&catalogue, &fit, 0)?;
 /// assert_eq!(lacking.len(), 1);
-/// assert_eq!(lacking[0].rule, Rule::Skill { type_id: 3331, required: 2, level: 1 });
+/// assert_eq!(lacking[0].rule, Rule::Skill { type_id: 3329, required: 2, level: 1 });
 /// assert_eq!(fitcheck::skills(&catalogue, &fit, 1)?, []);
 /// assert_eq!(fitcheck::skills(&catalogue, &fit, 2), Err(Refusal::NoSuchResult));
 /// # Ok::<(), Box<dyn std::error::Error>>(())

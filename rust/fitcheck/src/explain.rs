@@ -186,8 +186,8 @@ impl<'a> Explainer<'a> {
     /// use fitcheck::{Entry, Explainer, FitBuilder, Names, Rule, Target};
     ///
     /// let fit = FitBuilder::new(587).build()?;
-    /// let names = Names::parse("587 Rifter\n3331 Minmatar Frigate\n")?;
-    /// let rule = Rule::Skill { type_id: 3331, required: 2, level: 0 };
+    /// let names = Names::parse("587 Rifter\n3329 Minmatar Frigate\n")?;
+    /// let rule = Rule::Skill { type_id: 3329, required: 2, level: 0 };
     /// let entry = Entry { target: Target::Ship, rule };
     /// assert_eq!(
     ///     Explainer::new(&fit, &names).explain_skill(0, &entry),

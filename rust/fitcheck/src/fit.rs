@@ -74,7 +74,7 @@ impl Default for ItemResult {
 ///
 /// let mut builder = FitBuilder::new(587);
 /// builder
-///     .skill(3331, 3)
+///     .skill(3329, 3)
 ///     .ship(ItemResult::new(State::Online).with(48, 130.0))
 ///     .item(
 ///         FitItem::new(484, Slot::High(0)),
@@ -87,8 +87,8 @@ impl Default for ItemResult {
 /// let image = builder.build()?;
 /// assert_eq!(image.len(), 36 + 5 + 2 * 12 + 2 * 4 + 2 * 12);
 ///
-/// builder.skill(3331, 4);
-/// assert_eq!(builder.build(), Err(BuildError::DuplicateSkill { type_id: 3331 }));
+/// builder.skill(3329, 4);
+/// assert_eq!(builder.build(), Err(BuildError::DuplicateSkill { type_id: 3329 }));
 /// # Ok::<(), BuildError>(())
 /// ```
 #[derive(Debug, Clone)]

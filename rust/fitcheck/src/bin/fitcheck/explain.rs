@@ -48,6 +48,12 @@ struct Skills {
     lacking: Result<Vec<Entry>, Refusal>,
 }
 
+impl Skills {
+    fn is_lacking(&self) -> bool {
+        matches!(&self.lacking, Ok(entries) if !entries.is_empty())
+    }
+}
+
 fn in_words(explainer: &Explainer<'_>, entries: &[Entry], skills: &[Skills]) -> String {
     let mut text = match entries.len() {
         0 => "clear: no rule is broken\n".to_string(),
@@ -58,18 +64,21 @@ fn in_words(explainer: &Explainer<'_>, entries: &[Entry], skills: &[Skills]) -> 
         text += &format!("  {}\n", explainer.explain(entry));
     }
 
-    let is_lacking = |skills: &&Skills| !matches!(&skills.lacking, Ok(none) if none.is_empty());
-    let lacking: Vec<&Skills> = skills.iter().filter(is_lacking).collect();
-    if lacking.is_empty() {
-        text += "skills: none is lacking\n";
-    } else {
-        text += &format!(
-            "skills: lacking for {} of {} results\n",
-            lacking.len(),
+    text += &match (
+        skills.iter().filter(|it| it.is_lacking()).count(),
+        skills.iter().filter(|it| it.lacking.is_err()).count(),
+    ) {
+        (0, 0) => "skills: none is lacking\n".to_string(),
+        (lacking, 0) => format!(
+            "skills: lacking for {lacking} of {} results\n",
             skills.len()
-        );
-    }
-    for skills in lacking {
+        ),
+        (lacking, refused) => format!(
+            "skills: lacking for {lacking} of {} results, {refused} refused\n",
+            skills.len()
+        ),
+    };
+    for skills in skills {
         match &skills.lacking {
             Ok(entries) => {
                 for entry in entries {

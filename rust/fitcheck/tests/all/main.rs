@@ -1,0 +1,11 @@
+//! The crate against document 01 and against the original, by running.
+
+mod builders;
+mod command;
+mod common;
+mod entries;
+mod hall;
+mod json;
+mod original;
+mod sentences;
+mod threads;
