@@ -126,36 +126,47 @@ fn rifter(damage_controls: u8) -> Result<Vec<u8>, BuildError> {
     fit.build()
 }
 
-fn main() -> Result<(), Box<dyn Error>> {
+/// The catalogue, the names, the fits, and one that was cut short on its way.
+pub fn write(folder: &Path) -> Result<(), Box<dyn Error>> {
+    let fits = folder.join("fits");
+    fs::create_dir_all(&fits)?;
+    fs::write(folder.join("types.bin"), catalogue()?)?;
+    fs::write(folder.join("names.txt"), NAMES)?;
+    fs::write(fits.join("one.fit"), rifter(1)?)?;
+    fs::write(fits.join("two.fit"), rifter(2)?)?;
+    fs::write(fits.join("cut.fit"), &rifter(1)?[..100])?;
+    Ok(())
+}
+
+/// What is wrong with each fit, and how many are clear to fly.
+pub fn say() -> Result<String, Box<dyn Error>> {
     let catalogue = catalogue()?;
     let names = Names::parse(NAMES)?;
-    let fits = [("one.fit", rifter(1)?), ("two.fit", rifter(2)?)];
-
-    for (name, fit) in &fits {
-        println!("{name}");
+    let fits = [rifter(1)?, rifter(2)?];
+    let mut text = String::new();
+    for (fit, with) in fits
+        .iter()
+        .zip(["one damage control", "two damage controls"])
+    {
+        text += &format!("with {with}:\n");
         let explainer = Explainer::new(fit, &names);
         for entry in fitcheck::list(&catalogue, fit)? {
-            println!("  {}", explainer.explain(&entry));
+            text += &format!("  {}\n", explainer.explain(&entry));
         }
         // Result 2 is the first item's.
         for entry in fitcheck::skills(&catalogue, fit, 2)? {
-            println!("  {}", explainer.explain_skill(2, &entry));
+            text += &format!("  {}\n", explainer.explain_skill(2, &entry));
         }
     }
-    let images: Vec<&[u8]> = fits.iter().map(|fit| fit.1.as_slice()).collect();
-    let hall = fitcheck::hall(&catalogue, &images)?;
-    println!("{} of {} clear to fly", hall.clear, images.len());
+    let hall = fitcheck::hall(&catalogue, &fits)?;
+    text += &format!("{} of {} clear to fly\n", hall.clear, fits.len());
+    Ok(text)
+}
 
-    if let Some(folder) = env::args_os().nth(1) {
-        let folder = Path::new(&folder);
-        fs::create_dir_all(folder.join("fits"))?;
-        fs::write(folder.join("types.bin"), &catalogue)?;
-        fs::write(folder.join("names.txt"), NAMES)?;
-        for (name, fit) in &fits {
-            fs::write(folder.join("fits").join(name), fit)?;
-        }
-        // One that was cut short on its way.
-        fs::write(folder.join("fits").join("cut.fit"), &images[0][..100])?;
+fn main() -> Result<(), Box<dyn Error>> {
+    print!("{}", say()?);
+    match env::args_os().nth(1) {
+        Some(folder) => write(Path::new(&folder)),
+        None => Ok(()),
     }
-    Ok(())
 }

@@ -85,6 +85,11 @@ mod rule;
 #[forbid(unsafe_code)]
 mod slot;
 
+/// The page's code is run with the doc tests.
+#[cfg(doctest)]
+#[doc = include_str!("../../../docs/CALLING.md")]
+struct Page;
+
 pub use attribute::Attribute;
 pub use call::{Hall, Verdict, hall, list, list_into, skills, skills_into, verdicts};
 pub use catalogue::CatalogueBuilder;

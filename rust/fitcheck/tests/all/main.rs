@@ -7,5 +7,6 @@ mod entries;
 mod hall;
 mod json;
 mod original;
+mod page;
 mod sentences;
 mod threads;
