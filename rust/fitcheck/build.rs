@@ -1,6 +1,8 @@
 //! Finds `libfitcheck.a`, the proved library, or has `rt` build it; without it
 //! this crate cannot be built, and the message says what to do.
 
+#![forbid(unsafe_code)]
+
 #[path = "../library.rs"]
 mod library;
 

@@ -5,6 +5,8 @@
 //! writes the catalogue, the names and the fits there, for the command
 //! `fitcheck` to read.
 
+#![forbid(unsafe_code)]
+
 use std::error::Error;
 use std::path::Path;
 use std::{env, fs};

@@ -1,5 +1,8 @@
 //! The crate against document 01 and against the original, by running.
 
+#![forbid(unsafe_code)]
+
+mod buffers;
 mod builders;
 mod command;
 mod common;

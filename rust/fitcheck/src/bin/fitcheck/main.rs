@@ -1,5 +1,6 @@
 //! The command `fitcheck`: see `fitcheck --help`.
 
+#![deny(missing_docs)]
 #![forbid(unsafe_code)]
 
 mod args;
