@@ -2,7 +2,7 @@
 
 use crate::{Attribute, BuildError, CATALOGUE_BYTES, Mark};
 
-/// Builds a catalogue image that the calls accept.
+/// Builds a catalogue image that every call accepts.
 ///
 /// Rows may come in any order. Names, effects and types are sorted and stand
 /// once each; links and bases of one type keep the order in which they came,

@@ -12,7 +12,8 @@
 //!   fit;
 //! - [`Explainer`], which says each entry in a sentence that a pilot
 //!   understands;
-//! - [`CatalogueBuilder`] and [`FitBuilder`], whose images are never refused.
+//! - [`CatalogueBuilder`] and [`FitBuilder`], whose images are always well
+//!   formed: none is refused by 1 to 6.
 //!
 //! ```
 //! use fitcheck::{
