@@ -286,8 +286,8 @@ pub fn wanted_skills(catalogue: &[u8], fit: &[u8], starts: &[u32; 259], result: 
     let mut ids = start.ids;
     let mut levels = start.levels;
     let mut len = note_result(fit, starts, result, pairs, &mut ids, &mut levels, start.len);
-    let mut i: usize = 0;
-    while i < len {
+    let mut next: usize = 0;
+    while next < len {
         if 512 < len {
             return Walk {
                 ids: ids,
@@ -295,9 +295,9 @@ pub fn wanted_skills(catalogue: &[u8], fit: &[u8], starts: &[u32; 259], result: 
                 len: len,
             };
         }
-        let id = ids[i];
+        let id = ids[next];
         len = note_skill(catalogue, id, pairs, &mut ids, &mut levels, len);
-        i += 1;
+        next += 1;
     }
     Walk {
         ids: ids,

@@ -36,7 +36,7 @@ returns c =
       ids-length = s .pre .1;
       levels-length = length-set levels (p .result) (s .args .level) ∙ s .pre .2;
       count = found-length ids levels (s .args .len) (s .args .id) (s .args .level) (p .result) q (c .before .before .if1 .taken);
-      holds = λ _. raised ids levels (s .args .len) (s .args .id) (s .args .level) (p .result) q hl (s .pre .0) (c .before .before .if1 .taken) (c .if2 .taken);
+      holds = λ _. raised ids levels (s .args .len) (s .args .id) (s .args .level) (p .result) q hl (s .pre .0) (c .before .before .if1 .taken) (omega (arith, c .if2 .taken));
     }
 
 returns-2 : tie.Need-returns-2
@@ -50,7 +50,7 @@ returns-2 c =
       ids-length = s .pre .1;
       levels-length = s .pre .2;
       count = found-length ids levels (s .args .len) (s .args .id) (s .args .level) (p .result) q (c .before .before .if1 .taken);
-      holds = λ _. kept ids levels (s .args .len) (s .args .id) (s .args .level) (p .result) q (c .before .before .if1 .taken) (c .if2 .left);
+      holds = λ _. kept ids levels (s .args .len) (s .args .id) (s .args .level) (p .result) q (c .before .before .if1 .taken) (omega (arith, c .if2 .left));
     }
 
 mul-id : tie.Need-mul-id
@@ -80,7 +80,7 @@ returns-3 c =
       count = missing-length ids levels (s .args .len) (s .args .id) (s .args .level) (p .result) q (c .before .if1 .left);
       holds = λ _.
           ap (λ (z : ℤ). heldOf (set ids (s .args .len) z) (set levels (s .args .len) (s .args .level)) (s .args .len + 1)) (toZ-ofZ w32 (s .args .id) (s .fits .id))
-          ∙ added ids levels (s .args .len) (s .args .id) (s .args .level) (p .result) q hi hl (c .if3 .taken) (c .before .if1 .left);
+          ∙ added ids levels (s .args .len) (s .args .id) (s .args .level) (p .result) q hi hl (omega (arith, c .if3 .taken)) (c .before .if1 .left);
     }
 
 returns-4 : tie.Need-returns-4
