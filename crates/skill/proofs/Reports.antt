@@ -14,7 +14,6 @@ use Rattle.fit.specs.Fit.{Fit, Result, fitOf, resultAt, resultOf, resultCount}
 use Rattle.fit.specs.Lookups.{trained}
 use Rattle.fit.proofs.Decoded.{result-some}
 use Rattle.entry.specs.declared.Target.the-variants.{Ship, Item}
-use Rattle.entry.specs.declared.Entry.{Entry}
 use Rattle.skill.specs.Skill.{Demand, wantedSkills, tooMany, targetOf, skillList}
 use Rattle.skill.specs.Steps.{entryOf, reported}
 use Rattle.skill.specs.Held.{walkOf, WalkedTo}

@@ -1,5 +1,5 @@
 -- `skill::note` meets its contract, by the skill's place: its level rises, all stays, it goes last, or there is no room.
-use Prim.Native.Nat.{ℕ, _+_}
+use Prim.Native.Nat.{_+_}
 use native.Mathlib.Omega.{arith}
 use mathlib.Core.Path.{_≡_, ap, subst, _∙_}
 use lib.ListN.{set, length-set}
@@ -11,9 +11,6 @@ use Rattle.skill.proofs.Noting.{found-length, missing-length, raised, k
 use borrow.Author.Needs.{needs}
 use Rattle.skill.proofs.note.Statement.{statement}
 use Rattle.skill.proofs.note.Tie as tie
-use Rattle.skill.proofs.note.Reads as reads
-use Rattle.skill.proofs.note.Lts as lts
-use Rattle.skill.proofs.place.Reads as place-reads
 
 place-requires : tie.Need-place-requires
 place-requires c κs = search needs

@@ -1,7 +1,7 @@
 -- `skill::wanted_skills` meets its contract. The invariant: the demands met once the first skills up to `next` of the order are walked are noted.
 use Prim.Native.Nat.{_≤_, _-_}
 use native.Mathlib.Omega.{arith}
-use mathlib.Core.Path.{_≡_, ap, _∙_}
+use mathlib.Core.Path.{ap, _∙_}
 use mathlib.Core.List.{[]}
 use lib.IntN.{pos}
 use lib.ListN.{getD}
