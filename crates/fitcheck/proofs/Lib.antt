@@ -1,3 +1,4 @@
--- Laws of the calls: the first condition that holds, and what code that answers has done.
+-- Laws of the calls: the first condition that holds, what code that answers has done, the fits of a hall.
 pub mod First
 pub mod Giving
+pub mod Halls
