@@ -1,4 +1,6 @@
 // The three calls, exported on numbers and byte slices: document 01, "Refusals in their order" and "Hall number".
+mod hall;
+
 use catalogue::AttributeId;
 use entry::Entry;
 use entry::Rule;
@@ -25,6 +27,7 @@ ghost use Rattle.skill.specs.Steps.{reported};
 ghost use Rattle.skill.specs.Held.{walkOf};
 ghost use Rattle.fitcheck.specs.Calls.{listCall, skillCall, answer, tooManyDrones, tooShort, returned, buffered};
 ghost use Rattle.fitcheck.specs.Gave.{Gave, lent};
+ghost use Rattle.fitcheck.specs.Hall.{hallCall, hallReturned};
 
 // Refusals 1 to 3, or 0.
 fn catalogue_refusal(catalogue: &[u8]) -> u64
@@ -224,4 +227,19 @@ pub extern "C" fn fit_skill(catalogue: &[u8], fit: &[u8], result: u32, out: &mut
         return first * 4294967296;
     }
     skilled(catalogue, fit, result, out)
+}
+
+// The hall call: how many of up to 64 fits are clear, faulted and refused. The catalogue is checked once for all of them.
+#[no_mangle]
+pub extern "C" fn fit_hall(catalogue: &[u8], input: &[u8]) -> u64
+    ensures { λ r. ⌜ r ≡ hallReturned (hallCall (now (catalogue .entry)) (now (input .entry))) ⌝ }
+{
+    let refusal = catalogue_refusal(catalogue);
+    if 0 < refusal {
+        return refusal * 4294967296;
+    }
+    if hall::bad_input(input) {
+        return 17179869184;
+    }
+    hall::numbers(catalogue, input)
 }
