@@ -1,8 +1,9 @@
 #!/bin/sh
 # Runs the Rust side: the workspace's tests, then the comparison with the
 # original (of the Rattle library where it is built, else of the plain port).
-# Needs cargo and nothing else. The last line is `N passed, M failed`; the
-# status is 0 where nothing failed.
+# Needs cargo and, for the crate `fitcheck`, the library: its build script finds
+# it, has `rt` build it, or says what to do. The last line is `N passed, M
+# failed`; the status is 0 where nothing failed.
 
 case $0 in
     */*) cd "${0%/*}" || exit 2 ;;

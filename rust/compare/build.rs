@@ -1,25 +1,22 @@
 //! Finds `libfitcheck.a`, the Rattle library, where it has been built. Without
 //! it everything builds too, and the comparison is with the plain port alone.
 
-use std::path::{Path, PathBuf};
-use std::{env, fs};
+#[path = "../library.rs"]
+#[allow(dead_code)]
+mod library;
 
-const LIBRARY: &str = "libfitcheck.a";
+use library::LIBRARY;
 
 fn main() {
     println!("cargo:rustc-check-cfg=cfg(fitcheck)");
-    println!("cargo:rerun-if-env-changed=FITCHECK_LIB_DIR");
+    println!("cargo:rerun-if-changed=../library.rs");
 
-    let directory = directory();
-    let library = directory.join(LIBRARY);
-    println!("cargo:rerun-if-changed={}", library.display());
-    let arch = env::var("CARGO_CFG_TARGET_ARCH").unwrap_or_default();
-    if library.is_file() && arch != "x86_64" {
+    let directory = library::named().unwrap_or_else(library::built);
+    let found = library::is_in(&directory);
+    if found && !library::is_for_this_target() {
         println!("cargo:warning={LIBRARY} is for x86-64; this build goes without it");
-    } else if library.is_file() {
-        let directory = fs::canonicalize(&directory).unwrap_or(directory);
-        println!("cargo:rustc-link-search=native={}", directory.display());
-        println!("cargo:rustc-link-lib=static=fitcheck");
+    } else if found {
+        library::link(&directory);
         println!("cargo:rustc-cfg=fitcheck");
     } else {
         println!(
@@ -27,16 +24,5 @@ fn main() {
              comparing the plain port alone. To compare the library too, run \
              `rt staticlib fitcheck` at the repository root and build again."
         );
-    }
-}
-
-/// FITCHECK_LIB_DIR, or target/staticlib at the repository root.
-fn directory() -> PathBuf {
-    match env::var_os("FITCHECK_LIB_DIR") {
-        Some(directory) => PathBuf::from(directory),
-        None => {
-            let here = env::var("CARGO_MANIFEST_DIR").expect("cargo names the crate");
-            Path::new(&here).join("../../target/staticlib")
-        }
     }
 }

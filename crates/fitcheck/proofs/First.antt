@@ -48,9 +48,13 @@ first-past limit (x ∷ l) m a e = go (x .1) e (first-past limit l m (a .2))
     go false e f = f e
 
 -- ---- of both images
-numbered-catalogue : (catalogue : List ℕ) → Numbered 6 (catalogueRefusals catalogue)
+pub numbered-catalogue : (catalogue : List ℕ) → Numbered 6 (catalogueRefusals catalogue)
 unfolding catalogueRefusals
 numbered-catalogue catalogue = (omega arith, omega arith, (omega arith, omega arith, (omega arith, omega arith, tt)))
+
+pub numbered-fit : (fit : List ℕ) → Numbered 6 (fitRefusals fit)
+unfolding fitRefusals
+numbered-fit fit = (omega arith, omega arith, (omega arith, omega arith, (omega arith, omega arith, tt)))
 
 pub numbered-images : (catalogue fit : List ℕ) → Numbered 6 (catalogueRefusals catalogue ++ fitRefusals fit)
 unfolding catalogueRefusals fitRefusals

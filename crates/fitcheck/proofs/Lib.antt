@@ -1,3 +1,5 @@
--- Laws of the calls: the first condition that holds, and what code that answers has done.
+-- Laws of the calls: the first condition that holds, what code that answers has done, the conditions of the skill call, the fits of a hall.
 pub mod First
 pub mod Giving
+pub mod Skills
+pub mod Halls

@@ -1,25 +1,33 @@
 // The three calls, exported on numbers and byte slices: document 01, "Refusals in their order" and "Hall number".
+mod hall;
+
 use catalogue::AttributeId;
 use entry::Entry;
 use entry::Rule;
 use entry::Target;
+use skill::Walk;
 ghost use mathlib.Core.Path.{_≡_};
 ghost use mathlib.Core.Bool.{true, false};
 ghost use mathlib.Core.List.{List, [], _∷_, _++_};
 ghost use Prim.Native.Nat.{ℕ, _+_, _*_, _<_, _≤_};
+ghost use lib.Dec.{ltb};
 ghost use lib.ListN.{length};
-ghost use Rattle.words.specs.Words.{firstOf};
+ghost use Rattle.words.specs.Words.{firstOf, given};
 ghost use Rattle.catalogue.specs.Catalogue.{catalogueOf};
 ghost use Rattle.catalogue.specs.Refusals.{catalogueRefusals, catalogueRefusal};
 ghost use Rattle.catalogue.specs.Sound as Catalogue;
-ghost use Rattle.fit.specs.Fit.{fitOf};
+ghost use Rattle.fit.specs.Fit.{fitOf, resultAt, resultCount};
 ghost use Rattle.fit.specs.Refusals.{fitRefusals, fitRefusal};
 ghost use Rattle.fit.specs.Sound as Fit;
 ghost use Rattle.context.specs.Gathered.{Ready, Gathered};
 ghost use Rattle.validate.specs.Kind.{isHull};
 ghost use Rattle.validate.specs.Validate.{listOf};
-ghost use Rattle.fitcheck.specs.Calls.{listCall, answer, tooManyDrones, tooShort, returned, buffered};
+ghost use Rattle.skill.specs.Skill.{tooMany, skillList};
+ghost use Rattle.skill.specs.Steps.{reported};
+ghost use Rattle.skill.specs.Held.{walkOf};
+ghost use Rattle.fitcheck.specs.Calls.{listCall, skillCall, answer, tooManyDrones, tooShort, returned, buffered};
 ghost use Rattle.fitcheck.specs.Gave.{Gave, lent};
+ghost use Rattle.fitcheck.specs.Hall.{hallCall, hallReturned};
 
 // Refusals 1 to 3, or 0.
 fn catalogue_refusal(catalogue: &[u8]) -> u64
@@ -174,4 +182,64 @@ pub extern "C" fn fit_list(catalogue: &[u8], fit: &[u8], out: &mut [u8]) -> u64
         return first * 4294967296;
     }
     listed(catalogue, fit, out)
+}
+
+// The skill list of a walk. A buffer that holds any such list need not be counted for.
+fn skill_list(fit: &[u8], result: usize, walk: Walk, out: &mut [u8]) -> u64
+    requires { ⌜ Fit.Sound (now fit) × (result < resultCount (now fit) + 2) × (walk .len ≤ 512) ⌝ }
+    ensures { λ r. ⌜ Gave (now (out .entry)) (now (out .exit)) r (lent (now (out .entry)) (reported (fitOf (now (fit .entry))) result (walkOf walk))) ⌝ }
+{
+    if 12288 <= out.len() {
+        return skill::report(fit, result, walk, out, 0) as u64;
+    }
+    let mut none = [0u8; 0];
+    let count = skill::report(fit, result, walk, &mut none, 0);
+    if out.len() / 24 < count {
+        return 42949672960;
+    }
+    skill::report(fit, result, walk, out, 0) as u64
+}
+
+// The skill call on images that are accepted.
+fn skilled(catalogue: &[u8], fit: &[u8], result: u32, out: &mut [u8]) -> u64
+    requires { ⌜ Catalogue.Sound (now catalogue) × Fit.Sound (now fit) ⌝ }
+    ensures { λ r. ⌜ Gave (now (out .entry)) (now (out .exit)) r (answer ((8, ltb (length (fitOf (now (fit .entry)) .results) + 1) result) ∷ (9, given (resultAt (fitOf (now (fit .entry))) result) false (tooMany 512 (catalogueOf (now (catalogue .entry))))) ∷ (10, tooShort (now (out .entry)) (skillList (catalogueOf (now (catalogue .entry))) (fitOf (now (fit .entry))) result)) ∷ []) (skillList (catalogueOf (now (catalogue .entry))) (fitOf (now (fit .entry))) result)) ⌝ }
+{
+    let result = result as usize;
+    if fit::result_count(fit) + 1 < result {
+        return 34359738368;
+    }
+    let starts = fit::starts(fit);
+    let walk = skill::wanted_skills(catalogue, fit, &starts, result);
+    if 512 < walk.len {
+        return 38654705664;
+    }
+    skill_list(fit, result, walk, out)
+}
+
+// The skill call: the skills that a result wants and that are trained lower.
+#[no_mangle]
+pub extern "C" fn fit_skill(catalogue: &[u8], fit: &[u8], result: u32, out: &mut [u8]) -> u64
+    ensures { λ r. ⌜ (r ≡ returned (skillCall (now (catalogue .entry)) (now (fit .entry)) result (now (out .entry)))) × (now (out .exit) ≡ buffered (now (out .entry)) (skillCall (now (catalogue .entry)) (now (fit .entry)) result (now (out .entry)))) ⌝ }
+{
+    let first = image_refusal(catalogue, fit);
+    if 0 < first {
+        return first * 4294967296;
+    }
+    skilled(catalogue, fit, result, out)
+}
+
+// The hall call: how many of up to 64 fits are clear, faulted and refused. The catalogue is checked once for all of them.
+#[no_mangle]
+pub extern "C" fn fit_hall(catalogue: &[u8], input: &[u8]) -> u64
+    ensures { λ r. ⌜ r ≡ hallReturned (hallCall (now (catalogue .entry)) (now (input .entry))) ⌝ }
+{
+    let refusal = catalogue_refusal(catalogue);
+    if 0 < refusal {
+        return refusal * 4294967296;
+    }
+    if hall::bad_input(input) {
+        return 17179869184;
+    }
+    hall::numbers(catalogue, input)
 }

@@ -3,9 +3,8 @@ use Prim.Native.Nat.{ℕ, _+_, _≤_, _<_}
 use native.Mathlib.Decide.{decLe}
 use native.Mathlib.Omega.{arith}
 use mathlib.Core.Path.{_≡_, refl, sym, ap, _∙_, subst}
-use mathlib.Core.List.{List, [], _∷_, _++_, foldl, foldl-append, map}
+use mathlib.Core.List.{List, [], _∷_, _++_, foldl, foldl-append}
 use mathlib.Core.Option.{some}
-use lib.Dec.{ltb}
 use lib.IntN.{ℤ, pos}
 use lib.ListN.{length, getD, getElem?}
 use borrow.Author.Tests.{lt-ltb, le-ltb}
@@ -110,11 +109,11 @@ held-skill ids levels len i h =
 
 module _ (c : Catalogue) (r : Result) {ids : List ℤ} {levels : List ℕ} {len : ℕ} (i : ℕ) (v : Notes [] [] 0 ids levels len (met c r i)) where
   -- one skill of the order walked
-  pub walk-step : {ids′ : List ℤ} {levels′ : List ℕ} {q : ℕ} → i < len → len ≤ 512 → Notes ids levels len ids′ levels′ q (ofSkill c (getD ids i (pos 0)))
-      → Notes [] [] 0 ids′ levels′ q (met c r (i + 1))
-  walk-step h f w =
-      notes-same (sym (met-next c r i (getD ids i (pos 0)) (ap (λ (l : List Demand). skillAt l i) (sym (held-noted v f)) ∙ held-skill ids levels len i h)))
-      (notes-append v w)
+  pub walk-step : {ids′ : List ℤ} {levels′ : List ℕ} {q : ℕ} (j : ℕ) → j ≡ i + 1 → i < len → len ≤ 512 → Notes ids levels len ids′ levels′ q (ofSkill c (getD ids i (pos 0)))
+      → Notes [] [] 0 ids′ levels′ q (met c r j)
+  walk-step j e h f w =
+      let skill = ap (λ (l : List Demand). skillAt l i) (sym (held-noted v f)) ∙ held-skill ids levels len i h in
+      notes-same (sym (met-next c r i (getD ids i (pos 0)) skill) ∙ ap (met c r) (sym e)) (notes-append v w)
 
   -- the order walked to its end
   walk-end : i ≤ 512 → len ≤ i → met c r 512 ≡ met c r i

@@ -1,20 +1,20 @@
 -- The entries of `report`: how many, and that those of a walk that has ended are the skill list. Assumes nothing.
-use Prim.Native.Nat.{ℕ, zero, suc, _+_, _-_, _≤_, _<_}
+use Prim.Native.Nat.{ℕ, zero, suc, _+_, _≤_, _<_}
 use native.Mathlib.Omega.{arith}
 use mathlib.Core.Path.{_≡_, refl, sym, ap, _∙_}
+use mathlib.Core.Bool.{false}
 use mathlib.Core.List.{List}
 use mathlib.Core.Option.{Option, some}
 use lib.Dec.{ltb}
 use lib.ListN.{length}
-use Rattle.words.specs.Words.{_>>=_, each, when}
+use Rattle.words.specs.Words.{_>>=_, given}
 use Rattle.words.proofs.Lengths.{few-when}
 use Rattle.catalogue.specs.Catalogue.{Catalogue, catalogueOf}
 use Rattle.fit.specs.Fit.{Fit, Result, fitOf, resultAt, resultOf, resultCount}
 use Rattle.fit.specs.Lookups.{trained}
 use Rattle.fit.proofs.Decoded.{result-some}
 use Rattle.entry.specs.declared.Target.the-variants.{Ship, Item}
-use Rattle.entry.specs.declared.Entry.{Entry}
-use Rattle.skill.specs.Skill.{Demand, wantedSkills, targetOf, skillList}
+use Rattle.skill.specs.Skill.{Demand, wantedSkills, tooMany, targetOf, skillList}
 use Rattle.skill.specs.Steps.{entryOf, reported}
 use Rattle.skill.specs.Held.{walkOf, WalkedTo}
 use Rattle.skill.specs.declared.Walk.{Walk}
@@ -25,10 +25,10 @@ target-ship zero h = refl
 target-ship (suc zero) h = refl
 target-ship (suc (suc n)) h = absurd (omega (arith, h))
 
-pub target-item : (n : ℕ) → 2 ≤ n → Item (n - 2) ≡ targetOf n
-target-item zero h = absurd (omega (arith, h))
-target-item (suc zero) h = absurd (omega (arith, h))
-target-item (suc (suc n)) h = let e : suc (suc n) - 2 ≡ n = omega arith in ap Item e
+pub target-item : (n i : ℕ) → n ≡ i + 2 → Item i ≡ targetOf n
+target-item zero i e = absurd (omega (arith, e))
+target-item (suc zero) i e = absurd (omega (arith, e))
+target-item (suc (suc n)) i e = let q : i ≡ n = omega arith in ap Item q
 
 pub few-entry : (f : Fit) (n : ℕ) (w : Demand) → length (entryOf f n w) ≤ 1
 unfolding entryOf
@@ -43,3 +43,10 @@ pub reported-all : (catalogue fit : List ℕ) (result : ℕ) (w : Walk) → Walk
     → reported (fitOf fit) result (walkOf w) ≡ skillList (catalogueOf catalogue) (fitOf fit) result
 reported-all catalogue fit result w v h g =
     ap (reported (fitOf fit) result) (v .holds h) ∙ sym (list-of (catalogueOf catalogue) (fitOf fit) result (resultOf fit result) (result-some fit result g))
+
+-- whether the walk is refused, as the skill call asks
+pub too-many : (catalogue fit : List ℕ) (result : ℕ) (w : Walk) → WalkedTo catalogue fit result w → result < resultCount fit + 2
+    → ltb 512 (w .len) ≡ given (resultAt (fitOf fit) result) false (tooMany 512 (catalogueOf catalogue))
+unfolding given
+too-many catalogue fit result w v g =
+    v .over ∙ sym (ap (λ (o : Option Result). given o false (tooMany 512 (catalogueOf catalogue))) (result-some fit result g))

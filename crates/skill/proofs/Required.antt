@@ -1,5 +1,5 @@
 -- The pairs of `REQUIRED` that count: the table of names, pairs kept in two arrays, and what they ask for. Assumes nothing.
-use Prim.Native.Nat.{ℕ, _+_, _*_, _≤_, _<_}
+use Prim.Native.Nat.{ℕ, _+_, _*_, _<_}
 use native.Mathlib.Nat.{ne-of-lt}
 use native.Mathlib.Numerals.{add-one}
 use native.Mathlib.Omega.{arith}
@@ -50,10 +50,6 @@ pub name-level : (i : ℕ) → i < 6 → getD names (2 * i + 1) 0 ≡ getD REQUI
 unfolding anyOf tableFrom differs
 name-level = column (λ i. getD names (2 * i + 1) 0) (λ i. getD REQUIRED i (0, 0) .1) refl
 
--- the pairs of one row more
-pub rows-more : (f : ℕ × ℕ → List Pair) (i : ℕ) → i < 6 → each (take i REQUIRED) f ++ f (getD REQUIRED i (0, 0)) ≡ each (take (i + 1) REQUIRED) f
-rows-more f i h = rw add-one (sym (each-step f REQUIRED i (0, 0) h))
-
 -- ---- pairs kept
 pub pair-eq : {x y : ℤ} {u v : ℤ} → x ≡ y → u ≡ v → _≡_ {A = Pair} (x, u) (y, v)
 pair-eq p q = ap₂ (λ (x : ℤ) (u : ℤ). (x, u)) p q
@@ -103,6 +99,13 @@ module _ (skills levels : List ℤ) (n : ℕ) (a : length skills ≡ 6) (b : len
 -- the same pairs by another name
 pub kept-same : {skills levels skills′ levels′ : List ℤ} {n r : ℕ} {ps qs : List Pair} → ps ≡ qs → Kept skills levels n skills′ levels′ r ps → Kept skills levels n skills′ levels′ r qs
 kept-same {skills} {levels} {skills′} {levels′} {n} {r} e k = subst (λ (l : List Pair). Kept skills levels n skills′ levels′ r l) e k
+
+-- one row more is kept
+pub kept-row : {skills levels skills′ levels′ : List ℤ} {n r : ℕ} (f : ℕ × ℕ → List Pair) (i : ℕ) → i < 6 → pairsIn skills levels n ≡ each (take i REQUIRED) f
+    → Kept skills levels n skills′ levels′ r (f (getD REQUIRED i (0, 0))) → pairsIn skills′ levels′ r ≡ each (take (i + 1) REQUIRED) f
+kept-row f i h e k =
+    let row = f (getD REQUIRED i (0, 0)) in
+    rw add-one (k .holds ∙ ap (λ (ps : List Pair). ps ++ row) e ∙ sym (each-step f REQUIRED i (0, 0) h))
 
 pub pairs-start : (skills levels : List ℤ) → pairsIn skills levels 0 ≡ []
 unfolding pairsIn tableFrom

@@ -1,13 +1,13 @@
 -- The walk's list grows, and stays once every skill of it has been walked. By induction on the demands noted and on the steps. Assumes nothing.
-use Prim.Native.Nat.{ℕ, zero, suc, _+_, _-_, _≤_, _<_, max}
+use Prim.Native.Nat.{ℕ, zero, suc, _+_, _-_, _≤_, max}
 use native.Mathlib.Nat.{le-refl, le-trans, add-zero, add-suc, not-suc-le-zero, le-of-suc-le-suc}
 use native.Mathlib.Numerals.{add-one}
 use native.Mathlib.Omega.{arith}
-use mathlib.Core.Path.{_≡_, refl, sym, ap, _∙_}
+use mathlib.Core.Path.{_≡_, refl, ap, _∙_}
 use mathlib.Core.Bool.{Bool, true, false, cond}
-use mathlib.Core.List.{List, [], _∷_, _++_, foldl, foldl-append, map, append-nil}
+use mathlib.Core.List.{List, [], _∷_, _++_, foldl, foldl-append, append-nil}
 use mathlib.Core.Option.{Option, none, some}
-use lib.ListN.{length, getElem?}
+use lib.ListN.{length}
 use Rattle.words.specs.Words.{given, same}
 use Rattle.catalogue.specs.Catalogue.{Id, Catalogue}
 use Rattle.fit.specs.Fit.{Result}

@@ -7,7 +7,7 @@ use entry::Target;
 use floats::Value;
 ghost use mathlib.Core.Path.{_≡_};
 ghost use mathlib.Core.List.{[], _∷_};
-ghost use Prim.Native.Nat.{ℕ, _+_, _<_, _≤_};
+ghost use Prim.Native.Nat.{_+_, _<_, _≤_};
 ghost use lib.ListN.{length, getD};
 ghost use Rattle.words.specs.Words.{each};
 ghost use Rattle.floats.specs.Values.{valueOf};
@@ -15,7 +15,7 @@ ghost use Rattle.catalogue.specs.Catalogue.{catalogueOf, baseCount};
 ghost use Rattle.catalogue.specs.Lookups.{baseValue};
 ghost use Rattle.catalogue.specs.Sound as Catalogue;
 ghost use Rattle.catalogue.specs.Answers.{idOf};
-ghost use Rattle.catalogue.specs.Walks.{SpanOf, spanValue};
+ghost use Rattle.catalogue.specs.Walks.{spanValue};
 ghost use Rattle.fit.specs.Fit.{fitOf, resultCount, resultOf};
 ghost use Rattle.fit.specs.Lookups.{value};
 ghost use Rattle.fit.specs.Sound as Fit;
@@ -286,8 +286,8 @@ pub fn wanted_skills(catalogue: &[u8], fit: &[u8], starts: &[u32; 259], result: 
     let mut ids = start.ids;
     let mut levels = start.levels;
     let mut len = note_result(fit, starts, result, pairs, &mut ids, &mut levels, start.len);
-    let mut i: usize = 0;
-    while i < len {
+    let mut next: usize = 0;
+    while next < len {
         if 512 < len {
             return Walk {
                 ids: ids,
@@ -295,9 +295,9 @@ pub fn wanted_skills(catalogue: &[u8], fit: &[u8], starts: &[u32; 259], result: 
                 len: len,
             };
         }
-        let id = ids[i];
+        let id = ids[next];
         len = note_skill(catalogue, id, pairs, &mut ids, &mut levels, len);
-        i += 1;
+        next += 1;
     }
     Walk {
         ids: ids,

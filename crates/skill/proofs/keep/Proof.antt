@@ -1,5 +1,5 @@
 -- `skill::keep` meets its contract, by whether both names have ids.
-use mathlib.Core.Path.{_≡_, ap}
+use mathlib.Core.Path.{ap}
 use mir.Syntax.{w32}
 use mir.ValLaws.{toZ-ofZ}
 use Rattle.catalogue.specs.Answers.{idOf}

@@ -1,5 +1,5 @@
 -- `skill::keep_row` meets its contract: the names in the source are the definition's.
-use mathlib.Core.Path.{_≡_, ap, ap₂, _∙_}
+use mathlib.Core.Path.{ap, ap₂, _∙_}
 use Rattle.catalogue.specs.Catalogue.{catalogueOf}
 use Rattle.catalogue.specs.Lookups.{nameId}
 use Rattle.skill.specs.Steps.{pairOf}

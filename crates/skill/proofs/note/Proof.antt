@@ -1,5 +1,5 @@
 -- `skill::note` meets its contract, by the skill's place: its level rises, all stays, it goes last, or there is no room.
-use Prim.Native.Nat.{ℕ, _+_}
+use Prim.Native.Nat.{_+_}
 use native.Mathlib.Omega.{arith}
 use mathlib.Core.Path.{_≡_, ap, subst, _∙_}
 use lib.ListN.{set, length-set}
@@ -11,9 +11,6 @@ use Rattle.skill.proofs.Noting.{found-length, missing-length, raised, k
 use borrow.Author.Needs.{needs}
 use Rattle.skill.proofs.note.Statement.{statement}
 use Rattle.skill.proofs.note.Tie as tie
-use Rattle.skill.proofs.note.Reads as reads
-use Rattle.skill.proofs.note.Lts as lts
-use Rattle.skill.proofs.place.Reads as place-reads
 
 place-requires : tie.Need-place-requires
 place-requires c κs = search needs
@@ -36,7 +33,7 @@ returns c =
       ids-length = s .pre .1;
       levels-length = length-set levels (p .result) (s .args .level) ∙ s .pre .2;
       count = found-length ids levels (s .args .len) (s .args .id) (s .args .level) (p .result) q (c .before .before .if1 .taken);
-      holds = λ _. raised ids levels (s .args .len) (s .args .id) (s .args .level) (p .result) q hl (s .pre .0) (c .before .before .if1 .taken) (c .if2 .taken);
+      holds = λ _. raised ids levels (s .args .len) (s .args .id) (s .args .level) (p .result) q hl (s .pre .0) (c .before .before .if1 .taken) (omega (arith, c .if2 .taken));
     }
 
 returns-2 : tie.Need-returns-2
@@ -50,7 +47,7 @@ returns-2 c =
       ids-length = s .pre .1;
       levels-length = s .pre .2;
       count = found-length ids levels (s .args .len) (s .args .id) (s .args .level) (p .result) q (c .before .before .if1 .taken);
-      holds = λ _. kept ids levels (s .args .len) (s .args .id) (s .args .level) (p .result) q (c .before .before .if1 .taken) (c .if2 .left);
+      holds = λ _. kept ids levels (s .args .len) (s .args .id) (s .args .level) (p .result) q (c .before .before .if1 .taken) (omega (arith, c .if2 .left));
     }
 
 mul-id : tie.Need-mul-id
@@ -80,7 +77,7 @@ returns-3 c =
       count = missing-length ids levels (s .args .len) (s .args .id) (s .args .level) (p .result) q (c .before .if1 .left);
       holds = λ _.
           ap (λ (z : ℤ). heldOf (set ids (s .args .len) z) (set levels (s .args .len) (s .args .level)) (s .args .len + 1)) (toZ-ofZ w32 (s .args .id) (s .fits .id))
-          ∙ added ids levels (s .args .len) (s .args .id) (s .args .level) (p .result) q hi hl (c .if3 .taken) (c .before .if1 .left);
+          ∙ added ids levels (s .args .len) (s .args .id) (s .args .level) (p .result) q hi hl (omega (arith, c .if3 .taken)) (c .before .if1 .left);
     }
 
 returns-4 : tie.Need-returns-4

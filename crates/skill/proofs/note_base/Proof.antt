@@ -1,5 +1,5 @@
 -- `skill::note_base` meets its contract, by whether the skill is given.
-use mathlib.Core.Path.{_≡_, sym, ap, _∙_}
+use mathlib.Core.Path.{sym, ap, _∙_}
 use mir.Syntax.{w32}
 use mir.ValLaws.{toZ-ofZ}
 use Rattle.floats.specs.Values.{valueOf}

@@ -11,8 +11,6 @@ use borrow.Author.Count.{below-more}
 use Rattle.skill.proofs.Bits.{same-bits}
 use Rattle.skill.proofs.place.Statement.{statement}
 use Rattle.skill.proofs.place.Tie as tie
-use Rattle.skill.proofs.place.Reads as reads
-use Rattle.skill.proofs.place.Lts as lts
 
 abbrev Inv-loop : tie.InvT-loop
 Inv-loop ids len id i₀ i = (i ≤ len) × ((k : ℕ) → k < i → ofZ w32 (getD ids k (pos 0)) ≡ id → ⊥)

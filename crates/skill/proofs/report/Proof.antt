@@ -29,7 +29,7 @@ unfolding heldOf
 loop-holds c =
     let a = c .before .before .args in
     let w = a .t3 in
-    (omega arith, refl, wrote-table-none (entryOf (fitOf (a .fit .now)) (a .result)) (heldAt (w .ids) (w .levels)) _ _, omega arith)
+    (omega arith, omega arith, wrote-table-none (entryOf (fitOf (a .fit .now)) (a .result)) (heldAt (w .ids) (w .levels)) _ _, omega arith)
 
 mul-id : tie.Need-mul-id Inv-loop μ-loop
 mul-id c = search needs

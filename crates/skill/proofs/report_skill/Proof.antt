@@ -10,7 +10,6 @@ use Rattle.fit.specs.Fit.{fitOf}
 use Rattle.fit.specs.Lookups.{trained}
 use Rattle.entry.specs.declared.Target.{Target}
 use Rattle.entry.specs.declared.Rule.the-variants.{Skill}
-use Rattle.entry.specs.declared.Entry.{Entry}
 use Rattle.entry.proofs.Wrote.{wrote-same}
 use Rattle.skill.specs.Steps.{entryOf}
 use borrow.Author.Needs.{needs}

@@ -1,16 +1,16 @@
 -- `skill::required_of` meets its contract. The invariant: the pairs of the first i rows are kept.
-use mathlib.Core.List.{List, _++_}
+use mathlib.Core.List.{List}
 use lib.Seq.{take-all}
 use Prim.Native.Nat.{ℕ, _≤_, _-_}
 use native.Mathlib.Omega.{arith}
 use mathlib.Core.Path.{_≡_, refl, ap, _∙_}
-use lib.ListN.{length, take, getD}
+use lib.ListN.{length, take}
 use Rattle.words.specs.Words.{each}
 use Rattle.catalogue.specs.Catalogue.{catalogueOf}
 use Rattle.skill.specs.Skill.{REQUIRED}
-use Rattle.skill.specs.Steps.{Pair, rowOf, required}
+use Rattle.skill.specs.Steps.{rowOf, required}
 use Rattle.skill.specs.Held.{pairsIn}
-use Rattle.skill.proofs.Required.{pairs-start, rows-more}
+use Rattle.skill.proofs.Required.{kept-row, pairs-start}
 use borrow.Author.Needs.{needs}
 use Rattle.skill.proofs.required_of.Statement.{statement}
 use Rattle.skill.proofs.required_of.Tie as tie
@@ -44,7 +44,7 @@ loop-again c =
       omega (arith, k .limit, l .inv .1),
       k .skills-length,
       k .levels-length,
-      k .holds ∙ ap (λ (ps : List Pair). ps ++ f (getD REQUIRED (l .i) (0, 0))) (l .inv .4) ∙ rows-more f (l .i) (c .before .before .before .loop-test .taken),
+      kept-row f (l .i) (omega (arith, c .before .before .before .loop-test .taken)) (l .inv .4) k,
     )
 
 returns : tie.Need-returns Inv-loop μ-loop
@@ -52,7 +52,7 @@ unfolding required
 returns c =
     let l = c .before .loop in
     let a = c .before .before .before .args in
-    (l .inv .4 ∙ ap (λ (m : List (ℕ × ℕ)). each m (rowOf (catalogueOf (a .catalogue .now)))) (take-all (l .i) REQUIRED (c .loop-test .left)), omega arith)
+    (l .inv .4 ∙ ap (λ (m : List (ℕ × ℕ)). each m (rowOf (catalogueOf (a .catalogue .now)))) (take-all (l .i) REQUIRED (omega (arith, c .loop-test .left))), omega arith)
 
 pub required-of-spec : {M : Type 1} → statement M
 required-of-spec =

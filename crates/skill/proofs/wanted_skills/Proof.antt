@@ -1,7 +1,7 @@
--- `skill::wanted_skills` meets its contract. The invariant: the demands met once the first i skills of the order are walked are noted.
+-- `skill::wanted_skills` meets its contract. The invariant: the demands met once the first skills up to `next` of the order are walked are noted.
 use Prim.Native.Nat.{_≤_, _-_}
 use native.Mathlib.Omega.{arith}
-use mathlib.Core.Path.{_≡_, ap, _∙_}
+use mathlib.Core.Path.{ap, _∙_}
 use mathlib.Core.List.{[]}
 use lib.IntN.{pos}
 use lib.ListN.{getD}
@@ -20,10 +20,10 @@ use Rattle.skill.proofs.wanted_skills.Statement.{statement}
 use Rattle.skill.proofs.wanted_skills.Tie as tie
 
 abbrev Inv-loop : tie.InvT-loop
-Inv-loop catalogue fit starts result pairs ids₀ levels₀ len₀ i₀ ids levels len i = (i ≤ 512) × Notes [] [] 0 ids levels len (met (catalogueOf catalogue) (resultOf fit result) i)
+Inv-loop catalogue fit starts result pairs ids₀ levels₀ len₀ next₀ ids levels len next = (next ≤ 512) × Notes [] [] 0 ids levels len (met (catalogueOf catalogue) (resultOf fit result) next)
 
 abbrev μ-loop : tie.MeasureT-loop
-μ-loop catalogue fit starts result pairs ids₀ levels₀ len₀ i₀ ids levels len i = 512 - i
+μ-loop catalogue fit starts result pairs ids₀ levels₀ len₀ next₀ ids levels len next = 512 - next
 
 required-of-requires : tie.Need-required-of-requires Inv-loop μ-loop
 required-of-requires c κs = search needs
@@ -46,7 +46,7 @@ returns : tie.Need-returns Inv-loop μ-loop
 returns c =
     let l = c .before .before .loop in
     let a = c .before .before .before .before .before .before .before .before .before .before .before .before .args in
-    walked-over (a .catalogue .now) (a .fit .now) (a .result) (l .i) (record { ids = l .ids; levels = l .levels; len = l .len }) (l .inv .1) (l .inv .0) (c .if1 .taken)
+    walked-over (a .catalogue .now) (a .fit .now) (a .result) (l .next) (record { ids = l .ids; levels = l .levels; len = l .len }) (l .inv .1) (l .inv .0) (omega (arith, c .if1 .taken))
 
 mul-id : tie.Need-mul-id Inv-loop μ-loop
 mul-id c = search needs
@@ -57,8 +57,8 @@ array-copy-out-id c = search needs
 note-skill-requires : tie.Need-note-skill-requires Inv-loop μ-loop
 note-skill-requires c κs = search needs
 
-add-i : tie.Need-add-i Inv-loop μ-loop
-add-i c = search needs
+add-next : tie.Need-add-next Inv-loop μ-loop
+add-next c = search needs
 
 loop-less : tie.Need-loop-less Inv-loop μ-loop
 loop-less c = search needs
@@ -70,10 +70,10 @@ loop-again c =
     let cat = catalogueOf (a .catalogue .now) in
     let r = resultOf (a .fit .now) (a .result) in
     let ps = c .before .before .before .before .before .before .before .before .before .before .before .before .before .required-of in
-    let id = getD (l .ids) (l .i) (pos 0) in
+    let id = getD (l .ids) (l .next) (pos 0) in
     let e = toZ-ofZ w32 id (record { sfits = c .before .before .before .id .given }) in (
       omega arith,
-      walk-step cat r (l .i) (l .inv .1) (c .before .before .before .before .before .loop-test .taken) (c .before .before .before .before .if1 .left)
+      walk-step cat r (l .next) (l .inv .1) _ (omega arith) (omega (arith, c .before .before .before .before .before .loop-test .taken)) (omega (arith, c .before .before .before .before .if1 .left))
           (notes-same (skill-asks cat (toZ w32 (ofZ w32 id)) (pairsOf (ps .result)) (ps .ensures .0) ∙ ap (ofSkill cat) e) (c .note-skill .ensures)),
     )
 
@@ -81,7 +81,7 @@ returns-2 : tie.Need-returns-2 Inv-loop μ-loop
 returns-2 c =
     let l = c .before .loop in
     let a = c .before .before .before .before .before .before .before .before .before .before .before .args in
-    walked-all (a .catalogue .now) (a .fit .now) (a .result) (l .i) (record { ids = l .ids; levels = l .levels; len = l .len }) (l .inv .1) (l .inv .0) (c .loop-test .left)
+    walked-all (a .catalogue .now) (a .fit .now) (a .result) (l .next) (record { ids = l .ids; levels = l .levels; len = l .len }) (l .inv .1) (l .inv .0) (omega (arith, c .loop-test .left))
 
 pub wanted-skills-spec : {M : Type 1} → statement M
 wanted-skills-spec =
@@ -97,7 +97,7 @@ wanted-skills-spec =
     mul-id
     array-copy-out-id
     note-skill-requires
-    add-i
+    add-next
     loop-less
     loop-again
     returns-2)

@@ -4,8 +4,6 @@ use Rattle.words.specs.Words.{tableFrom}
 use Rattle.skill.specs.Held.{heldOf}
 use Rattle.skill.proofs.Walk.new.Statement.{statement}
 use Rattle.skill.proofs.Walk.new.Tie as tie
-use Rattle.skill.proofs.Walk.new.Reads as reads
-use Rattle.skill.proofs.Walk.new.Lts as lts
 
 returns : tie.Need-returns
 unfolding heldOf tableFrom

@@ -1,0 +1,2 @@
+-- What contracts leave is what the promises speak of.
+pub mod Left

@@ -1,0 +1,40 @@
+-- `two_fits::lists` meets its contract: the two contracts of the list call, and the promise on what they leave.
+use Rattle.fitcheck.specs.Calls.{listCall}
+use Rattle.promises.proofs.Comparing.{list-kept}
+use Rattle.two_fits.specs.Kept.{ListsKept}
+use Rattle.two_fits.proofs.Left.{left-is, of-both}
+use borrow.Author.Needs.{needs}
+use Rattle.two_fits.proofs.lists.Statement.{statement}
+use Rattle.two_fits.proofs.lists.Tie as tie
+
+bytes-requires : tie.Need-bytes-requires
+bytes-requires c κs = search needs
+
+fit-list-requires : tie.Need-fit-list-requires
+fit-list-requires c κs = search needs
+
+fit-list-requires-2 : tie.Need-fit-list-requires-2
+fit-list-requires-2 c κs = search needs
+
+same-length : tie.Need-same-length
+same-length c = search needs
+
+same-length-2 : tie.Need-same-length-2
+same-length-2 c = search needs
+
+returns : tie.Need-returns
+returns c =
+    let n = c .before .before in
+    let o = n .before .before .before .before in
+    let b = o .before .before in
+    let a = b .before .before .before .before .before .before .args in
+    let catalogue = a .catalogue .now in
+    let old = a .old .now in
+    let new = a .new .now in
+    of-both (ListsKept catalogue old new)
+    (left-is (a .before .now) (listCall catalogue old (a .before .now)) (o .fit-list .ensures))
+    (left-is (a .after .now) (listCall catalogue new (a .after .now)) (n .fit-list2 .ensures))
+    (list-kept catalogue old new (a .before .now) (a .after .now) (b .bytes .ensures))
+
+pub lists-spec : {M : Type 1} → statement M
+lists-spec = tie.close (tie.spec bytes-requires fit-list-requires fit-list-requires-2 same-length same-length-2 returns)

@@ -1,0 +1,36 @@
+-- `two_fits::skills` meets its contract: the two contracts of the skill call, and the promise on what they leave.
+use Rattle.fitcheck.specs.Calls.{skillCall}
+use Rattle.promises.proofs.Comparing.{skills-kept}
+use Rattle.two_fits.specs.Kept.{SkillsKept}
+use Rattle.two_fits.proofs.Left.{left-is, of-both}
+use borrow.Author.Needs.{needs}
+use Rattle.two_fits.proofs.skills.Statement.{statement}
+use Rattle.two_fits.proofs.skills.Tie as tie
+
+fit-skill-requires : tie.Need-fit-skill-requires
+fit-skill-requires c κs = search needs
+
+fit-skill-requires-2 : tie.Need-fit-skill-requires-2
+fit-skill-requires-2 c κs = search needs
+
+same-length : tie.Need-same-length
+same-length c = search needs
+
+same-length-2 : tie.Need-same-length-2
+same-length-2 c = search needs
+
+returns : tie.Need-returns
+returns c =
+    let n = c .before .before in
+    let o = n .before .before .before .before in
+    let a = o .before .before .before .before .before .before .before .args in
+    let catalogue = a .catalogue .now in
+    let old = a .old .now in
+    let new = a .new .now in
+    of-both (SkillsKept old new)
+    (left-is (a .before .now) (skillCall catalogue old (a .result) (a .before .now)) (o .fit-skill .ensures))
+    (left-is (a .after .now) (skillCall catalogue new (a .result) (a .after .now)) (n .fit-skill2 .ensures))
+    (skills-kept catalogue old new (a .before .now) (a .after .now) (a .result))
+
+pub skills-spec : {M : Type 1} → statement M
+skills-spec = tie.close (tie.spec fit-skill-requires fit-skill-requires-2 same-length same-length-2 returns)

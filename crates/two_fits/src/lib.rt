@@ -1,0 +1,58 @@
+// Demand 3 of the two calls as they are exported: an old and a new call, each with its own buffer, and what their contracts say of both.
+// Document 01, "Two fits compared".
+ghost use mathlib.Core.Path.{_≡_};
+ghost use Prim.Native.Nat.{ℕ, _<_, _≤_};
+ghost use lib.ListN.{getD};
+ghost use Rattle.promises.specs.Compare.{Bytes};
+ghost use Rattle.two_fits.specs.Kept.{left, ListsKept, SkillsKept};
+
+// The words of an old and of a new call.
+pub struct Words {
+    pub old: u64,
+    pub new: u64,
+}
+
+// A byte is below 256.
+fn wide(x: u8) -> u32
+    ensures { λ r. ⌜ (r ≡ x) × (r < 256) ⌝ }
+{
+    x as u32
+}
+
+// What a slice holds are bytes; each is looked at, so that this is proved of it. How many there are.
+fn bytes(b: &[u8]) -> usize
+    ensures { λ r. ⌜ Bytes (now (b .entry)) ⌝ }
+{
+    let mut i: usize = 0;
+    while i < b.len() {
+        let _ = wide(b[i]);
+        i += 1;
+    }
+    i
+}
+
+// Two list calls. Where both are answered, no entry of the old list vanishes.
+pub fn lists(catalogue: &[u8], old: &[u8], new: &[u8], before: &mut [u8], after: &mut [u8]) -> Words
+    ensures { λ r. ⌜ ListsKept (now (catalogue .entry)) (now (old .entry)) (now (new .entry)) (left (r .old) (now (before .exit))) (left (r .new) (now (after .exit))) ⌝ }
+{
+    let _ = bytes(new);
+    let a = fitcheck::fit_list(catalogue, old, before);
+    let b = fitcheck::fit_list(catalogue, new, after);
+    Words { old: a, new: b }
+}
+
+// Two skill calls for one result. Where both are answered, no entry of the old list vanishes.
+pub fn skills(
+    catalogue: &[u8],
+    old: &[u8],
+    new: &[u8],
+    result: u32,
+    before: &mut [u8],
+    after: &mut [u8],
+) -> Words
+    ensures { λ r. ⌜ SkillsKept (now (old .entry)) (now (new .entry)) (left (r .old) (now (before .exit))) (left (r .new) (now (after .exit))) ⌝ }
+{
+    let a = fitcheck::fit_skill(catalogue, old, result, before);
+    let b = fitcheck::fit_skill(catalogue, new, result, after);
+    Words { old: a, new: b }
+}

@@ -1,0 +1,101 @@
+//! Finds `libfitcheck.a`, the proved library, or has `rt` build it; without it
+//! this crate cannot be built, and the message says what to do.
+
+#![forbid(unsafe_code)]
+
+#[path = "../library.rs"]
+mod library;
+
+use std::io::ErrorKind;
+use std::path::PathBuf;
+use std::process::Command;
+
+use library::LIBRARY;
+
+fn main() {
+    println!("cargo:rerun-if-changed=build.rs");
+    println!("cargo:rerun-if-changed=../library.rs");
+    match directory() {
+        Ok(directory) => library::link(&directory),
+        Err(message) => message
+            .lines()
+            .for_each(|line| println!("cargo::error={line}")),
+    }
+}
+
+/// The directory that has the library, or why there is none.
+fn directory() -> Result<PathBuf, String> {
+    if !library::is_for_this_target() {
+        return Err(format!(
+            "{LIBRARY} is for x86-64, and this build is for another target."
+        ));
+    }
+    if let Some(named) = library::named() {
+        if library::is_in(&named) {
+            return Ok(named);
+        }
+        return Err(format!(
+            "FITCHECK_LIB_DIR is {}, and there is no {LIBRARY} in it.\n\
+             Build it by `rt staticlib fitcheck` at the repository root and name the directory \
+             that has it, or take FITCHECK_LIB_DIR away: target/staticlib is looked at by itself.",
+            named.display()
+        ));
+    }
+    let built = library::built();
+    if library::is_in(&built) {
+        return Ok(built);
+    }
+    build()?;
+    if library::is_in(&built) {
+        return Ok(built);
+    }
+    Err(format!(
+        "`rt staticlib fitcheck` ended well and left no {LIBRARY} in the repository's \
+         target/staticlib."
+    ))
+}
+
+/// Has `rt` prove and build the library, which takes minutes from nothing.
+fn build() -> Result<(), String> {
+    let root = library::root();
+    let missing = format!(
+        "no {LIBRARY}, the proved fit checker, in the repository's target/staticlib, and \
+         FITCHECK_LIB_DIR names no directory."
+    );
+    if !root.join("crates.txt").is_file() {
+        return Err(format!(
+            "{missing}\n\
+             This crate stands outside its repository, so it cannot build the library itself: run \
+             `rt staticlib fitcheck` in the repository and set FITCHECK_LIB_DIR to the directory \
+             that has it."
+        ));
+    }
+    let run = Command::new("rt")
+        .args(["staticlib", "fitcheck"])
+        .current_dir(&root)
+        .output();
+    match run {
+        Ok(run) if run.status.success() => Ok(()),
+        Ok(run) => {
+            let said = [run.stdout, run.stderr].concat();
+            let said = String::from_utf8_lossy(&said);
+            let lines: Vec<&str> = said.lines().collect();
+            let last = &lines[lines.len().saturating_sub(10)..];
+            Err(format!(
+                "{missing}\n\
+                 `rt staticlib fitcheck` was run to build it and failed ({}). Its last lines:\n{}",
+                run.status,
+                last.join("\n")
+            ))
+        }
+        Err(error) if error.kind() == ErrorKind::NotFound => Err(format!(
+            "{missing}\n\
+             Install the Rattle kit, which puts `rt` on the PATH, and build again (this build then \
+             runs `rt staticlib fitcheck` itself); or set FITCHECK_LIB_DIR to a directory that \
+             has {LIBRARY}."
+        )),
+        Err(error) => Err(format!(
+            "{missing}\n`rt staticlib fitcheck` could not be run to build it: {error}."
+        )),
+    }
+}

@@ -1,0 +1,174 @@
+//! A catalogue of a few types, two fits of a Rifter, and what is wrong with
+//! them in sentences.
+//!
+//! With a folder behind it, `cargo run --example rifter -- FOLDER`, it also
+//! writes the catalogue, the names and the fits there, for the command
+//! `fitcheck` to read.
+
+#![forbid(unsafe_code)]
+
+use std::error::Error;
+use std::path::Path;
+use std::{env, fs};
+
+use fitcheck::{
+    Attribute, BuildError, CatalogueBuilder, Explainer, FitBuilder, FitItem, ItemResult, Mark,
+    Names, Slot, State,
+};
+
+const NAMES: &str = "\
+# Types by their id; a group has the word before it.
+587 Rifter
+484 125mm Gatling AutoCannon I
+2048 Damage Control II
+3300 Gunnery
+3302 Small Projectile Turret
+3329 Minmatar Frigate
+3394 Hull Upgrades
+group 60 Damage Control
+";
+
+const RIFTER: i32 = 587;
+const AUTOCANNON: i32 = 484;
+const DAMAGE_CONTROL: i32 = 2048;
+const GUNNERY: i32 = 3300;
+const SMALL_PROJECTILE_TURRET: i32 = 3302;
+const MINMATAR_FRIGATE: i32 = 3329;
+const HULL_UPGRADES: i32 = 3394;
+
+// Attribute ids of the type data.
+const POWER_OUTPUT: i32 = 11;
+const LOW_SLOTS: i32 = 12;
+const HI_SLOTS: i32 = 14;
+const POWER_LOAD: i32 = 15;
+const CPU_OUTPUT: i32 = 48;
+const CPU_LOAD: i32 = 49;
+const TURRETS: i32 = 102;
+const REQUIRED_SKILL: i32 = 182;
+const REQUIRED_LEVEL: i32 = 277;
+const MAX_GROUP_FITTED: i32 = 1544;
+
+/// What the rules have to know of the type data.
+fn catalogue() -> Result<Vec<u8>, BuildError> {
+    let mut catalogue = CatalogueBuilder::new();
+    for (name, attribute_id) in [
+        (Attribute::PowerOutput, POWER_OUTPUT),
+        (Attribute::PowerLoad, POWER_LOAD),
+        (Attribute::CpuOutput, CPU_OUTPUT),
+        (Attribute::CpuLoad, CPU_LOAD),
+        (Attribute::LowSlots, LOW_SLOTS),
+        (Attribute::HiSlots, HI_SLOTS),
+        (Attribute::TurretSlotsLeft, TURRETS),
+        (Attribute::RequiredSkill1, REQUIRED_SKILL),
+        (Attribute::RequiredSkill1Level, REQUIRED_LEVEL),
+        (Attribute::MaxGroupFitted, MAX_GROUP_FITTED),
+    ] {
+        catalogue.name(name, attribute_id);
+    }
+    for (effect_id, name) in [(11, "loPower"), (12, "hiPower"), (42, "turretFitted")] {
+        catalogue.effect(effect_id, Mark::of_effect(name));
+    }
+    // Type, group, category, volume.
+    catalogue
+        .type_info(RIFTER, 25, 6, Some(27_289.0))
+        .type_info(AUTOCANNON, 55, 7, Some(5.0))
+        .type_info(DAMAGE_CONTROL, 60, 7, Some(5.0));
+    for skill in [
+        GUNNERY,
+        SMALL_PROJECTILE_TURRET,
+        MINMATAR_FRIGATE,
+        HULL_UPGRADES,
+    ] {
+        catalogue.type_info(skill, 255, 16, Some(0.01));
+    }
+    catalogue
+        .link(AUTOCANNON, 12)
+        .link(AUTOCANNON, 42)
+        .link(DAMAGE_CONTROL, 11)
+        // One skill asks for another.
+        .base(SMALL_PROJECTILE_TURRET, REQUIRED_SKILL, GUNNERY as f32)
+        .base(SMALL_PROJECTILE_TURRET, REQUIRED_LEVEL, 1.0);
+    catalogue.build()
+}
+
+/// A Rifter with three guns and as many damage controls as asked for. The
+/// loads are what a calculation of the fit would give.
+fn rifter(damage_controls: u8) -> Result<Vec<u8>, BuildError> {
+    let wanting = |state: State, skill: i32, level: f64| {
+        ItemResult::new(state)
+            .with(REQUIRED_SKILL, f64::from(skill))
+            .with(REQUIRED_LEVEL, level)
+    };
+    let mut fit = FitBuilder::new(RIFTER);
+    fit.skill(MINMATAR_FRIGATE, 3)
+        .skill(GUNNERY, 1)
+        .skill(HULL_UPGRADES, 4)
+        .ship(
+            wanting(State::Online, MINMATAR_FRIGATE, 1.0)
+                .with(POWER_OUTPUT, 41.0)
+                .with(POWER_LOAD, 3.0 + f64::from(damage_controls))
+                .with(CPU_OUTPUT, 130.0)
+                .with(CPU_LOAD, 12.6 + 60.0 * f64::from(damage_controls))
+                .with(HI_SLOTS, 4.0)
+                .with(LOW_SLOTS, 4.0)
+                .with(TURRETS, 3.0),
+        );
+    for slot in 0..3 {
+        fit.item(
+            FitItem::new(AUTOCANNON, Slot::High(slot)),
+            wanting(State::Active, SMALL_PROJECTILE_TURRET, 1.0),
+        );
+    }
+    for _ in 0..damage_controls {
+        fit.item(
+            FitItem::new(DAMAGE_CONTROL, Slot::Low(0)),
+            wanting(State::Online, HULL_UPGRADES, 4.0).with(MAX_GROUP_FITTED, 1.0),
+        );
+    }
+    fit.build()
+}
+
+/// The catalogue, the names, the fits, and one that was cut short on its way.
+pub fn write(folder: &Path) -> Result<(), Box<dyn Error>> {
+    let fits = folder.join("fits");
+    fs::create_dir_all(&fits)?;
+    fs::write(folder.join("types.bin"), catalogue()?)?;
+    fs::write(folder.join("names.txt"), NAMES)?;
+    fs::write(fits.join("one.fit"), rifter(1)?)?;
+    fs::write(fits.join("two.fit"), rifter(2)?)?;
+    fs::write(fits.join("cut.fit"), &rifter(1)?[..100])?;
+    Ok(())
+}
+
+/// What is wrong with each fit, and how many are clear to fly.
+pub fn say() -> Result<String, Box<dyn Error>> {
+    let catalogue = catalogue()?;
+    let names = Names::parse(NAMES)?;
+    let fits = [rifter(1)?, rifter(2)?];
+    let mut text = String::new();
+    for (fit, with) in fits
+        .iter()
+        .zip(["one damage control", "two damage controls"])
+    {
+        text += &format!("with {with}:\n");
+        let explainer = Explainer::new(fit, &names);
+        for entry in fitcheck::list(&catalogue, fit)? {
+            text += &format!("  {}\n", explainer.explain(&entry));
+        }
+        // Result 2 is the first item's.
+        for entry in fitcheck::skills(&catalogue, fit, 2)? {
+            text += &format!("  {}\n", explainer.explain_skill(2, &entry));
+        }
+    }
+    let hall = fitcheck::hall(&catalogue, &fits)?;
+    text += &format!("{} of {} clear to fly\n", hall.clear, fits.len());
+    Ok(text)
+}
+
+fn main() -> Result<(), Box<dyn Error>> {
+    print!("{}", say()?);
+    match env::args_os().nth(1) {
+        Some(folder) => write(Path::new(&folder)),
+        None => Ok(()),
+    }
+}

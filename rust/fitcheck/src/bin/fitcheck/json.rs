@@ -1,0 +1,242 @@
+//! JSON for other programs: entries as the original writes its violations,
+//! with the sentence beside them.
+
+use std::fmt::{self, Display, Formatter, Write};
+
+use fitcheck::{Entry, Refusal, Rule, Target};
+
+/// A JSON value.
+pub enum Json {
+    Integer(i64),
+    Double(f64),
+    Text(String),
+    List(Vec<Json>),
+    Object(Vec<(&'static str, Json)>),
+}
+
+impl Json {
+    pub fn text(text: impl Into<String>) -> Json {
+        Json::Text(text.into())
+    }
+
+    pub fn count(count: usize) -> Json {
+        // No list is anywhere near so long.
+        Json::Integer(i64::try_from(count).unwrap_or(i64::MAX))
+    }
+}
+
+/// On one line.
+impl Display for Json {
+    fn fmt(&self, formatter: &mut Formatter<'_>) -> fmt::Result {
+        match self {
+            Json::Integer(number) => write!(formatter, "{number}"),
+            Json::Double(number) => double(formatter, *number),
+            Json::Text(text) => quoted(formatter, text),
+            Json::List(values) => {
+                formatter.write_char('[')?;
+                for (number, value) in values.iter().enumerate() {
+                    separated(formatter, number)?;
+                    write!(formatter, "{value}")?;
+                }
+                formatter.write_char(']')
+            }
+            Json::Object(fields) => {
+                formatter.write_char('{')?;
+                for (number, (name, value)) in fields.iter().enumerate() {
+                    separated(formatter, number)?;
+                    quoted(formatter, name)?;
+                    write!(formatter, ":{value}")?;
+                }
+                formatter.write_char('}')
+            }
+        }
+    }
+}
+
+fn separated(formatter: &mut Formatter<'_>, number: usize) -> fmt::Result {
+    match number {
+        0 => Ok(()),
+        _ => formatter.write_char(','),
+    }
+}
+
+/// The shortest text that reads as this number. JSON has no NaN and no
+/// infinity; they become strings that JavaScript's `Number` reads.
+fn double(formatter: &mut Formatter<'_>, number: f64) -> fmt::Result {
+    if number.is_nan() {
+        formatter.write_str("\"NaN\"")
+    } else if number == f64::INFINITY {
+        formatter.write_str("\"Infinity\"")
+    } else if number == f64::NEG_INFINITY {
+        formatter.write_str("\"-Infinity\"")
+    } else {
+        write!(formatter, "{number:?}")
+    }
+}
+
+fn quoted(formatter: &mut Formatter<'_>, text: &str) -> fmt::Result {
+    formatter.write_char('"')?;
+    for character in text.chars() {
+        match character {
+            '"' => formatter.write_str("\\\"")?,
+            '\\' => formatter.write_str("\\\\")?,
+            '\n' => formatter.write_str("\\n")?,
+            '\r' => formatter.write_str("\\r")?,
+            '\t' => formatter.write_str("\\t")?,
+            '\u{0}'..='\u{1F}' => write!(formatter, "\\u{:04x}", u32::from(character))?,
+            _ => formatter.write_char(character)?,
+        }
+    }
+    formatter.write_char('"')
+}
+
+/// A refusal by number and sentence.
+pub fn refusal(refusal: Refusal) -> Json {
+    Json::Object(vec![
+        ("number", Json::Integer(refusal.number().into())),
+        ("reason", Json::text(refusal.to_string())),
+    ])
+}
+
+/// An entry: target and rule as the original writes them, and the sentence.
+pub fn entry(entry: &Entry, sentence: String) -> Json {
+    Json::Object(vec![
+        ("target", target(entry.target)),
+        ("rule", rule(&entry.rule)),
+        ("sentence", Json::Text(sentence)),
+    ])
+}
+
+fn target(target: Target) -> Json {
+    Json::Object(match target {
+        Target::Ship => vec![("type", Json::text("ship"))],
+        Target::Item { index } => {
+            vec![("type", Json::text("item")), ("index", Json::count(index))]
+        }
+        Target::Unknown { target, index } => vec![
+            ("type", Json::text("unknown")),
+            ("target", Json::Integer(target.into())),
+            ("index", Json::Integer(index.into())),
+        ],
+    })
+}
+
+fn rule(rule: &Rule) -> Json {
+    let mut fields = vec![("type", Json::text(rule.name()))];
+    fields.extend(match *rule {
+        Rule::Resource {
+            resource,
+            used,
+            available,
+        } => vec![
+            ("resource", Json::text(resource.name())),
+            ("used", Json::Double(used)),
+            ("available", Json::Double(available)),
+        ],
+        Rule::Slots {
+            slot,
+            used,
+            available,
+        } => vec![
+            ("slot", Json::text(slot.name())),
+            ("used", Json::Integer(used.into())),
+            ("available", Json::Integer(available.into())),
+        ],
+        Rule::WrongSlot { expected } => vec![("expected", Json::text(expected.name()))],
+        Rule::WrongSlotIndex { expected } => vec![("expected", Json::Integer(expected.into()))],
+        Rule::Skill {
+            type_id,
+            required,
+            level,
+        } => vec![
+            ("type_id", Json::Integer(type_id.into())),
+            ("required", Json::Integer(required.into())),
+            ("level", Json::Integer(level.into())),
+        ],
+        Rule::RigSize { ship, item } => vec![
+            ("ship", Json::Integer(ship.into())),
+            ("item", Json::Integer(item.into())),
+        ],
+        Rule::MaxGroup {
+            group_id,
+            limit,
+            used,
+            allowed,
+        } => vec![
+            ("group_id", Json::Integer(group_id.into())),
+            ("limit", Json::text(limit.name())),
+            ("used", Json::Integer(used.into())),
+            ("allowed", Json::Integer(allowed.into())),
+        ],
+        Rule::MaxType {
+            type_id,
+            used,
+            allowed,
+        } => vec![
+            ("type_id", Json::Integer(type_id.into())),
+            ("used", Json::Integer(used.into())),
+            ("allowed", Json::Integer(allowed.into())),
+        ],
+        Rule::NotASkill { type_id } => vec![("type_id", Json::Integer(type_id.into()))],
+        Rule::Unknown {
+            rule,
+            sub,
+            zero,
+            words,
+        } => vec![
+            ("rule", Json::Integer(rule.into())),
+            ("sub", Json::Integer(sub.into())),
+            ("zero", Json::Integer(zero.into())),
+            (
+                "words",
+                Json::List(words.map(|word| Json::Integer(word.into())).into()),
+            ),
+        ],
+        // The others have no fields.
+        _ => Vec::new(),
+    });
+    Json::Object(fields)
+}
+
+#[cfg(test)]
+mod tests {
+    use super::*;
+
+    /// RFC 8259, section 7: quotation mark, reverse solidus and U+0000 to
+    /// U+001F are escaped, and nothing else has to be.
+    #[test]
+    fn text_is_escaped() {
+        let text = "a\"b\\c\n\r\t\u{0}\u{1F}\u{7F}é\u{2028}";
+        assert_eq!(
+            Json::text(text).to_string(),
+            "\"a\\\"b\\\\c\\n\\r\\t\\u0000\\u001f\u{7F}é\u{2028}\""
+        );
+    }
+
+    /// RFC 8259, section 6: no infinity and no NaN; a fraction and an exponent
+    /// have a digit before them.
+    #[test]
+    fn numbers_are_jsons() {
+        let shown = |number: f64| Json::Double(number).to_string();
+        assert_eq!(shown(512.5), "512.5");
+        assert_eq!(shown(500.0), "500.0");
+        assert_eq!(shown(-0.0), "-0.0");
+        assert_eq!(shown(1e300), "1e300");
+        assert_eq!(shown(5e-324), "5e-324");
+        assert_eq!(shown(f64::NAN), "\"NaN\"");
+        assert_eq!(shown(f64::INFINITY), "\"Infinity\"");
+        assert_eq!(shown(f64::NEG_INFINITY), "\"-Infinity\"");
+    }
+
+    #[test]
+    fn lists_and_objects_nest() {
+        let value = Json::Object(vec![
+            ("none", Json::List(Vec::new())),
+            (
+                "two",
+                Json::List(vec![Json::Integer(-1), Json::Object(vec![])]),
+            ),
+        ]);
+        assert_eq!(value.to_string(), "{\"none\":[],\"two\":[-1,{}]}");
+    }
+}

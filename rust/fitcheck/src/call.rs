@@ -1,0 +1,416 @@
+//! The three calls over slices.
+
+use crate::{
+    ENTRY_BYTES, Entry, FIT_BYTES, FITS_PER_CALL, MOST_ENTRIES, MOST_SKILLS, Refusal, ffi,
+};
+
+/// How many entries the first try has room for; few fits break more rules.
+const FIRST_ROOM: usize = 64;
+
+/// Where growing stops: far beyond [`MOST_ENTRIES`], which is never passed.
+const LAST_ROOM: usize = 1 << 20;
+
+/// Every rule that the fit breaks, in the order of the original's `validate`.
+/// An empty list means that the fit is clear to fly.
+///
+/// The catalogue is the type data, the fit the ship with its items and
+/// results, both in the bytes of document 01; see [`CatalogueBuilder`] and
+/// [`FitBuilder`]. Any bytes are answered or refused.
+///
+/// [`CatalogueBuilder`]: crate::CatalogueBuilder
+/// [`FitBuilder`]: crate::FitBuilder
+///
+/// # Errors
+///
+/// The refusal that document 01's order picks, of 1 to 7. The buffer grows by
+/// itself, so it is never [`Refusal::BufferLength`].
+///
+/// ```
+/// use fitcheck::{Entry, Refusal, Rule, Target};
+///
+/// // No type is known, so the ship is no hull.
+/// let entries = fitcheck::list(&[0; 20], &[0; 36])?;
+/// assert_eq!(entries, [Entry { target: Target::Ship, rule: Rule::NotAHull }]);
+///
+/// assert_eq!(fitcheck::list(&[0; 20], &[0; 35]), Err(Refusal::FitLength));
+/// # Ok::<(), Refusal>(())
+/// ```
+pub fn list(catalogue: &[u8], fit: &[u8]) -> Result<Vec<Entry>, Refusal> {
+    grown(FIRST_ROOM, MOST_ENTRIES, |room| {
+        ffi::list(catalogue, fit, room)
+    })
+    .map(|bytes| decoded(&bytes))
+}
+
+/// As [`list`], into the caller's buffer, without any allocation. The entries
+/// stand from its beginning; nothing else of it is changed, and nothing at all
+/// where the call is refused.
+///
+/// [`MOST_ENTRIES`] times [`ENTRY_BYTES`] bytes are enough for every fit.
+///
+/// # Errors
+///
+/// As [`list`], and [`Refusal::BufferLength`] where the entries do not fit.
+///
+/// ```
+/// use fitcheck::{Entry, Refusal, Rule};
+///
+/// let mut buffer = [0; 48];
+/// let entries = fitcheck::list_into(&[0; 20], &[0; 36], &mut buffer)?;
+/// assert_eq!(entries.len(), 1);
+/// assert_eq!(Entry::from_bytes(&entries[0]).rule, Rule::NotAHull);
+///
+/// let short = fitcheck::list_into(&[0; 20], &[0; 36], &mut buffer[..23]);
+/// assert_eq!(short, Err(Refusal::BufferLength));
+/// # Ok::<(), Refusal>(())
+/// ```
+pub fn list_into<'a>(
+    catalogue: &[u8],
+    fit: &[u8],
+    buffer: &'a mut [u8],
+) -> Result<&'a [[u8; ENTRY_BYTES]], Refusal> {
+    let word = ffi::list(catalogue, fit, buffer);
+    written(word, buffer)
+}
+
+/// The skills that one result wants and the character lacks, in the order in
+/// which they are met, each an [`Entry`] with [`Rule::Skill`].
+///
+/// Result 0 is the ship's, 1 the character's, 2 the first item's, and so on.
+///
+/// [`Rule::Skill`]: crate::Rule::Skill
+///
+/// # Errors
+///
+/// The refusal that document 01's order picks, of 1 to 6, 8
+/// ([`Refusal::NoSuchResult`]) and 9 ([`Refusal::WantedSkills`]).
+///
+/// ```
+/// use fitcheck::{
+///     Attribute, CatalogueBuilder, FitBuilder, ItemResult, Refusal, Rule, State,
+/// };
+///
+/// // Attribute 182 names a skill and 277 its level; the ship asks for skill
+/// // 3329 at level 2, and it is trained to 1.
+/// let catalogue = CatalogueBuilder::new()
+///     .name(Attribute::RequiredSkill1, 182)
+///     .name(Attribute::RequiredSkill1Level, 277)
+///     .build()?;
+/// let fit = FitBuilder::new(587)
+///     .skill(3329, 1)
+///     .ship(ItemResult::new(State::Online).with(182, 3329.0).with(277, 2.0))
+///     .build()?;
+///
+/// let lacking = fitcheck::skills(&catalogue, &fit, 0)?;
+/// assert_eq!(lacking.len(), 1);
+/// assert_eq!(lacking[0].rule, Rule::Skill { type_id: 3329, required: 2, level: 1 });
+/// assert_eq!(fitcheck::skills(&catalogue, &fit, 1)?, []);
+/// assert_eq!(fitcheck::skills(&catalogue, &fit, 2), Err(Refusal::NoSuchResult));
+/// # Ok::<(), Box<dyn std::error::Error>>(())
+/// ```
+pub fn skills(catalogue: &[u8], fit: &[u8], result: u32) -> Result<Vec<Entry>, Refusal> {
+    grown(FIRST_ROOM, MOST_SKILLS, |room| {
+        ffi::skill(catalogue, fit, result, room)
+    })
+    .map(|bytes| decoded(&bytes))
+}
+
+/// As [`skills`], into the caller's buffer; see [`list_into`].
+/// [`MOST_SKILLS`] times [`ENTRY_BYTES`] bytes are enough for every result.
+///
+/// # Errors
+///
+/// As [`skills`], and [`Refusal::BufferLength`] where the entries do not fit.
+///
+/// ```
+/// let mut buffer = [0; fitcheck::MOST_SKILLS * fitcheck::ENTRY_BYTES];
+/// let entries = fitcheck::skills_into(&[0; 20], &[0; 36], 0, &mut buffer)?;
+/// assert!(entries.is_empty());
+/// # Ok::<(), fitcheck::Refusal>(())
+/// ```
+pub fn skills_into<'a>(
+    catalogue: &[u8],
+    fit: &[u8],
+    result: u32,
+    buffer: &'a mut [u8],
+) -> Result<&'a [[u8; ENTRY_BYTES]], Refusal> {
+    let word = ffi::skill(catalogue, fit, result, buffer);
+    written(word, buffer)
+}
+
+/// How many fits are clear to fly, faulted and refused; see [`hall`].
+#[derive(Debug, Clone, Copy, Default, PartialEq, Eq)]
+pub struct Hall {
+    /// Fits whose list is empty.
+    pub clear: usize,
+    /// Fits whose list has entries.
+    pub faulted: usize,
+    /// Fits that are refused, by 4 to 7.
+    pub refused: usize,
+}
+
+/// How many of the fits are clear to fly, faulted and refused. The three
+/// numbers add up to the number of fits.
+///
+/// The library takes 64 fits in a call; more are split into calls of 64 and
+/// the numbers added up. With no fits the catalogue is judged all the same.
+///
+/// # Errors
+///
+/// The catalogue's refusal, 1 to 3. A refused fit is counted, not an error.
+///
+/// ```
+/// use fitcheck::{Hall, Refusal};
+///
+/// let fits = [[0; 36].as_slice(), &[0; 35]];
+/// let hall = fitcheck::hall(&[0; 20], &fits)?;
+/// assert_eq!(hall, Hall { clear: 0, faulted: 1, refused: 1 });
+/// # Ok::<(), Refusal>(())
+/// ```
+pub fn hall<F: AsRef<[u8]>>(catalogue: &[u8], fits: &[F]) -> Result<Hall, Refusal> {
+    let mut sum = Hall::default();
+    let mut rest = fits;
+    loop {
+        let (now, later) = rest.split_at(rest.len().min(FITS_PER_CALL));
+        let part = counted(ffi::hall(catalogue, &hall_input(now)), now.len())?;
+        sum.clear += part.clear;
+        sum.faulted += part.faulted;
+        sum.refused += part.refused;
+        rest = later;
+        if rest.is_empty() {
+            return Ok(sum);
+        }
+    }
+}
+
+/// What became of one fit; see [`verdicts`].
+#[derive(Debug, Clone, Copy, PartialEq, Eq)]
+pub enum Verdict {
+    /// It breaks no rule.
+    Clear,
+    /// It breaks rules.
+    Faulted {
+        /// How many entries its list has.
+        entries: usize,
+    },
+    /// It is no fit, for this reason: 4 to 7.
+    Refused(Refusal),
+}
+
+/// What became of each fit, in their order: [`hall`] one by one.
+///
+/// # Errors
+///
+/// The catalogue's refusal, 1 to 3, whatever the fits.
+///
+/// ```
+/// use fitcheck::{Refusal, Verdict};
+///
+/// let fits = [[0; 36].as_slice(), &[0; 35]];
+/// let verdicts = fitcheck::verdicts(&[0; 20], &fits)?;
+/// assert_eq!(verdicts[0], Verdict::Faulted { entries: 1 });
+/// assert_eq!(verdicts[1], Verdict::Refused(Refusal::FitLength));
+/// # Ok::<(), Refusal>(())
+/// ```
+pub fn verdicts<F: AsRef<[u8]>>(catalogue: &[u8], fits: &[F]) -> Result<Vec<Verdict>, Refusal> {
+    let none: [&[u8]; 0] = [];
+    hall(catalogue, &none)?;
+    fits.iter()
+        .map(|fit| {
+            let listed = grown(FIRST_ROOM, MOST_ENTRIES, |room| {
+                ffi::list(catalogue, fit.as_ref(), room)
+            });
+            match listed {
+                Ok(bytes) if bytes.is_empty() => Ok(Verdict::Clear),
+                Ok(bytes) => Ok(Verdict::Faulted {
+                    entries: bytes.len() / ENTRY_BYTES,
+                }),
+                Err(
+                    refusal @ (Refusal::FitLength
+                    | Refusal::FitOrder
+                    | Refusal::FitField
+                    | Refusal::LaunchedDrones),
+                ) => Ok(Verdict::Refused(refusal)),
+                Err(other) => Err(other),
+            }
+        })
+        .collect()
+}
+
+/// The entries' bytes of a call whose buffer grows where 10 comes: first a
+/// small one, then one that is always enough, and should even that be refused,
+/// doubled until there is no sense in it.
+fn grown(
+    first: usize,
+    enough: usize,
+    mut call: impl FnMut(&mut [u8]) -> u64,
+) -> Result<Vec<u8>, Refusal> {
+    let mut entries = first.min(enough);
+    loop {
+        let mut buffer = vec![0; ENTRY_BYTES * entries];
+        let word = call(&mut buffer);
+        match written(word, &buffer).map(<[_]>::len) {
+            Ok(count) => {
+                buffer.truncate(ENTRY_BYTES * count);
+                return Ok(buffer);
+            }
+            Err(Refusal::BufferLength) if entries < LAST_ROOM => {
+                entries = if entries < enough {
+                    enough
+                } else {
+                    2 * entries
+                };
+            }
+            Err(refusal) => return Err(refusal),
+        }
+    }
+}
+
+/// The entries that a call wrote, or its refusal. A count beyond the buffer is
+/// not believed.
+fn written(word: u64, buffer: &[u8]) -> Result<&[[u8; ENTRY_BYTES]], Refusal> {
+    let count = Refusal::or_count(word)? as usize;
+    let (room, _) = buffer.as_chunks();
+    room.get(..count).ok_or(Refusal::Unexpected { word })
+}
+
+fn decoded(bytes: &[u8]) -> Vec<Entry> {
+    let (entries, _) = bytes.as_chunks();
+    entries.iter().map(Entry::from_bytes).collect()
+}
+
+/// The input of a hall call: the number of fits, their lengths, and the fits
+/// end to end.
+fn hall_input<F: AsRef<[u8]>>(fits: &[F]) -> Vec<u8> {
+    let fits: Vec<&[u8]> = fits
+        .iter()
+        .map(F::as_ref)
+        // A longer one passes a limit or is unlike its sizes, so it is refused
+        // by 4 whatever it holds. So is the empty one, which takes its place:
+        // every length then goes into 32 bits.
+        .map(|fit| if fit.len() > FIT_BYTES { &[] } else { fit })
+        .collect();
+    let mut input = Vec::new();
+    input.extend((fits.len() as u32).to_le_bytes());
+    for fit in &fits {
+        input.extend((fit.len() as u32).to_le_bytes());
+    }
+    for fit in &fits {
+        input.extend_from_slice(fit);
+    }
+    input
+}
+
+/// The numbers in a hall call's word; they must add up to the number of fits.
+fn counted(word: u64, fits: usize) -> Result<Hall, Refusal> {
+    let count = Refusal::or_count(word)? as usize;
+    let hall = Hall {
+        clear: count % 256,
+        faulted: count / 256 % 256,
+        refused: count / 65_536,
+    };
+    if hall.clear + hall.faulted + hall.refused == fits {
+        Ok(hall)
+    } else {
+        Err(Refusal::Unexpected { word })
+    }
+}
+
+#[cfg(test)]
+mod tests {
+    use super::*;
+
+    const REFUSED_10: u64 = 10 << 32;
+
+    /// A call that lists so many entries, each of them all ones.
+    fn listing(count: usize) -> impl FnMut(&mut [u8]) -> u64 {
+        move |room| match room.get_mut(..ENTRY_BYTES * count) {
+            Some(entries) => {
+                entries.fill(1);
+                count as u64
+            }
+            None => REFUSED_10,
+        }
+    }
+
+    #[test]
+    fn the_buffer_grows_until_the_list_fits() {
+        for count in [0, 1, 64, 65, 512, 5_141, 5_142, 20_000] {
+            let bytes = grown(FIRST_ROOM, MOST_ENTRIES, listing(count)).unwrap();
+            assert_eq!(bytes, vec![1; ENTRY_BYTES * count], "{count} entries");
+        }
+    }
+
+    #[test]
+    fn a_list_of_the_greatest_length_takes_two_calls() {
+        let mut calls = 0;
+        let mut list = listing(MOST_ENTRIES);
+        let bytes = grown(FIRST_ROOM, MOST_ENTRIES, |room| {
+            calls += 1;
+            list(room)
+        });
+        assert_eq!(bytes.unwrap().len(), ENTRY_BYTES * MOST_ENTRIES);
+        assert_eq!(calls, 2);
+    }
+
+    #[test]
+    fn growing_ends() {
+        let refused = grown(FIRST_ROOM, MOST_ENTRIES, |_| REFUSED_10);
+        assert_eq!(refused, Err(Refusal::BufferLength));
+    }
+
+    #[test]
+    fn other_refusals_are_not_tried_again() {
+        let mut calls = 0;
+        let refused = grown(FIRST_ROOM, MOST_ENTRIES, |_| {
+            calls += 1;
+            7 << 32
+        });
+        assert_eq!(refused, Err(Refusal::LaunchedDrones));
+        assert_eq!(calls, 1);
+    }
+
+    #[test]
+    fn a_count_beyond_the_buffer_is_not_believed() {
+        assert_eq!(written(1, &[0; 23]), Err(Refusal::Unexpected { word: 1 }));
+        let word = u64::from(u32::MAX);
+        assert_eq!(written(word, &[0; 48]), Err(Refusal::Unexpected { word }));
+        assert_eq!(written(2, &[7; 49]), Ok([[7; 24]; 2].as_slice()));
+        assert_eq!(written(0, &[]), Ok([].as_slice()));
+    }
+
+    /// Document 01: "u32 K, K lengths (u32), then K fits end to end".
+    #[test]
+    fn a_hall_input_is_laid_out_as_document_01_says() {
+        let none: [&[u8]; 0] = [];
+        assert_eq!(hall_input(&none), [0; 4]);
+        assert_eq!(
+            hall_input(&[[5u8, 6].as_slice(), &[7]]),
+            [2, 0, 0, 0, 2, 0, 0, 0, 1, 0, 0, 0, 5, 6, 7]
+        );
+    }
+
+    /// 36 + 5 × 1,024 + 12 × 256 + 4 × 256 + 12 × 30,000.
+    #[test]
+    fn a_fit_that_is_too_long_for_any_is_handed_over_empty() {
+        assert_eq!(FIT_BYTES, 369_252);
+        let longest = vec![1; FIT_BYTES];
+        assert_eq!(hall_input(&[&longest]).len(), 8 + FIT_BYTES);
+        let longer = vec![1; FIT_BYTES + 1];
+        assert_eq!(hall_input(&[&longer]), [1, 0, 0, 0, 0, 0, 0, 0]);
+    }
+
+    /// Document 01: "clear + 256 × faulted + 65,536 × refused".
+    #[test]
+    fn hall_numbers_must_add_up() {
+        let word = 3 + 256 * 4 + 65_536 * 57;
+        let hall = Hall {
+            clear: 3,
+            faulted: 4,
+            refused: 57,
+        };
+        assert_eq!(counted(word, 64), Ok(hall));
+        assert_eq!(counted(word, 63), Err(Refusal::Unexpected { word }));
+        assert_eq!(counted(2 << 32, 0), Err(Refusal::CatalogueOrder));
+    }
+}

@@ -1,0 +1,84 @@
+//! The boundary: the library's three functions, and the only unsafe code of
+//! this crate.
+//!
+//! Nothing checks these declarations against the library's source, so they are
+//! kept to numbers and byte slices; a slice passes as a pointer and then a
+//! length.
+
+unsafe extern "C" {
+    fn fit_list(
+        catalogue: *const u8,
+        catalogue_length: usize,
+        fit: *const u8,
+        fit_length: usize,
+        out: *mut u8,
+        out_length: usize,
+    ) -> u64;
+
+    fn fit_skill(
+        catalogue: *const u8,
+        catalogue_length: usize,
+        fit: *const u8,
+        fit_length: usize,
+        result: u32,
+        out: *mut u8,
+        out_length: usize,
+    ) -> u64;
+
+    fn fit_hall(
+        catalogue: *const u8,
+        catalogue_length: usize,
+        input: *const u8,
+        input_length: usize,
+    ) -> u64;
+}
+
+/// The list call; returns its word.
+pub fn list(catalogue: &[u8], fit: &[u8], out: &mut [u8]) -> u64 {
+    // SAFETY: each pointer comes from a slice and passes with that slice's
+    // length, so all bytes that the library may read are initialised and live
+    // for the call. `out` is borrowed mutably, so it overlaps neither image
+    // and nobody else sees it. The library reads and writes within these
+    // lengths whatever the bytes are (that is proved), keeps no pointer and
+    // has no state, so any thread may call it at any time. The pointer of an
+    // empty slice is not null and nothing is read through it.
+    unsafe {
+        fit_list(
+            catalogue.as_ptr(),
+            catalogue.len(),
+            fit.as_ptr(),
+            fit.len(),
+            out.as_mut_ptr(),
+            out.len(),
+        )
+    }
+}
+
+/// The skill call; returns its word.
+pub fn skill(catalogue: &[u8], fit: &[u8], result: u32, out: &mut [u8]) -> u64 {
+    // SAFETY: as in `list`; `result` may be any number.
+    unsafe {
+        fit_skill(
+            catalogue.as_ptr(),
+            catalogue.len(),
+            fit.as_ptr(),
+            fit.len(),
+            result,
+            out.as_mut_ptr(),
+            out.len(),
+        )
+    }
+}
+
+/// The hall call; returns its word.
+pub fn hall(catalogue: &[u8], input: &[u8]) -> u64 {
+    // SAFETY: as in `list`; the library writes nothing here.
+    unsafe {
+        fit_hall(
+            catalogue.as_ptr(),
+            catalogue.len(),
+            input.as_ptr(),
+            input.len(),
+        )
+    }
+}

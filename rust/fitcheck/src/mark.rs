@@ -1,0 +1,45 @@
+//! What an effect says about the slot of its type.
+
+use crate::numbered::numbered;
+
+numbered! {
+    /// What an effect says about the slot that a type asks for, by the
+    /// effect's name in EVE's type data.
+    ///
+    /// Of a type's effects the last rack and the last hardpoint count.
+    Mark {
+        /// Any other effect; it says nothing about slots.
+        Other = "other",
+        /// The type goes into a high slot.
+        HiPower = "hiPower",
+        /// The type goes into a medium slot.
+        MedPower = "medPower",
+        /// The type goes into a low slot.
+        LoPower = "loPower",
+        /// The type goes into a rig slot.
+        RigSlot = "rigSlot",
+        /// The type goes into a subsystem slot.
+        SubSystem = "subSystem",
+        /// The type goes into a service slot.
+        ServiceSlot = "serviceSlot",
+        /// The type takes a turret hardpoint.
+        TurretFitted = "turretFitted",
+        /// The type takes a launcher hardpoint.
+        LauncherFitted = "launcherFitted",
+    }
+}
+
+impl Mark {
+    /// The mark of an effect by its name in EVE's type data; most effects have
+    /// [`Mark::Other`].
+    ///
+    /// ```
+    /// use fitcheck::Mark;
+    ///
+    /// assert_eq!(Mark::of_effect("turretFitted"), Mark::TurretFitted);
+    /// assert_eq!(Mark::of_effect("armorRepair"), Mark::Other);
+    /// ```
+    pub fn of_effect(name: &str) -> Mark {
+        Mark::from_name(name).unwrap_or(Mark::Other)
+    }
+}

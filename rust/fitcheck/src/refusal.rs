@@ -1,0 +1,184 @@
+//! Why a call gives no list.
+
+use std::error::Error;
+use std::fmt;
+
+/// Why a call gives no list: document 01's refusals, by their number.
+///
+/// As text it is one sentence.
+///
+/// ```
+/// use fitcheck::Refusal;
+///
+/// let refusal = fitcheck::list(&[0; 3], &[]).unwrap_err();
+/// assert_eq!(refusal, Refusal::CatalogueLength);
+/// assert_eq!(refusal.number(), 1);
+/// ```
+#[non_exhaustive]
+#[derive(Debug, Clone, Copy, PartialEq, Eq, Hash)]
+pub enum Refusal {
+    /// 1: the catalogue is over 16,777,216 bytes or its length is unlike its
+    /// sizes.
+    CatalogueLength,
+    /// 2: the catalogue's keys are not in order.
+    CatalogueOrder,
+    /// 3: a name number over 87, a mark over 8 or a volume flag over 1.
+    CatalogueField,
+    /// 4: the fit passes a limit, its length is unlike its sizes, or its
+    /// attribute counts do not add up.
+    FitLength,
+    /// 5: ids of the fit do not ascend.
+    FitOrder,
+    /// 6: a byte, index, state or mode of the fit has no meaning.
+    FitField,
+    /// 7: more than 4,294,967,295 drones are launched.
+    LaunchedDrones,
+    /// 8: the fit has no result of that number.
+    NoSuchResult,
+    /// 9: a result wants more than 512 skills.
+    WantedSkills,
+    /// 10: the entries do not fit into the buffer.
+    BufferLength,
+    /// The library returned a word that document 01 does not have. It never
+    /// does; this stands here so that nothing can panic or be misread.
+    Unexpected {
+        /// The word, whole.
+        word: u64,
+    },
+}
+
+impl Refusal {
+    /// Every refusal of document 01, by its number from 1.
+    pub const ALL: [Refusal; 10] = [
+        Refusal::CatalogueLength,
+        Refusal::CatalogueOrder,
+        Refusal::CatalogueField,
+        Refusal::FitLength,
+        Refusal::FitOrder,
+        Refusal::FitField,
+        Refusal::LaunchedDrones,
+        Refusal::NoSuchResult,
+        Refusal::WantedSkills,
+        Refusal::BufferLength,
+    ];
+
+    /// Document 01's number, from 1 to 10. Of an unexpected word it is the
+    /// upper half.
+    pub fn number(self) -> u32 {
+        match self {
+            Refusal::CatalogueLength => 1,
+            Refusal::CatalogueOrder => 2,
+            Refusal::CatalogueField => 3,
+            Refusal::FitLength => 4,
+            Refusal::FitOrder => 5,
+            Refusal::FitField => 6,
+            Refusal::LaunchedDrones => 7,
+            Refusal::NoSuchResult => 8,
+            Refusal::WantedSkills => 9,
+            Refusal::BufferLength => 10,
+            Refusal::Unexpected { word } => (word >> 32) as u32,
+        }
+    }
+
+    /// Whether the catalogue is to blame, so that no fit can be checked by it.
+    pub fn is_of_catalogue(self) -> bool {
+        matches!(
+            self,
+            Refusal::CatalogueLength | Refusal::CatalogueOrder | Refusal::CatalogueField
+        )
+    }
+
+    /// The refusal in a call's word, and the count that stands where there is
+    /// none.
+    pub(crate) fn or_count(word: u64) -> Result<u32, Refusal> {
+        let count = (word & 0xFFFF_FFFF) as u32;
+        match (word >> 32, count) {
+            (0, count) => Ok(count),
+            (number @ 1..=10, 0) => Err(Refusal::ALL[number as usize - 1]),
+            _ => Err(Refusal::Unexpected { word }),
+        }
+    }
+}
+
+impl fmt::Display for Refusal {
+    fn fmt(&self, formatter: &mut fmt::Formatter<'_>) -> fmt::Result {
+        formatter.pad(match self {
+            Refusal::CatalogueLength => {
+                "the catalogue is over 16,777,216 bytes, or its length is not what its sizes make it"
+            }
+            Refusal::CatalogueOrder => {
+                "the catalogue's names, effects or types do not ascend, or its links or bases descend"
+            }
+            Refusal::CatalogueField => {
+                "the catalogue has a name number over 87, a mark over 8 or a volume flag over 1"
+            }
+            Refusal::FitLength => {
+                "the fit passes a limit (1,024 skills, 256 items, 256 results, 30,000 attributes), \
+                 its length is not what its sizes make it, or its attribute counts do not add up"
+            }
+            Refusal::FitOrder => "the fit's skill ids, or one result's attribute ids, do not ascend",
+            Refusal::FitField => {
+                "the fit has a slot kind, slot index, state, mode or zero byte outside its range"
+            }
+            Refusal::LaunchedDrones => "the fit launches more than 4,294,967,295 drones",
+            Refusal::NoSuchResult => "the fit has no result of that number",
+            Refusal::WantedSkills => "the result wants more than 512 skills",
+            Refusal::BufferLength => "the buffer is shorter than 24 bytes for each entry",
+            Refusal::Unexpected { word } => {
+                return write!(
+                    formatter,
+                    "the library returned 0x{word:016X}, which no call returns"
+                );
+            }
+        })
+    }
+}
+
+impl Error for Refusal {}
+
+#[cfg(test)]
+mod tests {
+    use super::*;
+
+    /// Document 01: "the refusal number (0 where answered) times
+    /// 4,294,967,296, plus the count (0 where refused)".
+    #[test]
+    fn a_word_is_a_refusal_or_a_count() {
+        assert_eq!(Refusal::or_count(0), Ok(0));
+        assert_eq!(Refusal::or_count(5_141), Ok(5_141));
+        assert_eq!(Refusal::or_count(4_294_967_295), Ok(u32::MAX));
+        for number in 1..=10 {
+            let word = number * 4_294_967_296;
+            let refusal = Refusal::or_count(word).unwrap_err();
+            assert_eq!(u64::from(refusal.number()), number);
+            assert!(!matches!(refusal, Refusal::Unexpected { .. }));
+            let word = word + 1;
+            assert_eq!(
+                Refusal::or_count(word),
+                Err(Refusal::Unexpected { word }),
+                "a refusal with a count"
+            );
+        }
+        for word in [11 * 4_294_967_296, u64::MAX, 1 << 63] {
+            assert_eq!(Refusal::or_count(word), Err(Refusal::Unexpected { word }));
+        }
+    }
+
+    #[test]
+    fn every_refusal_has_a_sentence_of_its_own() {
+        let mut sentences: Vec<String> = Refusal::ALL.iter().map(Refusal::to_string).collect();
+        sentences.sort();
+        sentences.dedup();
+        assert_eq!(sentences.len(), 10);
+        let word = 77 << 32;
+        let sentence = Refusal::Unexpected { word }.to_string();
+        assert!(sentence.contains("0x0000004D00000000"), "{sentence}");
+    }
+
+    #[test]
+    fn refusals_1_to_3_are_the_catalogues() {
+        for refusal in Refusal::ALL {
+            assert_eq!(refusal.is_of_catalogue(), refusal.number() <= 3);
+        }
+    }
+}

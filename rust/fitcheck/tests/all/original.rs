@@ -1,0 +1,135 @@
+//! What the calls give, held against what the original gives.
+//!
+//! `Rule` and `Target` have the original's names, fields and order, so an
+//! entry and a violation print alike.
+
+use compare::reference::{self, Catalogue, Fit};
+use fitcheck::{Entry, Refusal};
+use original::{Run, Target, Violation};
+
+use crate::common::{images, numbers};
+
+fn printed(entries: &[Entry]) -> Vec<String> {
+    entries
+        .iter()
+        .map(|entry| format!("{:?} {:?}", entry.target, entry.rule))
+        .collect()
+}
+
+fn printed_originals(found: &[Violation]) -> Vec<String> {
+    found
+        .iter()
+        .map(|violation| format!("{:?} {:?}", violation.target, violation.rule))
+        .collect()
+}
+
+/// Document 01 sums cargo from +0; some Rust releases sum from -0.
+fn from_plus_zero(printed: Vec<String>) -> Vec<String> {
+    let minus_zero = "resource: CargoBay, used: -0.0";
+    printed
+        .into_iter()
+        .map(|line| line.replace(minus_zero, "resource: CargoBay, used: 0.0"))
+        .collect()
+}
+
+fn number<T: std::fmt::Debug>(refused: Result<T, Refusal>) -> u32 {
+    refused.expect_err("it is refused").number()
+}
+
+#[test]
+fn a_list_is_the_originals() {
+    let mut lists = 0;
+    let mut refusals = 0;
+    for case in numbers(700) {
+        let (catalogue_image, fits) = images(11, case);
+        for image in fits {
+            let list = fitcheck::list(&catalogue_image, &image);
+            let decoded = Catalogue::decode(&catalogue_image)
+                .and_then(|catalogue| Ok((catalogue, Fit::decode(&image)?)));
+            let (catalogue, fit) = match decoded {
+                Ok(decoded) => decoded,
+                Err(refusal) => {
+                    assert_eq!(number(list), u32::from(refusal), "case {case}");
+                    refusals += 1;
+                    continue;
+                }
+            };
+            if let Err(refusal) = reference::list(&catalogue, &fit) {
+                assert_eq!(number(list), u32::from(refusal), "case {case}");
+                refusals += 1;
+                continue;
+            }
+            let run = Run {
+                info: &catalogue,
+                fit: &fit.fit,
+                calculation: &fit.calculation,
+            };
+            let found: Vec<Violation> = run
+                .validate()
+                .into_iter()
+                .filter(|violation| !matches!(violation.rule, original::Rule::Skill { .. }))
+                .collect();
+            let list = list.unwrap_or_else(|refusal| panic!("case {case}: {refusal}"));
+            assert_eq!(
+                printed(&list),
+                from_plus_zero(printed_originals(&found)),
+                "case {case}"
+            );
+            lists += 1;
+        }
+    }
+    assert!(lists > 1_000 && refusals > 100, "{lists} and {refusals}");
+}
+
+#[test]
+fn skills_are_the_originals() {
+    let mut lists = 0;
+    let mut lacking = 0;
+    for case in numbers(300) {
+        let (catalogue_image, fits) = images(12, case);
+        let Ok(catalogue) = Catalogue::decode(&catalogue_image) else {
+            continue;
+        };
+        for image in fits.iter().take(2) {
+            let Ok(fit) = Fit::decode(image) else {
+                continue;
+            };
+            for result in 0..fit.calculation.items.len().min(4) as u32 + 2 {
+                let skills = fitcheck::skills(&catalogue_image, image, result);
+                if let Err(refusal) = reference::skill(&catalogue, &fit, result) {
+                    assert_eq!(number(skills), u32::from(refusal), "case {case}");
+                    continue;
+                }
+                let run = Run {
+                    info: &catalogue,
+                    fit: &fit.fit,
+                    calculation: &fit.calculation,
+                };
+                let target = match result {
+                    0 | 1 => Target::Ship,
+                    _ => Target::Item {
+                        index: result as usize - 2,
+                    },
+                };
+                let found = run.report(fit.result(result).unwrap(), target);
+                let skills = skills.unwrap_or_else(|refusal| panic!("case {case}: {refusal}"));
+                assert_eq!(printed(&skills), printed_originals(&found), "case {case}");
+                lists += 1;
+                lacking += found.len();
+            }
+        }
+    }
+    assert!(lists > 1_000 && lacking > 1_000, "{lists} and {lacking}");
+}
+
+#[test]
+fn a_result_beyond_the_last_is_refused_by_8() {
+    let empty = [0; 36];
+    assert!(fitcheck::skills(&[0; 20], &empty, 1).is_ok());
+    for result in [2, 3, 258, u32::MAX] {
+        assert_eq!(
+            fitcheck::skills(&[0; 20], &empty, result),
+            Err(Refusal::NoSuchResult)
+        );
+    }
+}
