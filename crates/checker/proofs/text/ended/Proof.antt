@@ -1,0 +1,31 @@
+-- `checker::text::ended` meets its contract: a number, and a byte behind it.
+use Prim.Native.Nat.{ℕ, _+_, _≤_}
+use native.Mathlib.Omega.{arith}
+use borrow.Author.Needs.{needs}
+use Rattle.checker.specs.Text.{ended}
+use Rattle.checker.proofs.Putting.{put-append}
+use Rattle.checker.proofs.Decimal.{decimal-short}
+use Rattle.checker.proofs.text.ended.Statement.{statement}
+use Rattle.checker.proofs.text.ended.Tie as tie
+
+number-requires : tie.Need-number-requires
+number-requires c κs = search needs
+
+byte-requires : tie.Need-byte-requires
+byte-requires c κs =
+    let a = c .before .before .before .before .before .before .args in
+    omega (arith, c .before .before .before .number .ensures .end, decimal-short (a .n))
+
+same-length : tie.Need-same-length
+same-length c = search needs
+
+returns : tie.Need-returns
+unfolding ended
+returns c =
+    let n = c .before .before .before .before .before .before in
+    let a = n .before .before .before .args in
+    let b = c .before .before .byte .ensures in
+    (put-append (n .number .ensures) b, omega (arith, n .number .ensures .end, b .end, decimal-short (a .n)))
+
+pub ended-spec : {M : Type 1} → statement M
+ended-spec = tie.close (tie.spec number-requires byte-requires same-length returns)

@@ -1,0 +1,80 @@
+-- `checker::text::payload` meets its contract: four numbers, one behind the other.
+use Prim.Native.Nat.{_+_, _≤_}
+use native.Mathlib.Omega.{arith}
+use mathlib.Core.Path.{ap}
+use Rattle.checker.specs.Text.{payload, spaced, ended}
+use Rattle.checker.proofs.Putting.{put-same, put-append}
+use borrow.Author.Needs.{needs}
+use Rattle.checker.proofs.text.payload.Statement.{statement}
+use Rattle.checker.proofs.text.payload.Tie as tie
+
+add-word-at : tie.Need-add-word-at
+add-word-at c = search needs
+
+word-at-requires : tie.Need-word-at-requires
+word-at-requires c κs = search needs
+
+spaced-requires : tie.Need-spaced-requires
+spaced-requires c κs = search needs
+
+add-word-at-2 : tie.Need-add-word-at-2
+add-word-at-2 c = search needs
+
+word-at-requires-2 : tie.Need-word-at-requires-2
+word-at-requires-2 c κs = search needs
+
+spaced-requires-2 : tie.Need-spaced-requires-2
+spaced-requires-2 c κs = search needs
+
+add-word-at-3 : tie.Need-add-word-at-3
+add-word-at-3 c = search needs
+
+word-at-requires-3 : tie.Need-word-at-requires-3
+word-at-requires-3 c κs = search needs
+
+spaced-requires-3 : tie.Need-spaced-requires-3
+spaced-requires-3 c κs = search needs
+
+add-word-at-4 : tie.Need-add-word-at-4
+add-word-at-4 c = search needs
+
+word-at-requires-4 : tie.Need-word-at-requires-4
+word-at-requires-4 c κs = search needs
+
+ended-requires : tie.Need-ended-requires
+ended-requires c κs = search needs
+
+same-length : tie.Need-same-length
+same-length c = search needs
+
+returns : tie.Need-returns
+unfolding payload
+returns c =
+    let k4 = c .before .before in
+    let k3 = k4 .before .before .before .before .before in
+    let k2 = k3 .before .before .before .before .before in
+    let k1 = k2 .before .before .before .before .before in
+    let p1 = put-same (ap spaced (k1 .before .word-at .ensures)) (k1 .spaced .ensures .0) in
+    let p2 = put-same (ap spaced (k2 .before .word-at2 .ensures)) (k2 .spaced2 .ensures .0) in
+    let p3 = put-same (ap spaced (k3 .before .word-at3 .ensures)) (k3 .spaced3 .ensures .0) in
+    let p4 = put-same (ap ended (k4 .before .word-at4 .ensures)) (k4 .ended .ensures .0) in
+    (put-append p1 (put-append p2 (put-append p3 p4)), omega (arith, k1 .spaced .ensures .1, k2 .spaced2 .ensures .1, k3 .spaced3 .ensures .1, k4 .ended .ensures .1))
+
+pub payload-spec : {M : Type 1} → statement M
+payload-spec =
+    tie.close
+    (tie.spec
+    add-word-at
+    word-at-requires
+    spaced-requires
+    add-word-at-2
+    word-at-requires-2
+    spaced-requires-2
+    add-word-at-3
+    word-at-requires-3
+    spaced-requires-3
+    add-word-at-4
+    word-at-requires-4
+    ended-requires
+    same-length
+    returns)

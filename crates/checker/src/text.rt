@@ -1,0 +1,149 @@
+// A list call's answer as text: specs/Text.antt.
+ghost use mathlib.Core.Path.{_≡_};
+ghost use mathlib.Core.List.{[], _∷_};
+ghost use Prim.Native.Nat.{_+_, _*_, _/_, _%_, _<_, _≤_, _^_};
+ghost use lib.ListN.{length, take};
+ghost use Rattle.image.specs.Bytes.{u8At, u32At};
+ghost use Rattle.io.specs.Counts.{Counts};
+ghost use Rattle.checker.specs.Put.{Put};
+ghost use Rattle.checker.specs.Text.{decimal, heading as Text·heading, payload as Text·payload, line as Text·line, lines as Text·lines, spaced as Text·spaced, ended as Text·ended, closing as Text·closing, textOf, checked as Text·checked};
+
+fn byte(text: &mut [u8], at: usize, x: u8) -> usize
+    requires { ⌜ at < length (now text) ⌝ }
+    ensures { λ r. ⌜ Put (now (text .entry)) at (now (text .exit)) r (x ∷ []) ⌝ }
+{
+    text[at] = x;
+    at + 1
+}
+
+fn copy(text: &mut [u8], at: usize, from: &[u8]) -> usize
+    requires { ⌜ at + length (now from) ≤ length (now text) ⌝ }
+    ensures { λ r. ⌜ Put (now (text .entry)) at (now (text .exit)) r (now (from .entry)) ⌝ }
+{
+    let mut i = 0;
+    while i < from.len() {
+        text[at + i] = from[i];
+        i += 1;
+    }
+    at + i
+}
+
+fn number(text: &mut [u8], at: usize, n: u64) -> usize
+    requires { ⌜ at + 20 ≤ length (now text) ⌝ }
+    ensures { λ r. ⌜ Put (now (text .entry)) at (now (text .exit)) r (decimal n) ⌝ }
+{
+    let mut digits = [0u8; 20];
+    let k = io::decimal(n, &mut digits);
+    copy(text, at, &digits[..k])
+}
+
+fn spaced(text: &mut [u8], at: usize, n: u64) -> usize
+    requires { ⌜ at + 21 ≤ length (now text) ⌝ }
+    ensures { λ r. ⌜ Put (now (text .entry)) at (now (text .exit)) r (Text·spaced n) × (r ≤ at + 21) ⌝ }
+{
+    let end = number(text, at, n);
+    byte(text, end, b' ')
+}
+
+fn ended(text: &mut [u8], at: usize, n: u64) -> usize
+    requires { ⌜ at + 21 ≤ length (now text) ⌝ }
+    ensures { λ r. ⌜ Put (now (text .entry)) at (now (text .exit)) r (Text·ended n) × (r ≤ at + 21) ⌝ }
+{
+    let end = number(text, at, n);
+    byte(text, end, b'\n')
+}
+
+fn byte_at(b: &[u8], at: usize) -> u64
+    requires { ⌜ at < length (now b) ⌝ }
+    ensures { λ r. ⌜ r ≡ u8At (now (b .entry)) at ⌝ }
+{
+    image::u8_at(b, at) as u64
+}
+
+fn word_at(b: &[u8], at: usize) -> u64
+    requires { ⌜ at + 4 ≤ length (now b) ⌝ }
+    ensures { λ r. ⌜ r ≡ u32At (now (b .entry)) at ⌝ }
+{
+    image::u32_at(b, at) as u64
+}
+
+fn heading(text: &mut [u8], at: usize, b: &[u8], place: usize) -> usize
+    requires { ⌜ at + 84 ≤ length (now text) ⌝ }
+    requires { ⌜ place + 24 ≤ length (now b) ⌝ }
+    ensures { λ r. ⌜ Put (now (text .entry)) at (now (text .exit)) r (Text·heading (now (b .entry)) place) × (r ≤ at + 84) ⌝ }
+{
+    let index = spaced(text, at, byte_at(b, place));
+    let rule = spaced(text, index, word_at(b, place + 4));
+    let sub = spaced(text, rule, byte_at(b, place + 1));
+    spaced(text, sub, byte_at(b, place + 2))
+}
+
+fn payload(text: &mut [u8], at: usize, b: &[u8], place: usize) -> usize
+    requires { ⌜ at + 84 ≤ length (now text) ⌝ }
+    requires { ⌜ place + 24 ≤ length (now b) ⌝ }
+    ensures { λ r. ⌜ Put (now (text .entry)) at (now (text .exit)) r (Text·payload (now (b .entry)) place) × (r ≤ at + 84) ⌝ }
+{
+    let second = spaced(text, at, word_at(b, place + 8));
+    let third = spaced(text, second, word_at(b, place + 12));
+    let fourth = spaced(text, third, word_at(b, place + 16));
+    ended(text, fourth, word_at(b, place + 20))
+}
+
+fn line(text: &mut [u8], at: usize, b: &[u8], i: usize) -> usize
+    requires { ⌜ at + 168 ≤ length (now text) ⌝ }
+    requires { ⌜ 24 * i + 24 ≤ length (now b) ⌝ }
+    ensures { λ r. ⌜ Put (now (text .entry)) at (now (text .exit)) r (Text·line (now (b .entry)) i) × (r ≤ at + 168) ⌝ }
+{
+    let place = 24 * i;
+    let middle = heading(text, at, b, place);
+    payload(text, middle, b, place)
+}
+
+// The lines of n entries.
+fn lines(text: &mut [u8], b: &[u8], n: usize) -> usize
+    requires { ⌜ 168 * n ≤ length (now text) ⌝ }
+    requires { ⌜ 24 * n ≤ length (now b) ⌝ }
+    ensures { λ r. ⌜ Put (now (text .entry)) 0 (now (text .exit)) r (Text·lines (now (b .entry)) n) × (r ≤ 168 * n) ⌝ }
+{
+    let mut at = 0;
+    let mut i = 0;
+    while i < n {
+        at = line(text, at, b, i);
+        i += 1;
+    }
+    at
+}
+
+fn closing(text: &mut [u8], at: usize, refusal: u64, count: u64) -> usize
+    requires { ⌜ at + 29 ≤ length (now text) ⌝ }
+    ensures { λ r. ⌜ Put (now (text .entry)) at (now (text .exit)) r (Text·closing refusal count) × (r ≤ at + 29) ⌝ }
+{
+    if 0 < refusal {
+        let end = copy(text, at, b"refused ");
+        return ended(text, end, refusal);
+    }
+    let end = copy(text, at, b"count ");
+    ended(text, end, count)
+}
+
+fn text_of(text: &mut [u8], word: u64, b: &[u8]) -> usize
+    requires { ⌜ 24 * (word % 2 ^ 32) ≤ length (now b) ⌝ }
+    requires { ⌜ 168 * (word % 2 ^ 32) + 29 ≤ length (now text) ⌝ }
+    ensures { λ r. ⌜ Counts r (now (text .exit)) ⌝ }
+    ensures { λ r. ⌜ take r (now (text .exit)) ≡ textOf word (now (b .entry)) ⌝ }
+{
+    let count = word % 4294967296;
+    let end = lines(text, b, count as usize);
+    closing(text, end, word / 4294967296, count)
+}
+
+// The list call's answer with 65,520 bytes lent: at most 2,730 entries.
+pub fn checked(catalogue: &[u8], fit: &[u8], text: &mut [u8]) -> usize
+    requires { ⌜ 458669 ≤ length (now text) ⌝ }
+    ensures { λ r. ⌜ Counts r (now (text .exit)) ⌝ }
+    ensures { λ r. ⌜ take r (now (text .exit)) ≡ Text·checked (now (catalogue .entry)) (now (fit .entry)) ⌝ }
+{
+    let mut buffer = [0u8; 65520];
+    let word = fitcheck::fit_list(catalogue, fit, &mut buffer);
+    text_of(text, word, &buffer)
+}

@@ -1,0 +1,77 @@
+//! The samples at the repository's root: a catalogue and fits described in
+//! text, which this crate turns into the images that `./check` reads.
+//!
+//! `samples/types.txt` and `samples/clear/fit.txt` say how their lines are
+//! read. A line that is indented belongs to the line above it that is not;
+//! `#` starts a comment.
+
+mod catalogue;
+mod fit;
+mod lines;
+
+use std::fs;
+use std::path::{Path, PathBuf};
+
+use compare::checker::{Checker, ENTRY};
+
+pub use catalogue::World;
+pub use fit::fit;
+
+/// The samples, each a folder.
+pub const SAMPLES: [&str; 3] = ["clear", "faulted", "refused"];
+
+/// The buffer that the program `check` lends.
+pub const LENT: usize = 65_520;
+
+/// Both images of one sample.
+#[derive(Clone, Debug, PartialEq)]
+pub struct Images {
+    pub types: Vec<u8>,
+    pub fit: Vec<u8>,
+}
+
+/// Where the samples stand.
+pub fn folder() -> PathBuf {
+    Path::new(env!("CARGO_MANIFEST_DIR")).join("../../samples")
+}
+
+/// The text of a file of the samples.
+pub fn text(file: &str) -> Result<String, String> {
+    let path = folder().join(file);
+    fs::read_to_string(&path).map_err(|error| format!("{}: {error}", path.display()))
+}
+
+/// The images that the descriptions of a sample make.
+pub fn images(sample: &str) -> Result<Images, String> {
+    let world =
+        World::read(&text("types.txt")?).map_err(|wrong| format!("types.txt, {wrong}"))?;
+    let file = format!("{sample}/fit.txt");
+    let fit = fit(&text(&file)?, &world).map_err(|wrong| format!("{file}, {wrong}"))?;
+    Ok(Images {
+        types: world.catalogue().image(),
+        fit: fit.image(),
+    })
+}
+
+/// What document 01's program prints of a checker's list call.
+pub fn printed(checker: &dyn Checker, images: &Images) -> String {
+    let mut out = vec![0; LENT];
+    let word = checker.list(&images.types, &images.fit, &mut out);
+    if word >> 32 != 0 {
+        return format!("refused {}\n", word >> 32);
+    }
+    let mut text = String::new();
+    for entry in out.chunks_exact(ENTRY).take(word as usize) {
+        let number = |at: usize| {
+            let bytes = entry[at..at + 4].try_into().expect("four bytes");
+            u32::from_le_bytes(bytes)
+        };
+        let (target, rule, sub) = (entry[0], entry[1], entry[2]);
+        text += &format!("{target} {} {rule} {sub}", number(4));
+        for at in [8, 12, 16, 20] {
+            text += &format!(" {}", number(at));
+        }
+        text += "\n";
+    }
+    text + &format!("count {word}\n")
+}
