@@ -45,6 +45,15 @@ impl World {
         &self.catalogue
     }
 
+    /// A line for each type's name, as the command `fitcheck` reads them.
+    pub fn names(&self) -> String {
+        let mut types: Vec<(i32, &str)> =
+            self.types.iter().map(|(name, id)| (*id, &**name)).collect();
+        types.sort();
+        let lines = types.iter().map(|(id, name)| format!("{id} {name}\n"));
+        lines.collect()
+    }
+
     /// The id of a type by its name.
     pub fn type_id(&self, line: &Line, name: &str) -> Result<i32, String> {
         let id = self.types.get(name).copied();
@@ -81,7 +90,18 @@ impl World {
                 });
                 Ok(None)
             }
-            ["type", id, "group", group, "category", category, "volume", volume, _, ..] => {
+            [
+                "type",
+                id,
+                "group",
+                group,
+                "category",
+                category,
+                "volume",
+                volume,
+                _,
+                ..,
+            ] => {
                 let id = line.number(id)?;
                 let (flag, bits) = match volume {
                     "-" => (0, 0),
@@ -152,7 +172,10 @@ mod tests {
         assert_eq!(ids, [5, 9]);
         assert_eq!(catalogue.types[0].volume, 1.5f32.to_bits());
         assert_eq!((catalogue.types[1].flag, catalogue.types[1].volume), (0, 0));
-        assert_eq!((catalogue.links[0].type_id, catalogue.links[0].effect), (9, 12));
+        assert_eq!(
+            (catalogue.links[0].type_id, catalogue.links[0].effect),
+            (9, 12)
+        );
         assert_eq!(catalogue.bases[0].attribute, 49);
     }
 
@@ -163,7 +186,10 @@ mod tests {
             wrong("\nname cpu 4"),
             "line 2: there is no name `cpu`: name cpu 4"
         );
-        assert_eq!(wrong("  cpuLoad 1"), "line 1: no type stands above: cpuLoad 1");
+        assert_eq!(
+            wrong("  cpuLoad 1"),
+            "line 1: no type stands above: cpuLoad 1"
+        );
         assert!(wrong("effect 1 hiPowr").starts_with("line 1: no effect"));
         assert!(wrong("type 1").starts_with("line 1: neither"));
     }

@@ -1,4 +1,4 @@
-//! Writes types.bin and fit.bin of each sample from its description, and prints
+//! Writes names.txt, and types.bin and fit.bin of each sample, from the descriptions, and prints
 //! the original's list of it, as document 01's program does and in words. The
 //! file `expected` is never written: it was worked out from document 01.
 
@@ -8,16 +8,20 @@ use std::process::ExitCode;
 use compare::checker::Checker;
 use compare::reference::Original;
 use compare::words;
-use samples::{LENT, SAMPLES, folder, images, printed};
+use samples::{LENT, SAMPLES, folder, images, printed, world};
 
 fn main() -> ExitCode {
-    for sample in SAMPLES {
-        if let Err(message) = written(sample) {
-            eprintln!("samples: {message}");
-            return ExitCode::FAILURE;
-        }
+    let all = names_written().and_then(|()| SAMPLES.into_iter().try_for_each(written));
+    if let Err(message) = all {
+        eprintln!("samples: {message}");
+        return ExitCode::FAILURE;
     }
     ExitCode::SUCCESS
+}
+
+fn names_written() -> Result<(), String> {
+    let path = folder().join("names.txt");
+    fs::write(&path, world()?.names()).map_err(|error| format!("{}: {error}", path.display()))
 }
 
 fn written(sample: &str) -> Result<(), String> {
