@@ -81,7 +81,18 @@ impl World {
                 });
                 Ok(None)
             }
-            ["type", id, "group", group, "category", category, "volume", volume, _, ..] => {
+            [
+                "type",
+                id,
+                "group",
+                group,
+                "category",
+                category,
+                "volume",
+                volume,
+                _,
+                ..,
+            ] => {
                 let id = line.number(id)?;
                 let (flag, bits) = match volume {
                     "-" => (0, 0),
@@ -152,7 +163,10 @@ mod tests {
         assert_eq!(ids, [5, 9]);
         assert_eq!(catalogue.types[0].volume, 1.5f32.to_bits());
         assert_eq!((catalogue.types[1].flag, catalogue.types[1].volume), (0, 0));
-        assert_eq!((catalogue.links[0].type_id, catalogue.links[0].effect), (9, 12));
+        assert_eq!(
+            (catalogue.links[0].type_id, catalogue.links[0].effect),
+            (9, 12)
+        );
         assert_eq!(catalogue.bases[0].attribute, 49);
     }
 
@@ -163,7 +177,10 @@ mod tests {
             wrong("\nname cpu 4"),
             "line 2: there is no name `cpu`: name cpu 4"
         );
-        assert_eq!(wrong("  cpuLoad 1"), "line 1: no type stands above: cpuLoad 1");
+        assert_eq!(
+            wrong("  cpuLoad 1"),
+            "line 1: no type stands above: cpuLoad 1"
+        );
         assert!(wrong("effect 1 hiPowr").starts_with("line 1: no effect"));
         assert!(wrong("type 1").starts_with("line 1: neither"));
     }

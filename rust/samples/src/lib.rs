@@ -43,8 +43,7 @@ pub fn text(file: &str) -> Result<String, String> {
 
 /// The images that the descriptions of a sample make.
 pub fn images(sample: &str) -> Result<Images, String> {
-    let world =
-        World::read(&text("types.txt")?).map_err(|wrong| format!("types.txt, {wrong}"))?;
+    let world = World::read(&text("types.txt")?).map_err(|wrong| format!("types.txt, {wrong}"))?;
     let file = format!("{sample}/fit.txt");
     let fit = fit(&text(&file)?, &world).map_err(|wrong| format!("{file}, {wrong}"))?;
     Ok(Images {
