@@ -21,6 +21,15 @@ fn the_file_is_what_record_writes() {
     assert!(FILE.len() <= MOST);
 }
 
+/// The program `replay` runs over a copy, since a program is run on its own data.
+#[test]
+fn the_replayed_copy_is_the_same() {
+    assert!(
+        FILE == include_bytes!("../../../../crates/replay/data/recorded.bin"),
+        "run `cp compare/recorded.bin ../crates/replay/data/`"
+    );
+}
+
 #[test]
 fn every_checker_gives_the_recorded_answers() {
     for (name, checker) in checkers() {
