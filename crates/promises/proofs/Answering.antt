@@ -11,8 +11,9 @@ use Rattle.words.specs.Words.{each, firstOf}
 use Rattle.entry.specs.declared.Entry.{Entry}
 use Rattle.entry.specs.Entries.{entryBytes, written}
 use Rattle.fitcheck.specs.Calls.{answerBy, answer, buffered, returned}
+use Rattle.fitcheck.proofs.First.{Numbered, first-small}
 use Rattle.promises.specs.Answers.{outcome, Conditions, None, Answers}
-use Rattle.promises.proofs.Conditions.{first-is, is-first, none-is, Numbered, is-none, first-small}
+use Rattle.promises.proofs.Conditions.{first-is, is-first, none-is, is-none}
 use Rattle.promises.proofs.Entries.{entry-at, entries-length}
 
 -- ---- an element by its place
@@ -27,7 +28,7 @@ elem-of d (x ∷ l) zero h = refl
 elem-of d (x ∷ l) (suc i) h = elem-of d l i (le-of-suc-le-suc h)
 
 -- ---- the call
-module _ (l : Conditions) (numbered : Numbered l) (es : List Entry) (before : List ℕ)
+module _ (l : Conditions) (numbered : Numbered 10 l) (es : List Entry) (before : List ℕ)
     (small : None l → length es < 2 ^ 32) (room : None l → 24 * length es ≤ length before) where
   go : (k : ℕ) → firstOf l ≡ k → Answers l es before (outcome before (answerBy k es))
   unfolding answerBy buffered returned written
@@ -55,7 +56,7 @@ module _ (l : Conditions) (numbered : Numbered l) (es : List Entry) (before : Li
         length-kept = length-append (each es entryBytes) (drop (24 * length es) before) ∙ (let d = length-drop (24 * length es) before in omega arith);
       }
   go (suc k) e =
-      let s = first-small l numbered in
+      let s = first-small 10 l numbered in
       record {
         refused = λ m p. (λ h. is-first m p l (let q : suc k ≡ m = omega arith in e ∙ q), λ h. (let q = first-is m l h in omega arith));
         answered = (λ h. absurd (omega arith), λ h. absurd (let q = none-is l h in omega arith));

@@ -1,5 +1,5 @@
 -- Numbers with conditions: which is the first that holds. By cases on the conditions, one after the other. Assumes nothing.
-use Prim.Native.Nat.{ℕ, _≤_, _<_, zero-le, pred}
+use Prim.Native.Nat.{ℕ, _≤_, _<_, pred}
 use native.Mathlib.Omega.{arith}
 use mathlib.Core.Path.{_≡_, refl}
 use mathlib.Core.Bool.{Bool, true, false, not, cond}
@@ -7,6 +7,7 @@ use mathlib.Core.List.{[], _∷_, _++_}
 use mathlib.Core.Logic.{_⊎_, inl, inr}
 use lib.Dec.{T}
 use Rattle.words.specs.Words.{firstOf}
+use Rattle.fitcheck.proofs.First.{Numbered}
 use Rattle.promises.specs.Answers.{Conditions, First, None}
 
 pub first-is : (n : ℕ) (l : Conditions) → First n l → firstOf l ≡ n
@@ -38,12 +39,7 @@ none-is (x ∷ l) h = go (x .1) (h .0) (none-is l (h .1))
     go true h e = absurd h
     go false h e = e
 
--- every number is one of 1 to 10
-abbrev pub Numbered : Conditions → Type 0
-Numbered [] = Unit {0}
-Numbered (x ∷ l) = (0 < x .0) × (x .0 ≤ 10) × Numbered l
-
-pub is-none : (l : Conditions) → Numbered l → firstOf l ≡ 0 → None l
+pub is-none : (l : Conditions) → Numbered 10 l → firstOf l ≡ 0 → None l
 unfolding firstOf
 is-none [] h e = tt
 is-none (x ∷ l) h e = go (x .1) (is-none l (h .2)) e
@@ -51,15 +47,6 @@ is-none (x ∷ l) h e = go (x .1) (is-none l (h .2)) e
     go : (b : Bool) → (firstOf l ≡ 0 → None l) → cond b (x .0) (firstOf l) ≡ 0 → T (not b) × None l
     go true f e = absurd (omega arith)
     go false f e = (tt, f e)
-
-pub first-small : (l : Conditions) → Numbered l → firstOf l ≤ 10
-unfolding firstOf
-first-small [] h = zero-le
-first-small (x ∷ l) h = go (x .1) (first-small l (h .2))
-  where
-    go : (b : Bool) → firstOf l ≤ 10 → cond b (x .0) (firstOf l) ≤ 10
-    go true k = h .1
-    go false k = k
 
 -- ---- conditions behind others
 pub prefix-first : (n : ℕ) (l m : Conditions) → First n l → First n (l ++ m)
