@@ -45,6 +45,15 @@ impl World {
         &self.catalogue
     }
 
+    /// A line for each type's name, as the command `fitcheck` reads them.
+    pub fn names(&self) -> String {
+        let mut types: Vec<(i32, &str)> =
+            self.types.iter().map(|(name, id)| (*id, &**name)).collect();
+        types.sort();
+        let lines = types.iter().map(|(id, name)| format!("{id} {name}\n"));
+        lines.collect()
+    }
+
     /// The id of a type by its name.
     pub fn type_id(&self, line: &Line, name: &str) -> Result<i32, String> {
         let id = self.types.get(name).copied();

@@ -41,9 +41,14 @@ pub fn text(file: &str) -> Result<String, String> {
     fs::read_to_string(&path).map_err(|error| format!("{}: {error}", path.display()))
 }
 
+/// The catalogue that all samples share.
+pub fn world() -> Result<World, String> {
+    World::read(&text("types.txt")?).map_err(|wrong| format!("types.txt, {wrong}"))
+}
+
 /// The images that the descriptions of a sample make.
 pub fn images(sample: &str) -> Result<Images, String> {
-    let world = World::read(&text("types.txt")?).map_err(|wrong| format!("types.txt, {wrong}"))?;
+    let world = world()?;
     let file = format!("{sample}/fit.txt");
     let fit = fit(&text(&file)?, &world).map_err(|wrong| format!("{file}, {wrong}"))?;
     Ok(Images {

@@ -1,6 +1,7 @@
-//! Writes types.bin and fit.bin of each sample from its description, and prints
-//! the original's list of it, as document 01's program does and in words. The
-//! file `expected` is never written: it was worked out from document 01.
+//! Writes names.txt, and types.bin and fit.bin of each sample, from the
+//! descriptions, and prints the original's list of each, as document 01's
+//! program does and in words. The file `expected` is never written: it was
+//! worked out from document 01.
 //!
 //! With a folder named, it writes nothing and prints the original's list of the
 //! types.bin and fit.bin there: `./check DIR`, answered by the original.
@@ -12,12 +13,12 @@ use std::{env, fs};
 use compare::checker::Checker;
 use compare::reference::Original;
 use compare::words;
-use samples::{Images, LENT, SAMPLES, folder, images, printed};
+use samples::{Images, LENT, SAMPLES, folder, images, printed, world};
 
 fn main() -> ExitCode {
     let folders: Vec<String> = env::args().skip(1).collect();
     let done = match &folders[..] {
-        [] => SAMPLES.into_iter().try_for_each(written),
+        [] => names_written().and_then(|()| SAMPLES.into_iter().try_for_each(written)),
         [one] => stored(Path::new(one)).map(|images| print!("{}", printed(&Original, &images))),
         _ => Err("usage: samples [DIR]".to_string()),
     };
@@ -39,6 +40,11 @@ fn stored(folder: &Path) -> Result<Images, String> {
         types: read("types.bin")?,
         fit: read("fit.bin")?,
     })
+}
+
+fn names_written() -> Result<(), String> {
+    let path = folder().join("names.txt");
+    fs::write(&path, world()?.names()).map_err(|error| format!("{}: {error}", path.display()))
 }
 
 fn written(sample: &str) -> Result<(), String> {

@@ -4,7 +4,7 @@
 use std::fs;
 
 use compare::reference::Original;
-use samples::{SAMPLES, folder, images, printed, text};
+use samples::{SAMPLES, folder, images, printed, text, world};
 
 #[test]
 fn the_bytes_are_made_from_the_descriptions() {
@@ -20,6 +20,17 @@ fn the_bytes_are_made_from_the_descriptions() {
             );
         }
     }
+}
+
+#[test]
+fn the_names_are_those_of_the_catalogue() {
+    let stored = text("names.txt").unwrap();
+    assert_eq!(
+        stored,
+        world().unwrap().names(),
+        "run `cargo run -p samples`"
+    );
+    assert!(stored.contains("\n587 Rifter\n"));
 }
 
 #[test]
