@@ -31,7 +31,7 @@ prints() {
     fi
 }
 
-# case NAME TYPES FIT TEXT: files of so many zero bytes, or none for -, and the text that document 01 gives
+# zeros NAME TYPES FIT TEXT: files of so many zero bytes, or none for -, and the text that document 01 gives
 zeros() {
     mkdir -p "$room/$1"
     [ "$2" = - ] || head -c "$2" /dev/zero >"$room/$1/types.bin"
@@ -58,6 +58,60 @@ zeros 'fit.bin of 65536 bytes' 20 65536 'refused 4\n'
 zeros 'fit.bin of 65537 bytes' 20 65537 'too long\n'
 zeros 'both of 65537 bytes' 65537 65537 'too long\n'
 zeros 'a long fit.bin without types.bin' - 65537 'too long\n'
+
+# full NAME SKILLS: 256 items in one rig slot, each of which breaks eight rules, and so many types that are no skills: 2,048 entries
+# and one for each such type. 65,520 bytes hold 2,730.
+full() {
+    mkdir -p "$room/$1"
+    # shellcheck disable=SC2059
+    printf "$(awk '
+        function u8(n) { printf "\\%03o", n }
+        function u16(n) { u8(n % 256); u8(int(n / 256)) }
+        function u32(n) { u16(n % 65536); u16(int(n / 65536)) }
+        BEGIN {
+            u32(6); u32(0); u32(1); u32(0); u32(0)
+            # rigSize, canFitShipGroup01, maxGroupFitted, maxGroupOnline, maxGroupActive, maxTypeFitted: numbers, then ids
+            for (k = 0; k < 2; k++) { u32(33); u32(47); u32(72); u32(73); u32(74); u32(75) }
+            # the hull: type 587, group 25, category 6, no volume
+            u32(587); u32(25); u32(6); u32(0); u32(0)
+        }')" >"$room/$1/types.bin"
+    # shellcheck disable=SC2059
+    printf "$(awk -v skills="$2" '
+        function u8(n) { printf "\\%03o", n }
+        function u16(n) { u8(n % 256); u8(int(n / 256)) }
+        function u32(n) { u16(n % 65536); u16(int(n / 65536)) }
+        function one() { u32(0); u16(0); u16(16368) }
+        function two() { u32(0); u16(0); u16(16384) }
+        BEGIN {
+            u32(skills); u32(256); u32(256); u32(1 + 6 * 256)
+            u32(587); u32(0); u32(0)
+            for (k = 1; k <= skills; k++) u32(k)
+            for (k = 1; k <= skills; k++) u8(5)
+            for (k = 0; k < 256; k++) { u32(5); u32(1); u8(3); u8(0); u16(0) }
+            u8(0); u8(0); u16(1)
+            u32(0)
+            for (k = 0; k < 256; k++) { u8(2); u8(0); u16(6) }
+            u32(33)
+            for (k = 0; k < 256; k++) { u32(33); u32(47); u32(72); u32(73); u32(74); u32(75) }
+            one()
+            for (k = 0; k < 256; k++) { two(); one(); one(); one(); one(); one() }
+        }')" >"$room/$1/fit.bin"
+    prints "$1" "$room/$1" "$room/$1.expected"
+}
+
+# NotASkill; NotAModule and SlotTaken, pair by pair; RigSize; ShipRestricted; MaxGroup in its three states; MaxType
+awk 'BEGIN {
+    for (k = 1; k <= 682; k++) print "0 0 21 0 " k " 0 0 0"
+    for (k = 0; k < 256; k++) { print "1 " k " 4 0 0 0 0 0"; print "1 " k " 8 0 0 0 0 0" }
+    for (k = 0; k < 256; k++) print "1 " k " 12 0 1 2 0 0"
+    for (k = 0; k < 256; k++) print "1 " k " 13 0 0 0 0 0"
+    for (l = 0; l < 3; l++) for (k = 0; k < 256; k++) print "1 " k " 17 " l " 0 256 1 0"
+    for (k = 0; k < 256; k++) print "1 " k " 18 0 5 256 1 0"
+    print "count 2730"
+}' >"$room/2730 entries.expected"
+full '2730 entries' 682
+echo 'refused 10' >"$room/2731 entries.expected"
+full '2731 entries' 683
 
 # the folder is the caller's, and by default the faulted sample
 (cd "$root/samples" && ../check clear) | cmp -s - "$root/samples/clear/expected"

@@ -1,22 +1,45 @@
-//! Writes names.txt, and types.bin and fit.bin of each sample, from the descriptions, and prints
-//! the original's list of it, as document 01's program does and in words. The
-//! file `expected` is never written: it was worked out from document 01.
+//! Writes names.txt, and types.bin and fit.bin of each sample, from the
+//! descriptions, and prints the original's list of each, as document 01's
+//! program does and in words. The file `expected` is never written: it was
+//! worked out from document 01.
+//!
+//! With a folder named, it writes nothing and prints the original's list of the
+//! types.bin and fit.bin there: `./check DIR`, answered by the original.
 
-use std::fs;
+use std::path::Path;
 use std::process::ExitCode;
+use std::{env, fs};
 
 use compare::checker::Checker;
 use compare::reference::Original;
 use compare::words;
-use samples::{LENT, SAMPLES, folder, images, printed, world};
+use samples::{Images, LENT, SAMPLES, folder, images, printed, world};
 
 fn main() -> ExitCode {
-    let all = names_written().and_then(|()| SAMPLES.into_iter().try_for_each(written));
-    if let Err(message) = all {
-        eprintln!("samples: {message}");
-        return ExitCode::FAILURE;
+    let folders: Vec<String> = env::args().skip(1).collect();
+    let done = match &folders[..] {
+        [] => names_written().and_then(|()| SAMPLES.into_iter().try_for_each(written)),
+        [one] => stored(Path::new(one)).map(|images| print!("{}", printed(&Original, &images))),
+        _ => Err("usage: samples [DIR]".to_string()),
+    };
+    match done {
+        Ok(()) => ExitCode::SUCCESS,
+        Err(message) => {
+            eprintln!("samples: {message}");
+            ExitCode::FAILURE
+        }
     }
-    ExitCode::SUCCESS
+}
+
+fn stored(folder: &Path) -> Result<Images, String> {
+    let read = |file: &str| {
+        let path = folder.join(file);
+        fs::read(&path).map_err(|error| format!("{}: {error}", path.display()))
+    };
+    Ok(Images {
+        types: read("types.bin")?,
+        fit: read("fit.bin")?,
+    })
 }
 
 fn names_written() -> Result<(), String> {
