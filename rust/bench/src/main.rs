@@ -1,0 +1,266 @@
+//! The benchmark: `cargo run --profile timed -p bench [-- OPTION]`.
+
+use std::hint::black_box;
+use std::process::ExitCode;
+use std::{env, fs, panic};
+
+use bench::fits::{self, Shape};
+use bench::report;
+use bench::stack::{self, Call};
+use bench::subject::{self, Catalogue, Fit, List};
+use bench::svg::{self, Chart, Curve};
+use bench::world::{self, FULL, PARTS, SMALL};
+
+const USAGE: &str = "\
+bench              all tables
+bench --svg FILE   and both curves of growth as a picture
+bench --call CASE TIMES
+                   the library's call of case a, b, c, C (full-size), d, e or f alone,
+                   for a profiler
+";
+
+/// How many fits of one shape take turns.
+const FITS: u64 = 8;
+
+/// The fits of a hall.
+const HALL: u64 = 64;
+
+/// The result whose skills are asked for: that of the first module.
+const MODULE: u32 = 2;
+
+/// How many pairs the growing fits have.
+const PAIRS: [usize; 5] = [1, 4, 16, 64, 256];
+
+fn main() -> ExitCode {
+    let arguments: Vec<String> = env::args().skip(1).collect();
+    let arguments: Vec<&str> = arguments.iter().map(String::as_str).collect();
+    match arguments.as_slice() {
+        [] => everything(None),
+        ["--svg", file] => everything(Some(file)),
+        ["--call", case, times] => match times.parse() {
+            Ok(times) if call(case, times) => {}
+            _ => return usage(),
+        },
+        ["--in-stack", name, frames] => {
+            let call = Call::ALL.into_iter().find(|call| call.name() == *name);
+            let (Some(call), Ok(frames)) = (call, frames.parse()) else {
+                return usage();
+            };
+            println!("{}", stack::call_at(call, frames));
+        }
+        _ => return usage(),
+    }
+    ExitCode::SUCCESS
+}
+
+fn usage() -> ExitCode {
+    eprint!("{USAGE}");
+    ExitCode::from(2)
+}
+
+fn of_shape(shape: Shape, count: u64) -> Vec<Fit> {
+    (0..count)
+        .map(|number| Fit::new(&fits::fit(shape, number)))
+        .collect()
+}
+
+fn everything(picture: Option<&str>) {
+    if overflow_is_checked() {
+        println!("This build checks sums for overflow, which slows the original down;");
+        println!("`cargo run --profile timed -p bench` does not.\n");
+    }
+    let catalogues = PARTS.map(|part| Catalogue::new(&world::catalogue(part)));
+    let [small, .., full] = &catalogues;
+    lists(small, full);
+    skills(small, full);
+    hall(small, full);
+    let by_pairs = grown_pairs(small);
+    let by_part = grown_catalogue(&catalogues);
+    if let Some(file) = picture {
+        let drawn = picture_of(&by_pairs, &by_part);
+        fs::write(file, drawn).unwrap_or_else(|error| panic!("{file}: {error}"));
+    }
+    stacks();
+}
+
+/// Whether sums are checked in this build, the original's among them.
+fn overflow_is_checked() -> bool {
+    let hook = panic::take_hook();
+    panic::set_hook(Box::new(|_| {}));
+    let checked = panic::catch_unwind(|| black_box(u8::MAX) + 1).is_err();
+    panic::set_hook(hook);
+    checked
+}
+
+fn lists(small: &Catalogue, full: &Catalogue) {
+    println!("## List calls, µs\n");
+    report::list_head();
+    for (title, catalogue, shape) in [
+        ("(a) small fit, small catalogue", small, fits::SMALL),
+        (
+            "(b) realistic fit, full-size catalogue",
+            full,
+            fits::REALISTIC,
+        ),
+        ("(c) 256 pairs, small catalogue", small, fits::LARGEST),
+        ("(c) 256 pairs, full-size catalogue", full, fits::LARGEST),
+    ] {
+        let fits = of_shape(shape, FITS);
+        let row = subject::list(catalogue, &fits);
+        report::list_row(title, fits.len(), &row);
+    }
+    println!();
+}
+
+fn skills(small: &Catalogue, full: &Catalogue) {
+    println!("## Skill calls, µs\n");
+    report::skill_head();
+    let realistic = of_shape(fits::REALISTIC, FITS);
+    let chained = [Fit::new(&fits::at_chain())];
+    let bare = Catalogue::new(&world::chain(512, 2));
+    let wide = Catalogue::new(&world::chain(512, 12));
+    for (title, catalogue, fits, result) in [
+        (
+            "(e) one module, small catalogue",
+            small,
+            &realistic[..],
+            MODULE,
+        ),
+        (
+            "(e) one module, full-size catalogue",
+            full,
+            &realistic,
+            MODULE,
+        ),
+        ("(f) chain of 512, 2 base values each", &bare, &chained, 0),
+        ("(f) chain of 512, 12 base values each", &wide, &chained, 0),
+    ] {
+        let row = subject::skill(catalogue, fits, result);
+        // The chain's catalogue is small, so that its scan does not count.
+        report::skill_row(title, fits.len(), &row, result == MODULE);
+    }
+    println!();
+}
+
+fn hall(small: &Catalogue, full: &Catalogue) {
+    println!("## (d) A hall of 64, full-size catalogue\n");
+    let fits = of_shape(fits::REALISTIC, HALL);
+    report::hall_table(fits.len(), &subject::hall(full, small, &fits));
+    println!();
+}
+
+fn grown_pairs(small: &Catalogue) -> Vec<List> {
+    println!("## Growth with the pairs, small catalogue, µs\n");
+    report::growth_head("pairs");
+    let mut rows = Vec::new();
+    for pairs in PAIRS {
+        let row = subject::list(small, &of_shape(fits::of_pairs(pairs), FITS));
+        report::growth_row(&pairs.to_string(), &row);
+        rows.push(row);
+    }
+    println!();
+    rows
+}
+
+fn grown_catalogue(catalogues: &[Catalogue]) -> Vec<List> {
+    println!("## Growth with the catalogue, realistic fit, µs\n");
+    report::growth_head("part of the full size");
+    let fits = of_shape(fits::REALISTIC, FITS);
+    let mut rows = Vec::new();
+    for (part, catalogue) in PARTS.iter().zip(catalogues) {
+        let row = subject::list(catalogue, &fits);
+        report::growth_row(&part_name(*part), &row);
+        rows.push(row);
+    }
+    println!();
+    rows
+}
+
+fn part_name(part: usize) -> String {
+    match part {
+        FULL => "1".to_string(),
+        _ => format!("1/{part}"),
+    }
+}
+
+fn picture_of(by_pairs: &[List], by_part: &[List]) -> String {
+    svg::draw(&[
+        Chart {
+            title: "By the fit's size (1/64 of the catalogue)",
+            across: "pairs",
+            marks: PAIRS.iter().map(usize::to_string).collect(),
+            curves: curves(by_pairs),
+        },
+        Chart {
+            title: "By the catalogue's size (a realistic fit)",
+            across: "part of the full size",
+            marks: PARTS.iter().map(|part| part_name(*part)).collect(),
+            curves: curves(by_part),
+        },
+    ])
+}
+
+fn curves(rows: &[List]) -> Vec<Curve<'static>> {
+    let curve = |name, colour, time: fn(&List) -> f64| Curve {
+        name,
+        colour,
+        values: rows.iter().map(|row| time(row) / 1e3).collect(),
+    };
+    vec![
+        curve("the list call", "#c2410c", |row| row.list),
+        curve("scan + the original", "#1d4ed8", |row| {
+            row.scan + row.original
+        }),
+        curve("scan + the original's list part", "#15803d", |row| {
+            row.scan + row.part
+        }),
+        curve("scan", "#777777", |row| row.scan),
+    ]
+}
+
+fn stacks() {
+    println!("## Stack, bytes\n");
+    println!("| call | stack | of 256 KiB |");
+    println!("|---|---|---|");
+    for call in [Call::List, Call::Skill, Call::Hall] {
+        let bytes = stack::measure(call);
+        let share = bytes as f64 / stack::BUDGET as f64 * 100.0;
+        println!("| {} | {bytes} | {share:.1} % |", call.name());
+    }
+}
+
+/// Makes the library's call of a case so many times, and nothing else.
+fn call(case: &str, times: usize) -> bool {
+    let library = subject::library();
+    let mut buffer = vec![0; 123_384];
+    let (catalogue, fit, result) = match case {
+        "a" => (world::catalogue(SMALL), fits::fit(fits::SMALL, 0), None),
+        "b" => (world::catalogue(FULL), fits::fit(fits::REALISTIC, 0), None),
+        "c" => (world::catalogue(SMALL), fits::fit(fits::LARGEST, 0), None),
+        "C" => (world::catalogue(FULL), fits::fit(fits::LARGEST, 0), None),
+        "e" => (
+            world::catalogue(FULL),
+            fits::fit(fits::REALISTIC, 0),
+            Some(MODULE),
+        ),
+        "f" => (world::chain(512, 2), fits::at_chain(), Some(0)),
+        "d" => {
+            let catalogue = world::catalogue(FULL).image();
+            let input = subject::hall_input(&of_shape(fits::REALISTIC, HALL));
+            for _ in 0..times {
+                black_box(library.hall(black_box(&catalogue), &input));
+            }
+            return true;
+        }
+        _ => return false,
+    };
+    let (catalogue, fit) = (catalogue.image(), fit.image());
+    for _ in 0..times {
+        let catalogue = black_box(&catalogue);
+        black_box(match result {
+            Some(result) => library.skill(catalogue, &fit, result, &mut buffer),
+            None => library.list(catalogue, &fit, &mut buffer),
+        });
+    }
+    true
+}

@@ -1,0 +1,125 @@
+//! The figures as Markdown tables.
+
+use crate::subject::{Hall, List, Skill};
+
+/// Nanoseconds in microseconds.
+pub fn micros(nanos: f64) -> String {
+    let micros = nanos / 1e3;
+    match micros {
+        _ if micros < 10.0 => format!("{micros:.2}"),
+        _ if micros < 100.0 => format!("{micros:.1}"),
+        _ => format!("{micros:.0}"),
+    }
+}
+
+/// A ratio that has no target.
+fn ratio(ratio: f64) -> String {
+    format!("{ratio:.2}")
+}
+
+/// A ratio, and whether it meets its target: no more than 1.
+fn held(ratio: f64) -> String {
+    let word = if ratio <= 1.0 { "met" } else { "missed" };
+    format!("{ratio:.2} {word}")
+}
+
+pub fn list_head() {
+    println!(
+        "| | entries | list | short buffer | scan | original | its list part \
+         | list ÷ (scan + original) | short buffer | list ÷ (scan + list part) | short buffer |"
+    );
+    println!("|---|---|---|---|---|---|---|---|---|---|---|");
+}
+
+pub fn list_row(title: &str, fits: usize, row: &List) {
+    let whole = row.scan + row.original;
+    let part = row.scan + row.part;
+    println!(
+        "| {title} | {:.1} | {} | {} | {} | {} | {} | {} | {} | {} | {} |",
+        row.entries as f64 / fits as f64,
+        micros(row.list),
+        micros(row.exact),
+        micros(row.scan),
+        micros(row.original),
+        micros(row.part),
+        held(row.list / whole),
+        held(row.exact / whole),
+        ratio(row.list / part),
+        ratio(row.exact / part),
+    );
+}
+
+pub fn skill_head() {
+    println!(
+        "| | entries | skill | short buffer | scan | original \
+         | skill ÷ (scan + original) | skill ÷ original |"
+    );
+    println!("|---|---|---|---|---|---|---|---|");
+}
+
+/// `scanned`: whether the scan counts in the target, or the original alone.
+pub fn skill_row(title: &str, fits: usize, row: &Skill, scanned: bool) {
+    let (with_scan, alone) = if scanned {
+        (held as fn(f64) -> String, ratio as fn(f64) -> String)
+    } else {
+        (ratio as fn(f64) -> String, held as fn(f64) -> String)
+    };
+    println!(
+        "| {title} | {:.1} | {} | {} | {} | {} | {} | {} |",
+        row.entries as f64 / fits as f64,
+        micros(row.skill),
+        micros(row.exact),
+        micros(row.scan),
+        micros(row.original),
+        with_scan(row.skill / (row.scan + row.original)),
+        alone(row.skill / row.original),
+    );
+}
+
+pub fn hall_table(fits: usize, row: &Hall) {
+    let scan = row.scans / fits as f64;
+    let beyond = row.lists - row.scans;
+    println!("| | µs | hall ÷ this |");
+    println!("|---|---|---|");
+    let title = format!("(d) hall of {fits}, of which {} faulted", row.faulted);
+    println!("| {title} | {} | |", micros(row.hall));
+    let small = scan + row.small_lists;
+    let what = "one scan of the catalogue, and list calls on the small catalogue";
+    println!(
+        "| {what} | {} | {} |",
+        micros(small),
+        held(row.hall / small)
+    );
+    for (what, time) in [
+        (
+            "one scan of the catalogue, and what single list calls take beyond theirs",
+            scan + beyond,
+        ),
+        (
+            "one scan of the catalogue, scans of the fits, the original's list part",
+            scan + row.fit_scans + row.part,
+        ),
+    ] {
+        println!("| {what} | {} | {} |", micros(time), ratio(row.hall / time));
+    }
+}
+
+pub fn growth_head(across: &str) {
+    println!(
+        "| {across} | list | scan | original | its list part \
+         | list ÷ (scan + original) | list ÷ (scan + list part) |"
+    );
+    println!("|---|---|---|---|---|---|---|");
+}
+
+pub fn growth_row(at: &str, row: &List) {
+    println!(
+        "| {at} | {} | {} | {} | {} | {} | {} |",
+        micros(row.list),
+        micros(row.scan),
+        micros(row.original),
+        micros(row.part),
+        ratio(row.list / (row.scan + row.original)),
+        ratio(row.list / (row.scan + row.part)),
+    );
+}

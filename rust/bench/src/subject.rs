@@ -1,0 +1,345 @@
+//! One input, ready for both sides: images for the library and the scan,
+//! structures for the original.
+
+use std::hint::black_box;
+
+use compare::checker::{Checker, ENTRY};
+use compare::names::{COUNT, REQUIRED};
+use compare::{model, rattle, reference};
+use original::{Info, ItemResult, Rule, Run, Target};
+
+use crate::scan;
+use crate::tables::{HashedTables, SortedTables};
+use crate::timing::medians;
+
+/// A buffer for any list, and one for the skills of any result: the calls
+/// write into these in one pass, and count before they write into shorter ones.
+const ANY_LIST: usize = 123_384;
+const ANY_SKILLS: usize = 12_288;
+
+/// How often each task is sampled.
+const ROUNDS: usize = 101;
+
+/// A catalogue for both sides.
+pub struct Catalogue {
+    pub image: Vec<u8>,
+    hashed: HashedTables,
+    sorted: SortedTables,
+    /// Without the names by which a result demands skills.
+    hashed_part: HashedTables,
+    sorted_part: SortedTables,
+}
+
+impl Catalogue {
+    pub fn new(catalogue: &model::Catalogue) -> Catalogue {
+        let image = catalogue.image();
+        assert!(scan::catalogue(&image), "the catalogue is accepted");
+        Catalogue {
+            image,
+            hashed: HashedTables::new(catalogue, COUNT),
+            sorted: SortedTables::new(catalogue, COUNT),
+            hashed_part: HashedTables::new(catalogue, REQUIRED),
+            sorted_part: SortedTables::new(catalogue, REQUIRED),
+        }
+    }
+}
+
+/// A fit for both sides.
+pub struct Fit {
+    pub image: Vec<u8>,
+    decoded: reference::Fit,
+}
+
+impl Fit {
+    pub fn new(fit: &model::Fit) -> Fit {
+        let image = fit.image();
+        assert!(scan::fit(&image), "the fit is accepted");
+        let decoded = reference::Fit::decode(&image).expect("the fit is accepted");
+        Fit { image, decoded }
+    }
+
+    fn run<'a, I: Info>(&'a self, info: &'a I) -> Run<'a, I> {
+        Run {
+            info,
+            fit: &self.decoded.fit,
+            calculation: &self.decoded.calculation,
+        }
+    }
+
+    fn result(&self, number: u32) -> &ItemResult {
+        self.decoded.result(number).expect("the result is there")
+    }
+}
+
+/// The library, which every figure is about.
+pub fn library() -> Box<dyn Checker> {
+    rattle::library().expect(rattle::MISSING)
+}
+
+/// What the list call takes, and what it is held against; nanoseconds.
+pub struct List {
+    /// Entries of all fits together.
+    pub entries: usize,
+    /// With a buffer for any list, and with one that just holds the entries.
+    pub list: f64,
+    pub exact: f64,
+    pub scan: f64,
+    /// `validate` as published.
+    pub original: f64,
+    /// `validate` with the skill rule kept from finding anything: its entries
+    /// are not in the list, so this is the work that the list call does too.
+    pub part: f64,
+}
+
+/// What the skill call takes, and what it is held against.
+pub struct Skill {
+    pub entries: usize,
+    pub skill: f64,
+    pub exact: f64,
+    pub scan: f64,
+    /// `report`, the faster of the two tables.
+    pub original: f64,
+}
+
+/// What the hall call takes, and what it is held against; of all fits.
+pub struct Hall {
+    pub faulted: usize,
+    pub hall: f64,
+    /// As many scans of the catalogue as there are fits, and a scan of each
+    /// fit.
+    pub scans: f64,
+    pub fit_scans: f64,
+    /// List calls on the same catalogue, and on a smaller one.
+    pub lists: f64,
+    pub small_lists: f64,
+    /// `validate`, without the skill rule as above.
+    pub part: f64,
+}
+
+/// Goes through the fits in turn, so that no branch of either side learns one
+/// fit by heart.
+struct Turns<'a> {
+    fits: &'a [Fit],
+    next: usize,
+}
+
+impl<'a> Turns<'a> {
+    fn new(fits: &'a [Fit]) -> Turns<'a> {
+        Turns { fits, next: 0 }
+    }
+
+    fn next(&mut self) -> (usize, &'a Fit) {
+        let number = self.next;
+        self.next = (number + 1) % self.fits.len();
+        (number, black_box(&self.fits[number]))
+    }
+}
+
+/// Times the list call, over the fits in turn.
+pub fn list(catalogue: &Catalogue, fits: &[Fit]) -> List {
+    let library = library();
+    let mut long = vec![0; ANY_LIST];
+    let counts: Vec<usize> = fits
+        .iter()
+        .map(|fit| list_count(&*library, catalogue, fit, &mut long))
+        .collect();
+    let mut exact: Vec<Vec<u8>> = counts.iter().map(|count| vec![0; ENTRY * count]).collect();
+
+    let [mut t0, mut t1, mut t2, mut t3, mut t4, mut t5, mut t6] =
+        std::array::from_fn(|_| Turns::new(fits));
+    let image = &catalogue.image;
+    let [list, exact, scan, hashed, sorted, hashed_part, sorted_part] = medians(
+        ROUNDS,
+        [
+            &mut || {
+                let fit = t0.next().1;
+                black_box(library.list(black_box(image), &fit.image, &mut long));
+            },
+            &mut || {
+                let (number, fit) = t1.next();
+                black_box(library.list(black_box(image), &fit.image, &mut exact[number]));
+            },
+            &mut || {
+                black_box(scan::catalogue(black_box(image)));
+                black_box(scan::fit(&t2.next().1.image));
+            },
+            &mut || drop(black_box(t3.next().1.run(&catalogue.hashed).validate())),
+            &mut || drop(black_box(t4.next().1.run(&catalogue.sorted).validate())),
+            &mut || {
+                drop(black_box(
+                    t5.next().1.run(&catalogue.hashed_part).validate(),
+                ))
+            },
+            &mut || {
+                drop(black_box(
+                    t6.next().1.run(&catalogue.sorted_part).validate(),
+                ))
+            },
+        ],
+    );
+    List {
+        entries: counts.iter().sum(),
+        list,
+        exact,
+        scan,
+        original: hashed.min(sorted),
+        part: hashed_part.min(sorted_part),
+    }
+}
+
+/// How many entries both sides give; they must agree.
+fn list_count(library: &dyn Checker, catalogue: &Catalogue, fit: &Fit, buffer: &mut [u8]) -> usize {
+    let count = library.list(&catalogue.image, &fit.image, buffer) as usize;
+    let listed = fit
+        .run(&catalogue.hashed)
+        .validate()
+        .iter()
+        .filter(|violation| !matches!(violation.rule, Rule::Skill { .. }))
+        .count();
+    assert_eq!(count, listed, "entries of the library and of the original");
+    for part in [
+        fit.run(&catalogue.hashed_part).validate().len(),
+        fit.run(&catalogue.sorted_part).validate().len(),
+    ] {
+        assert_eq!(count, part, "entries without the skill rule");
+    }
+    count
+}
+
+/// Times the skill call of one result, over the fits in turn.
+pub fn skill(catalogue: &Catalogue, fits: &[Fit], result: u32) -> Skill {
+    let library = library();
+    let target = Target::Item { index: 0 };
+    let mut long = vec![0; ANY_SKILLS];
+    let mut counts = Vec::new();
+    for fit in fits {
+        let count = library.skill(&catalogue.image, &fit.image, result, &mut long) as usize;
+        let outcome = fit.result(result);
+        for listed in [
+            fit.run(&catalogue.hashed).report(outcome, target).len(),
+            fit.run(&catalogue.sorted).report(outcome, target).len(),
+        ] {
+            assert_eq!(count, listed, "skills of the library and of the original");
+        }
+        counts.push(count);
+    }
+    let mut exact: Vec<Vec<u8>> = counts.iter().map(|count| vec![0; ENTRY * count]).collect();
+
+    let [mut t0, mut t1, mut t2, mut t3, mut t4] = std::array::from_fn(|_| Turns::new(fits));
+    let image = &catalogue.image;
+    let [skill, exact, scan, hashed, sorted] = medians(
+        ROUNDS,
+        [
+            &mut || {
+                let fit = t0.next().1;
+                black_box(library.skill(black_box(image), &fit.image, result, &mut long));
+            },
+            &mut || {
+                let (number, fit) = t1.next();
+                let buffer = &mut exact[number];
+                black_box(library.skill(black_box(image), &fit.image, result, buffer));
+            },
+            &mut || {
+                black_box(scan::catalogue(black_box(image)));
+                black_box(scan::fit(&t2.next().1.image));
+            },
+            &mut || {
+                let fit = t3.next().1;
+                let run = fit.run(&catalogue.hashed);
+                drop(black_box(run.report(fit.result(result), target)));
+            },
+            &mut || {
+                let fit = t4.next().1;
+                let run = fit.run(&catalogue.sorted);
+                drop(black_box(run.report(fit.result(result), target)));
+            },
+        ],
+    );
+    Skill {
+        entries: counts.iter().sum(),
+        skill,
+        exact,
+        scan,
+        original: hashed.min(sorted),
+    }
+}
+
+/// Times the hall call on the fits, with list calls on both catalogues beside.
+pub fn hall(catalogue: &Catalogue, small: &Catalogue, fits: &[Fit]) -> Hall {
+    let library = library();
+    let mut long = vec![0; ANY_LIST];
+    let counts = fits
+        .iter()
+        .map(|fit| list_count(&*library, catalogue, fit, &mut long));
+    let faulted = counts.filter(|count| *count > 0).count();
+    let input = hall_input(fits);
+    let word = library.hall(&catalogue.image, &input);
+    let clear = fits.len() - faulted;
+    assert_eq!(
+        word,
+        (clear + 256 * faulted) as u64,
+        "clear and faulted fits"
+    );
+
+    let image = &catalogue.image;
+    let mut long_too = long.clone();
+    let [hall, scans, fit_scans, lists, small_lists, hashed, sorted] = medians(
+        ROUNDS,
+        [
+            &mut || {
+                black_box(library.hall(black_box(image), black_box(&input)));
+            },
+            &mut || {
+                for _ in fits {
+                    black_box(scan::catalogue(black_box(image)));
+                }
+            },
+            &mut || {
+                for fit in fits {
+                    black_box(scan::fit(black_box(&fit.image)));
+                }
+            },
+            &mut || {
+                for fit in fits {
+                    black_box(library.list(black_box(image), &fit.image, &mut long));
+                }
+            },
+            &mut || {
+                for fit in fits {
+                    let image = black_box(&small.image);
+                    black_box(library.list(image, &fit.image, &mut long_too));
+                }
+            },
+            &mut || {
+                for fit in fits {
+                    drop(black_box(fit.run(&catalogue.hashed_part).validate()));
+                }
+            },
+            &mut || {
+                for fit in fits {
+                    drop(black_box(fit.run(&catalogue.sorted_part).validate()));
+                }
+            },
+        ],
+    );
+    Hall {
+        faulted,
+        hall,
+        scans,
+        fit_scans,
+        lists,
+        small_lists,
+        part: hashed.min(sorted),
+    }
+}
+
+/// A hall input: the number of fits, their lengths, the fits end to end.
+pub fn hall_input(fits: &[Fit]) -> Vec<u8> {
+    let lengths = fits.iter().map(|fit| fit.image.len() as u32);
+    let mut input = (fits.len() as u32).to_le_bytes().to_vec();
+    input.extend(lengths.flat_map(u32::to_le_bytes));
+    for fit in fits {
+        input.extend_from_slice(&fit.image);
+    }
+    input
+}
