@@ -8,7 +8,7 @@ ghost use mathlib.Core.Path.{_≡_};
 ghost use mathlib.Core.List.{_++_};
 ghost use Prim.Native.Nat.{ℕ, _+_, _*_, _<_, _≤_};
 ghost use lib.ListN.{length, getD};
-ghost use Rattle.floats.specs.Floats.{zeroF};
+ghost use Rattle.floats.specs.Floats.{zeroF, ofNat};
 ghost use Rattle.fit.specs.Fit.{resultOf};
 ghost use Rattle.fit.specs.Lookups.{amount};
 ghost use Rattle.fit.specs.Sound as Fit;
@@ -110,6 +110,17 @@ pub fn launched(fit: &[u8]) -> u64
     sum
 }
 
+// The drones in space and how many the character can lead.
+fn drones_load(fit: &[u8], starts: &[u32; 259], id: i32) -> Load
+    requires { ⌜ Fit.Sound (now fit) × Fit.Starts (now fit) (now starts) ⌝ }
+    ensures { λ r. ⌜ (r .used ≡ ofNat (launchedIn (now (fit .entry)))) × (r .available ≡ amount (resultOf (now (fit .entry)) 1) id) ⌝ }
+{
+    Load {
+        used: std::num::nearest_u64_to_f64(launched(fit)),
+        available: fit::amount(fit, starts, 1, id),
+    }
+}
+
 // The cargo so far with what pair i adds to it.
 fn cargo_with(fit: &[u8], volumes: &[f64; 256], sum: f64, i: usize) -> f64
     requires { ⌜ Fit.Sound (now fit) × (i < pairCount (now fit)) ⌝ }
@@ -135,6 +146,17 @@ fn cargo_used(fit: &[u8], volumes: &[f64; 256]) -> f64
         i += 1;
     }
     sum
+}
+
+// What the cargo takes up and how much the ship holds.
+fn cargo_load(fit: &[u8], starts: &[u32; 259], volumes: &[f64; 256], id: i32) -> Load
+    requires { ⌜ Fit.Sound (now fit) × Fit.Starts (now fit) (now starts) ⌝ }
+    ensures { λ r. ⌜ (r .used ≡ cargoIn (now (fit .entry)) (now (volumes .entry))) × (r .available ≡ amount (resultOf (now (fit .entry)) 0) id) ⌝ }
+{
+    Load {
+        used: cargo_used(fit, volumes),
+        available: fit::amount(fit, starts, 0, id),
+    }
 }
 
 // One row of the loads, where both names have ids.
@@ -211,13 +233,7 @@ pub fn launched_drones(
 {
     let max_active = catalogue::attribute_id(catalogue, 20);
     match max_active {
-        AttributeId::Known(id) => {
-            let load = Load {
-                used: std::num::nearest_u64_to_f64(launched(fit)),
-                available: fit::amount(fit, starts, 1, id),
-            };
-            resource(5, load, out, n)
-        }
+        AttributeId::Known(id) => resource(5, drones_load(fit, starts, id), out, n),
         AttributeId::Unknown => n,
     }
 }
@@ -236,13 +252,7 @@ pub fn cargo(
 {
     let capacity = catalogue::attribute_id(catalogue, 21);
     match capacity {
-        AttributeId::Known(id) => {
-            let load = Load {
-                used: cargo_used(fit, volumes),
-                available: fit::amount(fit, starts, 0, id),
-            };
-            resource(11, load, out, n)
-        }
+        AttributeId::Known(id) => resource(11, cargo_load(fit, starts, volumes, id), out, n),
         AttributeId::Unknown => n,
     }
 }

@@ -1,6 +1,5 @@
 -- `resource::cargo` meets its contract, by whether name 21 has an id.
-use mathlib.Core.Path.{_≡_, sym, ap, _∙_}
-use Prim.Native.Nat.{ℕ}
+use mathlib.Core.Path.{sym, ap, _∙_}
 use mir.Syntax.{w32}
 use mir.ValLaws.{toZ-ofZ}
 use Rattle.catalogue.specs.Answers.{idOf}
@@ -17,11 +16,8 @@ attribute-id-requires c κs = search needs
 enum-known-capacity : tie.Need-enum-known-capacity
 enum-known-capacity c = search needs
 
-cargo-used-requires : tie.Need-cargo-used-requires
-cargo-used-requires c κs = search needs
-
-amount-requires : tie.Need-amount-requires
-amount-requires c κs = search needs
+cargo-load-requires : tie.Need-cargo-load-requires
+cargo-load-requires c κs = search needs
 
 resource-requires : tie.Need-resource-requires
 resource-requires c κs = search needs
@@ -34,12 +30,14 @@ same-length c = search needs
 
 returns : tie.Need-returns
 returns c =
-    let s = c .before .before .before .before .before .before .before .before .before .before .before .before .before in
-    let q = c .before .before .before .before .before .before .before .capacity .given in
+    let l = c .before .before .before .before in
+    let t = l .before .before .before .before in
+    let s = t .before .before .before .before in
+    let q = l .before .before .capacity .given in
     let fit = s .args .fit .now in
-    cargo-some (s .args .catalogue .now) fit (s .args .volumes .now) (s .pre .1) (q .0 .0) _ _ (sym (c .before .before .before .before .before .before .before .before .before .attribute-id .ensures) ∙ ap idOf (q .1))
-    (c .before .before .before .before .before .cargo-used .ensures)
-    (c .before .before .before .before .amount .ensures ∙ ap (amount (resultOf fit 0)) (toZ-ofZ w32 (q .0 .0) (search needs)))
+    cargo-some (s .args .catalogue .now) fit (s .args .volumes .now) (s .pre .1) (q .0 .0) _ _ (sym (t .attribute-id .ensures) ∙ ap idOf (q .1))
+    (l .cargo-load .ensures .0)
+    (l .cargo-load .ensures .1 ∙ ap (amount (resultOf fit 0)) (toZ-ofZ w32 (q .0 .0) (search needs)))
     (c .before .before .resource .ensures)
 
 returns-2 : tie.Need-returns-2
@@ -53,8 +51,7 @@ cargo-spec =
     (tie.spec
     attribute-id-requires
     enum-known-capacity
-    cargo-used-requires
-    amount-requires
+    cargo-load-requires
     resource-requires
     enum-told
     same-length

@@ -1,9 +1,7 @@
 -- `resource::launched_drones` meets its contract, by whether name 20 has an id.
-use mathlib.Core.Path.{_≡_, sym, ap, _∙_}
-use Prim.Native.Nat.{ℕ}
+use mathlib.Core.Path.{sym, ap, _∙_}
 use mir.Syntax.{w32}
 use mir.ValLaws.{toZ-ofZ}
-use Rattle.floats.specs.Floats.{ofNat}
 use Rattle.catalogue.specs.Answers.{idOf}
 use Rattle.fit.specs.Fit.{resultOf}
 use Rattle.fit.specs.Lookups.{amount}
@@ -18,14 +16,8 @@ attribute-id-requires c κs = search needs
 enum-known-max-active : tie.Need-enum-known-max-active
 enum-known-max-active c = search needs
 
-launched-requires : tie.Need-launched-requires
-launched-requires c κs = search needs
-
-nearest-u64-to-f64-requires : tie.Need-nearest-u64-to-f64-requires
-nearest-u64-to-f64-requires c κs = search needs
-
-amount-requires : tie.Need-amount-requires
-amount-requires c κs = search needs
+drones-load-requires : tie.Need-drones-load-requires
+drones-load-requires c κs = search needs
 
 resource-requires : tie.Need-resource-requires
 resource-requires c κs = search needs
@@ -38,12 +30,14 @@ same-length c = search needs
 
 returns : tie.Need-returns
 returns c =
-    let s = c .before .before .before .before .before .before .before .before .before .before .before .before .before .before in
-    let q = c .before .before .before .before .before .before .before .before .max-active .given in
+    let l = c .before .before .before .before in
+    let t = l .before .before .before .before in
+    let s = t .before .before .before .before in
+    let q = l .before .before .max-active .given in
     let fit = s .args .fit .now in
-    drones-some (s .args .catalogue .now) fit (q .0 .0) _ _ (sym (c .before .before .before .before .before .before .before .before .before .before .attribute-id .ensures) ∙ ap idOf (q .1))
-    (c .before .before .before .before .before .nearest-u64-to-f64 .ensures ∙ ap ofNat (c .before .before .before .before .before .before .launched .ensures))
-    (c .before .before .before .before .amount .ensures ∙ ap (amount (resultOf fit 1)) (toZ-ofZ w32 (q .0 .0) (search needs)))
+    drones-some (s .args .catalogue .now) fit (q .0 .0) _ _ (sym (t .attribute-id .ensures) ∙ ap idOf (q .1))
+    (l .drones-load .ensures .0)
+    (l .drones-load .ensures .1 ∙ ap (amount (resultOf fit 1)) (toZ-ofZ w32 (q .0 .0) (search needs)))
     (c .before .before .resource .ensures)
 
 returns-2 : tie.Need-returns-2
@@ -57,9 +51,7 @@ launched-drones-spec =
     (tie.spec
     attribute-id-requires
     enum-known-max-active
-    launched-requires
-    nearest-u64-to-f64-requires
-    amount-requires
+    drones-load-requires
     resource-requires
     enum-told
     same-length

@@ -1,0 +1,26 @@
+-- `resource::cargo_load` meets its contract: the sum, and an amount of the ship's result.
+use mathlib.Core.Path.{ap, _∙_}
+use mir.Syntax.{w32}
+use mir.ValLaws.{toZ-ofZ}
+use Rattle.fit.specs.Fit.{resultOf}
+use Rattle.fit.specs.Lookups.{amount}
+use borrow.Author.Needs.{needs}
+use Rattle.resource.proofs.cargo_load.Statement.{statement}
+use Rattle.resource.proofs.cargo_load.Tie as tie
+
+cargo-used-requires : tie.Need-cargo-used-requires
+cargo-used-requires c κs = search needs
+
+amount-requires : tie.Need-amount-requires
+amount-requires c κs = search needs
+
+returns : tie.Need-returns
+returns c =
+    let u = c .before in
+    let s = u .before .before in (
+      u .cargo-used .ensures,
+      c .amount .ensures ∙ ap (amount (resultOf (s .args .fit .now) 0)) (toZ-ofZ w32 (s .args .id) (s .fits .id)),
+    )
+
+pub cargo-load-spec : {M : Type 1} → statement M
+cargo-load-spec = tie.close (tie.spec cargo-used-requires amount-requires returns)

@@ -1,0 +1,31 @@
+-- `resource::drones_load` meets its contract: the total as a float, and an amount of the character's result.
+use mathlib.Core.Path.{ap, _∙_}
+use mir.Syntax.{w32}
+use mir.ValLaws.{toZ-ofZ}
+use Rattle.floats.specs.Floats.{ofNat}
+use Rattle.fit.specs.Fit.{resultOf}
+use Rattle.fit.specs.Lookups.{amount}
+use borrow.Author.Needs.{needs}
+use Rattle.resource.proofs.drones_load.Statement.{statement}
+use Rattle.resource.proofs.drones_load.Tie as tie
+
+launched-requires : tie.Need-launched-requires
+launched-requires c κs = search needs
+
+nearest-u64-to-f64-requires : tie.Need-nearest-u64-to-f64-requires
+nearest-u64-to-f64-requires c κs = search needs
+
+amount-requires : tie.Need-amount-requires
+amount-requires c κs = search needs
+
+returns : tie.Need-returns
+returns c =
+    let x = c .before in
+    let l = x .before in
+    let s = l .before .before in (
+      x .nearest-u64-to-f64 .ensures ∙ ap ofNat (l .launched .ensures),
+      c .amount .ensures ∙ ap (amount (resultOf (s .args .fit .now) 1)) (toZ-ofZ w32 (s .args .id) (s .fits .id)),
+    )
+
+pub drones-load-spec : {M : Type 1} → statement M
+drones-load-spec = tie.close (tie.spec launched-requires nearest-u64-to-f64-requires amount-requires returns)
