@@ -8,8 +8,10 @@ use floats::Value;
 ghost use mathlib.Core.Path.{_≡_};
 ghost use mathlib.Core.List.{[], _∷_};
 ghost use Prim.Native.Nat.{_+_, _<_, _≤_};
+ghost use mathlib.Core.Bool.{_||_};
 ghost use lib.ListN.{length, getD};
-ghost use Rattle.words.specs.Words.{each};
+ghost use lib.IntN.{pos};
+ghost use Rattle.words.specs.Words.{each, table, anyOf, same};
 ghost use Rattle.floats.specs.Values.{valueOf};
 ghost use Rattle.catalogue.specs.Catalogue.{catalogueOf, baseCount};
 ghost use Rattle.catalogue.specs.Lookups.{baseValue};
@@ -56,11 +58,35 @@ impl Walk {
     }
 }
 
-// The first place of an id among the first len, or len.
+fn either(a: bool, b: bool) -> bool
+    ensures { λ r. ⌜ r ≡ (a || b) ⌝ }
+{
+    if a { true } else { b }
+}
+
+// Whether an id is among the first len. The loop runs to its end, so that the compiler can take many ids at once.
+fn is_among(ids: &[i32; 512], len: usize, id: i32) -> bool
+    requires { ⌜ len ≤ 512 ⌝ }
+    ensures { λ r. ⌜ r ≡ anyOf (λ x. same x id) (table len (λ k. getD (now (ids .entry)) k (pos 0))) ⌝ }
+{
+    let mut found = false;
+    let mut i: usize = 0;
+    while i < len {
+        let x = ids[i];
+        found = either(found, context::same_id(x, id));
+        i += 1;
+    }
+    found
+}
+
+// The first place of an id among the first len, or len. Most demands are of new skills.
 fn place(ids: &[i32; 512], len: usize, id: i32) -> usize
     requires { ⌜ len ≤ 512 ⌝ }
     ensures { λ r. ⌜ Placed (now (ids .entry)) len id r ⌝ }
 {
+    if !is_among(ids, len, id) {
+        return len;
+    }
     let mut i = 0;
     while i < len {
         let x = ids[i];

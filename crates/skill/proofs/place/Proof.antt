@@ -1,14 +1,17 @@
--- `skill::place` meets its contract. The invariant: none of the places passed holds the id.
+-- `skill::place` meets its contract: an id that is not there, or a search. The invariant: none of the places passed holds the id.
 use Prim.Native.Nat.{ℕ, _≤_, _<_, _-_}
 use native.Mathlib.Omega.{arith}
-use mathlib.Core.Path.{_≡_, ap}
+use mathlib.Core.Path.{_≡_, sym, ap, _∙_}
 use lib.ListN.{getD}
-use lib.IntN.{pos}
+use lib.IntN.{ℤ, pos}
 use mir.Val.{ofZ}
 use mir.Syntax.{w32}
+use mir.ValLaws.{toZ-ofZ}
+use borrow.Author.Tests.{not-true}
+use Rattle.words.specs.Words.{table, anyOf, same}
 use borrow.Author.Needs.{needs}
 use borrow.Author.Count.{below-more}
-use Rattle.skill.proofs.Bits.{same-bits}
+use Rattle.skill.proofs.Bits.{same-bits, not-among}
 use Rattle.skill.proofs.place.Statement.{statement}
 use Rattle.skill.proofs.place.Tie as tie
 
@@ -17,6 +20,19 @@ Inv-loop ids len id i₀ i = (i ≤ len) × ((k : ℕ) → k < i → ofZ w32 (ge
 
 abbrev μ-loop : tie.MeasureT-loop
 μ-loop ids len id i₀ i = len - i
+
+is-among-requires : tie.Need-is-among-requires Inv-loop μ-loop
+is-among-requires c κs = search needs
+
+returns : tie.Need-returns Inv-loop μ-loop
+returns c =
+    let s = c .before .before in
+    let told = c .before .is-among .ensures ∙ ap (λ (z : ℤ). anyOf (λ (x : ℤ). same x z) (table (s .args .len) (λ (k : ℕ). getD (s .args .ids .now) k (pos 0)))) (toZ-ofZ w32 (s .args .id) (s .fits .id)) in
+    record {
+      within = omega arith;
+      before = not-among (s .args .ids .now) (s .args .len) (s .args .id) (sym told ∙ not-true _ (c .if1 .taken));
+      found = λ h. absurd (omega (arith, h));
+    }
 
 loop-holds : tie.Need-loop-holds Inv-loop μ-loop
 loop-holds c = search needs
@@ -27,13 +43,13 @@ mul-x c = search needs
 element-copy-out-x : tie.Need-element-copy-out-x Inv-loop μ-loop
 element-copy-out-x c = search needs
 
-returns : tie.Need-returns Inv-loop μ-loop
-returns c =
+returns-2 : tie.Need-returns-2 Inv-loop μ-loop
+returns-2 c =
     let l = c .before .before .before in
     record {
       within = omega arith;
       before = λ k h e. l .loop .inv .1 k h (ap (ofZ w32) e);
-      found = λ h. same-bits w32 (record { sfits = c .before .x .given }) (l .before .fits .id) (c .if1 .taken);
+      found = λ h. same-bits w32 (record { sfits = c .before .x .given }) (l .before .before .before .fits .id) (c .if2 .taken);
     }
 
 add-i : tie.Need-add-i Inv-loop μ-loop
@@ -43,10 +59,10 @@ loop-less : tie.Need-loop-less Inv-loop μ-loop
 loop-less c = search needs
 
 loop-again : tie.Need-loop-again Inv-loop μ-loop
-loop-again c = (search needs, below-more _ _ (c .before .before .before .loop .inv .1) (c .if1 .left))
+loop-again c = (search needs, below-more _ _ (c .before .before .before .loop .inv .1) (c .if2 .left))
 
-returns-2 : tie.Need-returns-2 Inv-loop μ-loop
-returns-2 c =
+returns-3 : tie.Need-returns-3 Inv-loop μ-loop
+returns-3 c =
     record {
       within = omega arith;
       before = λ k h e. c .before .loop .inv .1 k (omega (arith, h)) (ap (ofZ w32) e);
@@ -59,11 +75,13 @@ place-spec =
     (tie.spec
     Inv-loop
     μ-loop
+    is-among-requires
+    returns
     loop-holds
     mul-x
     element-copy-out-x
-    returns
+    returns-2
     add-i
     loop-less
     loop-again
-    returns-2)
+    returns-3)
