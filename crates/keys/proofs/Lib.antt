@@ -2,4 +2,3 @@
 pub mod Ranks
 pub mod Orders
 pub mod Parts
-pub mod Skips
