@@ -1,3 +1,4 @@
+-- Laws of text put into a buffer.
 pub mod Putting
 pub mod Decimal
 pub mod Room

@@ -1,3 +1,4 @@
+-- `image::put_u32` meets its contract: four bytes stored, the lowest first.
 use native.Mathlib.Omega.{arith}
 use lib.ListN.{length-set}
 use borrow.Author.Needs.{needs}

@@ -1,3 +1,4 @@
+-- `image::put_u64` meets its contract: eight bytes stored, the lowest first.
 use native.Mathlib.Omega.{arith}
 use lib.ListN.{length-set}
 use borrow.Author.Needs.{needs}

@@ -1,3 +1,4 @@
+-- `image::signed` meets its contract: from 2 ^ 31 on, the number less 2 ^ 32.
 use Rattle.image.specs.Bytes.{signed32}
 use mathlib.Core.Path.{_∙_}
 use mir.Syntax.{w32}

@@ -1,3 +1,4 @@
+-- `image::u64_at` meets its contract: two halves of four bytes.
 use Rattle.image.specs.Bytes.{u64At}
 use borrow.Author.Needs.{needs}
 use Rattle.image.proofs.u64_at.Statement.{statement}
