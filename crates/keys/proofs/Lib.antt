@@ -2,3 +2,4 @@
 pub mod Ranks
 pub mod Orders
 pub mod Parts
+pub mod Skips

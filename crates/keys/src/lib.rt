@@ -1,7 +1,7 @@
 // Keys in an image: whether they are in order, and where an id stands among them.
 ghost use mathlib.Core.Path.{_≡_};
-ghost use mathlib.Core.Bool.{_&&_};
-ghost use Prim.Native.Nat.{ℕ, _+_, _*_, _<_, _≤_};
+ghost use mathlib.Core.Bool.{_&&_, cond};
+ghost use Prim.Native.Nat.{ℕ, _+_, _-_, _*_, _<_, _≤_};
 ghost use lib.ListN.{length};
 ghost use lib.Dec.{ltb, leb};
 ghost use lib.Signed.{ltZ, leZ};
@@ -91,24 +91,39 @@ fn rank(id: i32) -> u32
     std::num::wrapping_add_u32(image::bits(id), 2147483648)
 }
 
+// 3 where x is under y, else 2. By arithmetic, and not 1 and 0: as a test, which the compiler sees in 1 and 0 too, it would be a branch, and
+// a search guesses half of those wrong.
+fn under(x: u32, y: u32) -> usize
+    ensures { λ r. ⌜ r ≡ cond (ltb x y) 3 2 ⌝ }
+{
+    ((12884901887 + (y as u64) - (x as u64)) / 4294967296) as usize
+}
+
+// Past the next `half` keys where the last of them is under a key.
+fn skip(keys: &[u8], base: usize, half: usize, key: u32) -> usize
+    requires { ⌜ (1 ≤ half) × (4 * (base + half) ≤ length (now keys)) ⌝ }
+    ensures { λ r. ⌜ r ≡ base + cond (ltb (rankOf (keyAt (now (keys .entry)) (base + half - 1))) key) half 0 ⌝ }
+{
+    base + half * under(rank_at(keys, base + half - 1), key) - 2 * half
+}
+
 // How many of the n keys, which never descend, are under an id: where it stands first, or would stand.
 pub fn first_from(keys: &[u8], n: usize, id: i32) -> usize
     requires { ⌜ (4 * n ≤ length (now keys)) × Sorted (now keys) n ⌝ }
     ensures { λ r. ⌜ Parts (now (keys .entry)) n id r ⌝ }
 {
     let key = rank(id);
-    let mut lo = 0;
-    let mut hi = n;
-    while lo < hi {
-        let mid = lo + (hi - lo) / 2;
-        let x = rank_at(keys, mid);
-        if x < key {
-            lo = mid + 1;
-        } else {
-            hi = mid;
-        }
+    let mut base = 0;
+    let mut left = n;
+    while 1 < left {
+        let half = left / 2;
+        base = skip(keys, base, half, key);
+        left -= half;
     }
-    lo
+    if left == 0 {
+        return base;
+    }
+    skip(keys, base, 1, key)
 }
 
 // Where an id stands first among the n keys, which never descend.

@@ -1,95 +1,81 @@
--- `keys::first_from` meets its contract. The invariant: all keys before `lo` are under the id, and none from `hi` on.
-use Prim.Native.Nat.{ℕ, _+_, _-_, _/_, _≤_, _<_}
+-- `keys::first_from` meets its contract. The invariant: all keys before `base` are under the id, and none from `base + left` on.
+use Prim.Native.Nat.{_+_, _/_}
 use native.Mathlib.Omega.{arith}
 use mathlib.Core.Path.{_∙_, ap}
 use mir.Syntax.{w32}
 use mir.ValLaws.{toZ-ofZ}
-use Rattle.keys.specs.Keys.{keyAt, rankOf}
+use mathlib.Core.Path.{_≡_}
+use Rattle.keys.specs.Keys.{rankOf}
+use Rattle.keys.proofs.Skips.{Searched, skipped}
+use borrow.Author.Needs.{needs}
 use Rattle.keys.proofs.first_from.Statement.{statement}
 use Rattle.keys.proofs.first_from.Tie as tie
-use Rattle.keys.proofs.first_from.Reads as reads
-use Rattle.keys.proofs.first_from.Lts as lts
-use Rattle.keys.proofs.rank.Reads as rank-reads
-use Rattle.keys.proofs.rank_at.Reads as rank-at-reads
 
 abbrev Inv-loop : tie.InvT-loop
-Inv-loop keys n id key lo₀ hi₀ lo hi =
-    (lo ≤ hi) × (hi ≤ n) × ((k : ℕ) → k < lo → rankOf (keyAt keys k) < key) × ((k : ℕ) → hi ≤ k → k < n → key ≤ rankOf (keyAt keys k))
+Inv-loop keys n id key base₀ left₀ base left = Searched keys n key base (base + left)
 
 abbrev μ-loop : tie.MeasureT-loop
-μ-loop keys n id key lo₀ hi₀ lo hi = hi - lo
+μ-loop keys n id key base₀ left₀ base left = left
 
 rank-requires : tie.Need-rank-requires Inv-loop μ-loop
 rank-requires c κs = tt
 
 loop-holds : tie.Need-loop-holds Inv-loop μ-loop
-loop-holds c = (omega arith, omega arith, (λ k h. absurd (omega (arith, h))), (λ k h g. absurd (omega (arith, h, g))))
+loop-holds c = record {
+  within = omega arith;
+  ordered = omega arith;
+  under = λ k h. absurd (omega (arith, h));
+  over = λ k h g. absurd (omega (arith, h, g));
+}
 
-sub-mid : tie.Need-sub-mid Inv-loop μ-loop
-sub-mid c = omega arith
+skip-requires : tie.Need-skip-requires Inv-loop μ-loop
+skip-requires c κs =
+    let l = c .before in
+    (omega (arith, c .loop-test .taken), omega (arith, c .loop-test .taken, l .loop .inv .within, l .before .before .before .pre .0))
 
-add-mid : tie.Need-add-mid Inv-loop μ-loop
-add-mid c = omega arith
-
-rank-at-requires : tie.Need-rank-at-requires Inv-loop μ-loop
-rank-at-requires c κs = omega arith
-
-add-lo : tie.Need-add-lo Inv-loop μ-loop
-add-lo c = omega arith
+sub-left : tie.Need-sub-left Inv-loop μ-loop
+sub-left c = omega arith
 
 loop-less : tie.Need-loop-less Inv-loop μ-loop
-loop-less c = omega arith
+loop-less c = omega (arith, c .before .loop-test .taken)
 
 loop-again : tie.Need-loop-again Inv-loop μ-loop
 loop-again c =
-    let l = c .before .before .before .loop in
-    let a = c .before .before .before .before .before .before in
-    let x = c .before .rank-at .ensures in (
-      omega arith,
-      omega arith,
-      (λ k h. omega (arith, a .pre .1 k (l .lo + (l .hi - l .lo) / 2) (omega (arith, h)) (omega arith), x)),
-      l .inv .3,
-    )
-
-loop-less-2 : tie.Need-loop-less-2 Inv-loop μ-loop
-loop-less-2 c = omega arith
-
-loop-again-2 : tie.Need-loop-again-2 Inv-loop μ-loop
-loop-again-2 c =
-    let l = c .before .before .before .loop in
-    let a = c .before .before .before .before .before .before in
-    let x = c .before .rank-at .ensures in (
-      omega arith,
-      omega arith,
-      l .inv .2,
-      (λ k h g. omega (arith, a .pre .1 (l .lo + (l .hi - l .lo) / 2) k (omega (arith, h)) g, x)),
-    )
+    let t = c .before in
+    let l = t .before .loop in
+    let s = t .before .before .before .before in
+    skipped (s .args .keys .now) (s .args .n) _ (l .base) (l .left) (l .left / 2) (s .pre .1) (l .inv) (omega (arith, t .loop-test .taken)) (omega arith) (omega arith) (c .skip .ensures)
 
 returns : tie.Need-returns Inv-loop μ-loop
 returns c =
-    let l = c .before .loop in
-    let z = c .before .before .before .before in
-    let e = c .before .before .rank .ensures ∙ ap rankOf (toZ-ofZ w32 (z .args .id) (z .fits .id)) in
+    let l = c .before .before .loop in
+    let z = c .before .before .before .before .before in
+    let e = c .before .before .before .rank .ensures ∙ ap rankOf (toZ-ofZ w32 (z .args .id) (z .fits .id)) in
     record {
-      within = omega arith;
-      under = λ k h. omega (arith, l .inv .2 k h, e);
-      over = λ k h g. omega (arith, l .inv .3 k (omega (arith, h)) g, e);
+      within = omega (arith, l .inv .within);
+      under = λ k h. omega (arith, l .inv .under k h, e);
+      over = λ k h g. omega (arith, l .inv .over k (omega (arith, h, c .if1 .taken)) g, e);
+    }
+
+skip-requires-2 : tie.Need-skip-requires-2 Inv-loop μ-loop
+skip-requires-2 c κs =
+    let l = c .before .before in
+    (omega arith, omega (arith, c .if1 .left, l .loop .inv .within, l .before .before .before .pre .0))
+
+returns-2 : tie.Need-returns-2 Inv-loop μ-loop
+returns-2 c =
+    let l = c .before .before .before in
+    let z = l .before .before .before in
+    let e = l .before .rank .ensures ∙ ap rankOf (toZ-ofZ w32 (z .args .id) (z .fits .id)) in
+    let one : l .loop .left ≡ 1 = omega (arith, c .before .if1 .left, c .before .before .loop-test .left) in
+    let s = skipped (z .args .keys .now) (z .args .n) _ (l .loop .base) (l .loop .left) 1 (z .pre .1) (l .loop .inv) (omega arith) (omega (arith, one)) (omega (arith, one)) (c .skip2 .ensures) in
+    record {
+      within = omega (arith, s .within);
+      under = λ k h. omega (arith, s .under k h, e);
+      over = λ k h g. omega (arith, s .over k (omega (arith, h, one)) g, e);
     }
 
 pub first-from-spec : {M : Type 1} → statement M
 first-from-spec =
     tie.close
-    (tie.spec
-    Inv-loop
-    μ-loop
-    rank-requires
-    loop-holds
-    sub-mid
-    add-mid
-    rank-at-requires
-    add-lo
-    loop-less
-    loop-again
-    loop-less-2
-    loop-again-2
-    returns)
+    (tie.spec Inv-loop μ-loop rank-requires loop-holds skip-requires sub-left loop-less loop-again returns skip-requires-2 returns-2)
