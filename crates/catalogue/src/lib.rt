@@ -274,12 +274,54 @@ pub fn verdict_of(catalogue: &[u8]) -> Verdict
 
 // ---- lookups of one record
 
+// Where `hints`, 8,192 or 64 of them, has an id of a block. By the upper bits of a product, which spread ids that are evenly apart.
+fn hint_of(b: Block, id: i32, hints: usize) -> usize {
+    let spread = ((image::bits(id) as u64) * 2654435761 % 4294967296 / 524288) as usize;
+    let k = (spread + b.at % 8192) % 8192;
+    if hints < 8192 { k / 128 } else { k }
+}
+
+// Hints at a place.
+fn keep(hints: &mut [u32], k: usize, place: usize) {
+    if k < hints.len() {
+        hints[k] = (place % 4294967296) as u32;
+    }
+}
+
+// How many keys of a block are under an id. A hint says where it stood when it was looked for before; it is tried first and may
+// be anything, so that no answer depends on hints.
+fn first_key(catalogue: &[u8], b: Block, id: i32, hints: &mut [u32]) -> usize
+    requires { ⌜ (b .at + 4 * b .n ≤ length (now catalogue)) × Sorted (take (4 * b .n) (drop (b .at) (now catalogue))) (b .n) ⌝ }
+    ensures { λ r. ⌜ Parts (take (4 * b .n) (drop (b .at) (now (catalogue .entry)))) (b .n) id r ⌝ }
+{
+    let keys = keys_of(catalogue, b);
+    let k = hint_of(b, id, hints.len());
+    if hints.len() <= k {
+        return keys::first_from(keys, b.n, id);
+    }
+    let r = keys::first_near(keys, b.n, id, hints[k] as usize);
+    keep(hints, k, r);
+    r
+}
+
+// Looks for four ids at once, and leaves hints.
+fn seek(catalogue: &[u8], b: Block, i: i32, j: i32, k: i32, l: i32, hints: &mut [u32])
+    requires { ⌜ b .at + 4 * b .n ≤ length (now catalogue) ⌝ }
+{
+    let found = keys::four_near(keys_of(catalogue, b), b.n, i, j, k, l);
+    keep(hints, hint_of(b, i, hints.len()), found.a);
+    keep(hints, hint_of(b, j, hints.len()), found.b);
+    keep(hints, hint_of(b, k, hints.len()), found.c);
+    keep(hints, hint_of(b, l, hints.len()), found.d);
+}
+
 // Where an id stands among the keys of a block.
-fn find_key(catalogue: &[u8], b: Block, id: i32) -> Found
+fn find_key(catalogue: &[u8], b: Block, id: i32, hints: &mut [u32]) -> Found
     requires { ⌜ (b .at + 4 * b .n ≤ length (now catalogue)) × Sorted (take (4 * b .n) (drop (b .at) (now catalogue))) (b .n) ⌝ }
     ensures { λ r. ⌜ foundOf r ≡ find (λ i. same (i32At (now (catalogue .entry)) (b .at + 4 * i)) id) (from 0 (b .n)) ⌝ }
 {
-    keys::place_of(keys_of(catalogue, b), b.n, id)
+    let at = first_key(catalogue, b, id, hints);
+    keys::place_at(keys_of(catalogue, b), b.n, id, at)
 }
 
 fn id_at(catalogue: &[u8], i: usize) -> i32
@@ -298,7 +340,8 @@ pub fn attribute_id(catalogue: &[u8], name: u32) -> AttributeId
     if 87 < name {
         return AttributeId::Unknown;
     }
-    let found = find_key(catalogue, names(catalogue), name as i32);
+    let mut none = [0u32; 0];
+    let found = find_key(catalogue, names(catalogue), name as i32, &mut none);
     match found {
         Found::At(i) => AttributeId::Known(id_at(catalogue, i)),
         Found::Nothing => AttributeId::Unknown,
@@ -314,11 +357,11 @@ fn mark_at(catalogue: &[u8], i: usize) -> u8
 }
 
 // The mark of an effect.
-pub fn effect_mark(catalogue: &[u8], id: i32) -> Mark
+pub fn effect_mark(catalogue: &[u8], id: i32, hints: &mut [u32]) -> Mark
     requires { ⌜ Sound (now catalogue) ⌝ }
     ensures { λ r. ⌜ markOf r ≡ effectMark (catalogueOf (now (catalogue .entry))) id ⌝ }
 {
-    let found = find_key(catalogue, effects(catalogue), id);
+    let found = find_key(catalogue, effects(catalogue), id, hints);
     match found {
         Found::At(i) => Mark::Known(mark_at(catalogue, i)),
         Found::Nothing => Mark::Unknown,
@@ -350,12 +393,19 @@ fn type_at(catalogue: &[u8], i: usize) -> TypeInfo
     }
 }
 
-// `get_type`: what a type is.
-pub fn type_of(catalogue: &[u8], id: i32) -> TypeAnswer
+// Looks for four types at once, and leaves hints for `type_of`.
+pub fn seek_types(catalogue: &[u8], i: i32, j: i32, k: i32, l: i32, hints: &mut [u32])
+    requires { ⌜ Sound (now catalogue) ⌝ }
+{
+    seek(catalogue, types(catalogue), i, j, k, l, hints);
+}
+
+// `get_type`: what a type is. `hints` are any numbers: where ids stood that were looked for before with the same catalogue.
+pub fn type_of(catalogue: &[u8], id: i32, hints: &mut [u32]) -> TypeAnswer
     requires { ⌜ Sound (now catalogue) ⌝ }
     ensures { λ r. ⌜ infoOf r ≡ given (typeOf (catalogueOf (now (catalogue .entry))) id) none (λ x. some (infoOfType x)) ⌝ }
 {
-    let found = find_key(catalogue, types(catalogue), id);
+    let found = find_key(catalogue, types(catalogue), id, hints);
     match found {
         Found::At(i) => TypeAnswer::Known(type_at(catalogue, i)),
         Found::Nothing => TypeAnswer::Unknown,
@@ -370,14 +420,6 @@ fn is_id(catalogue: &[u8], at: usize, id: i32) -> bool
     ensures { λ r. ⌜ r ≡ same (i32At (now (catalogue .entry)) at) id ⌝ }
 {
     image::i32_at(catalogue, at) == id
-}
-
-// How many keys of a block are under an id.
-fn first_key(catalogue: &[u8], b: Block, id: i32) -> usize
-    requires { ⌜ (b .at + 4 * b .n ≤ length (now catalogue)) × Sorted (take (4 * b .n) (drop (b .at) (now catalogue))) (b .n) ⌝ }
-    ensures { λ r. ⌜ Parts (take (4 * b .n) (drop (b .at) (now (catalogue .entry)))) (b .n) id r ⌝ }
-{
-    keys::first_from(keys_of(catalogue, b), b.n, id)
 }
 
 // A mark of a rack is 1 to 6, one of a hardpoint 7 or 8; mark m stands for slot m - 1.
@@ -413,20 +455,27 @@ fn effect_at(catalogue: &[u8], i: usize) -> i32
     image::i32_at(catalogue, b.at + 4 * b.n + 4 * i)
 }
 
-fn with_link(catalogue: &[u8], found: SlotMarks, i: usize) -> SlotMarks
+fn with_link(catalogue: &[u8], found: SlotMarks, i: usize, hints: &mut [u32]) -> SlotMarks
     requires { ⌜ Sound (now catalogue) × (i < linkCount (now catalogue)) ⌝ }
     ensures rack { λ r. ⌜ slotOf (r .rack) ≡ foldl (marked 1 6) (slotOf (found .rack)) (linkMarks (catalogueOf (now (catalogue .entry))) (linkAt (now (catalogue .entry)) i)) ⌝ }
     ensures hardpoint { λ r. ⌜ slotOf (r .hardpoint) ≡ foldl (marked 7 8) (slotOf (found .hardpoint)) (linkMarks (catalogueOf (now (catalogue .entry))) (linkAt (now (catalogue .entry)) i)) ⌝ }
 {
-    let mark = effect_mark(catalogue, effect_at(catalogue, i));
+    let mark = effect_mark(catalogue, effect_at(catalogue, i), hints);
     match mark {
         Mark::Known(m) => with_mark(found, m),
         Mark::Unknown => found,
     }
 }
 
-// The slot effects EVE marks an item with, in the order of its links.
-pub fn slots_of(catalogue: &[u8], id: i32) -> SlotMarks
+// Looks for the links of four types at once, and leaves hints for `slots_of`.
+pub fn seek_links(catalogue: &[u8], i: i32, j: i32, k: i32, l: i32, hints: &mut [u32])
+    requires { ⌜ Sound (now catalogue) ⌝ }
+{
+    seek(catalogue, links(catalogue), i, j, k, l, hints);
+}
+
+// The slot effects EVE marks an item with, in the order of its links. `hints` as in `type_of`.
+pub fn slots_of(catalogue: &[u8], id: i32, hints: &mut [u32]) -> SlotMarks
     requires { ⌜ Sound (now catalogue) ⌝ }
     ensures rack { λ r. ⌜ slotOf (r .rack) ≡ rackOf (catalogueOf (now (catalogue .entry))) id ⌝ }
     ensures hardpoint { λ r. ⌜ slotOf (r .hardpoint) ≡ hardpointOf (catalogueOf (now (catalogue .entry))) id ⌝ }
@@ -438,12 +487,12 @@ pub fn slots_of(catalogue: &[u8], id: i32) -> SlotMarks
         rack: SlotAnswer::Nothing,
         hardpoint: SlotAnswer::Nothing,
     };
-    let mut i = first_key(catalogue, b, id);
+    let mut i = first_key(catalogue, b, id, hints);
     while i < n {
         if !is_id(catalogue, at + 4 * i, id) {
             return found;
         }
-        found = with_link(catalogue, found, i);
+        found = with_link(catalogue, found, i, hints);
         i += 1;
     }
     found
@@ -472,7 +521,8 @@ pub fn bases_of(catalogue: &[u8], id: i32) -> Span
     ensures { λ r. ⌜ SpanOf (now (catalogue .entry)) id r ⌝ }
 {
     let b = bases(catalogue);
-    let from = first_key(catalogue, b, id);
+    let mut none = [0u32; 0];
+    let from = first_key(catalogue, b, id, &mut none);
     Span {
         from,
         to: run_end(catalogue, b, from, id),

@@ -12,7 +12,7 @@ ghost use Rattle.catalogue.specs.Sound as Catalogue;
 ghost use Rattle.catalogue.specs.Answers.{slotOf};
 ghost use Rattle.fit.specs.Sound as Fit;
 ghost use Rattle.context.specs.Context.{isModuleCategory};
-ghost use Rattle.context.specs.Gathered.{contextOf, slotIn, Below, TypeFacts, ShipFacts, Gathered};
+ghost use Rattle.context.specs.Gathered.{pairCount, contextOf, slotIn, Below, TypeFacts, ShipFacts, Gathered};
 
 // What the catalogue says of the type of each pair, at the pair's position. A slot of 8 is none.
 pub struct Facts {
@@ -24,11 +24,11 @@ pub struct Facts {
 }
 
 // A type that the catalogue lacks has group 0, category 0 and no volume.
-pub fn type_facts(catalogue: &[u8], id: i32) -> TypeInfo
+pub fn type_facts(catalogue: &[u8], id: i32, hints: &mut [u32]) -> TypeInfo
     requires { ⌜ Catalogue.Sound (now catalogue) ⌝ }
     ensures { λ r. ⌜ TypeFacts (catalogueOf (now (catalogue .entry))) id r ⌝ }
 {
-    let answer = catalogue::type_of(catalogue, id);
+    let answer = catalogue::type_of(catalogue, id, hints);
     match answer {
         TypeAnswer::Known(info) => info,
         TypeAnswer::Unknown => TypeInfo {
@@ -44,7 +44,8 @@ pub fn ship_facts(catalogue: &[u8], fit: &[u8]) -> TypeInfo
     requires { ⌜ Catalogue.Sound (now catalogue) × Fit.Sound (now fit) ⌝ }
     ensures { λ r. ⌜ ShipFacts (contextOf (now (catalogue .entry)) (now (fit .entry))) r ⌝ }
 {
-    type_facts(catalogue, fit::ship(fit))
+    let mut none = [0u32; 0];
+    type_facts(catalogue, fit::ship(fit), &mut none)
 }
 
 // A slot as a byte.
@@ -64,11 +65,11 @@ struct Codes {
     hardpoint: u8,
 }
 
-fn slot_codes(catalogue: &[u8], id: i32) -> Codes
+fn slot_codes(catalogue: &[u8], id: i32, hints: &mut [u32]) -> Codes
     requires { ⌜ Catalogue.Sound (now catalogue) ⌝ }
     ensures { λ r. ⌜ (slotIn (r .rack) ≡ rackOf (catalogueOf (now (catalogue .entry))) id) × (slotIn (r .hardpoint) ≡ hardpointOf (catalogueOf (now (catalogue .entry))) id) ⌝ }
 {
-    let marks = catalogue::slots_of(catalogue, id);
+    let marks = catalogue::slots_of(catalogue, id, hints);
     let rack = marks.rack;
     let hardpoint = marks.hardpoint;
     Codes {
@@ -77,7 +78,29 @@ fn slot_codes(catalogue: &[u8], id: i32) -> Codes
     }
 }
 
-pub fn gather(catalogue: &[u8], fit: &[u8]) -> Facts
+// At every fourth pair the next four are looked for at once. A hall, which has more hints than a list, looks for none twice.
+fn seek_pairs(catalogue: &[u8], fit: &[u8], i: usize, hints: &mut [u32])
+    requires { ⌜ Catalogue.Sound (now catalogue) × Fit.Sound (now fit) × (i < pairCount (now fit)) ⌝ }
+{
+    if 64 < hints.len() {
+        return;
+    }
+    if i % 4 != 0 {
+        return;
+    }
+    if fit::pair_count(fit) < i + 4 {
+        return;
+    }
+    let a = fit::item_type(fit, i);
+    let b = fit::item_type(fit, i + 1);
+    let c = fit::item_type(fit, i + 2);
+    let d = fit::item_type(fit, i + 3);
+    catalogue::seek_types(catalogue, a, b, c, d, hints);
+    catalogue::seek_links(catalogue, a, b, c, d, hints);
+}
+
+// `hints` are those of `catalogue::type_of`.
+pub fn gather(catalogue: &[u8], fit: &[u8], hints: &mut [u32]) -> Facts
     requires { ⌜ Catalogue.Sound (now catalogue) × Fit.Sound (now fit) ⌝ }
     ensures { λ r. ⌜ Gathered (now (catalogue .entry)) (now (fit .entry)) r ⌝ }
 {
@@ -89,9 +112,10 @@ pub fn gather(catalogue: &[u8], fit: &[u8]) -> Facts
     let mut volumes = [0f64; 256];
     let mut i: usize = 0;
     while i < n {
+        seek_pairs(catalogue, fit, i, hints);
         let id = fit::item_type(fit, i);
-        let t = type_facts(catalogue, id);
-        let s = slot_codes(catalogue, id);
+        let t = type_facts(catalogue, id, hints);
+        let s = slot_codes(catalogue, id, hints);
         let group = t.group;
         let category = t.category;
         groups[i] = group;

@@ -71,12 +71,12 @@ pub fn bad_input(input: &[u8]) -> bool
 }
 
 // How many entries the list of a hull has.
-fn hull_count(catalogue: &[u8], fit: &[u8]) -> usize
+fn hull_count(catalogue: &[u8], fit: &[u8], hints: &mut [u32]) -> usize
     requires { ⌜ Catalogue.Sound (now catalogue) × Fit.Sound (now fit) × (isHull (catalogueOf (now catalogue)) (fitOf (now fit) .frame .ship) ≡ true) ⌝ }
     ensures { λ r. ⌜ r ≡ length (listOf (catalogueOf (now (catalogue .entry))) (fitOf (now (fit .entry)))) ⌝ }
 {
     let starts = fit::starts(fit);
-    let facts = context::gather(catalogue, fit);
+    let facts = context::gather(catalogue, fit, hints);
     let mut none = [0u8; 0];
     validate::validate(
         catalogue,
@@ -87,12 +87,13 @@ fn hull_count(catalogue: &[u8], fit: &[u8]) -> usize
         &facts.racks,
         &facts.hardpoints,
         &facts.volumes,
+        hints,
         &mut none,
     )
 }
 
 // What a fit adds, whatever its bytes are.
-fn share(catalogue: &[u8], fit: &[u8]) -> u64
+fn share(catalogue: &[u8], fit: &[u8], hints: &mut [u32]) -> u64
     requires { ⌜ Catalogue.Sound (now catalogue) ⌝ }
     ensures { λ r. ⌜ (r ≡ shareOf (catalogueOf (now (catalogue .entry))) (now (fit .entry))) × (r ≤ 65536) ⌝ }
 {
@@ -105,7 +106,7 @@ fn share(catalogue: &[u8], fit: &[u8]) -> u64
     if super::too_many_drones(catalogue, fit) {
         return REFUSED; // 7
     }
-    if hull_count(catalogue, fit) == 0 {
+    if hull_count(catalogue, fit, hints) == 0 {
         return CLEAR;
     }
     FAULTED
@@ -117,13 +118,15 @@ pub fn numbers(catalogue: &[u8], input: &[u8]) -> u64
     ensures { λ r. ⌜ r ≡ wordOf (catalogueOf (now (catalogue .entry))) (fits (now (input .entry))) ⌝ }
 {
     let n = size_at(input, 0);
+    // Fits of one hall name the same types again and again.
+    let mut hints = [0u32; 8192];
     let mut word: u64 = 0;
     let mut at = 4 + 4 * n;
     let mut i: usize = 0;
     while i < n {
         let size = length_at(input, i);
         let fit = image::part(input, at, size);
-        word += share(catalogue, fit);
+        word += share(catalogue, fit, &mut hints);
         at += size;
         i += 1;
     }

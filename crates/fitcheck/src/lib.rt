@@ -111,7 +111,8 @@ fn hull_list(catalogue: &[u8], fit: &[u8], out: &mut [u8]) -> u64
     ensures { λ r. ⌜ Gave (now (out .entry)) (now (out .exit)) r (lent (now (out .entry)) (listOf (catalogueOf (now (catalogue .entry))) (fitOf (now (fit .entry))))) ⌝ }
 {
     let starts = fit::starts(fit);
-    let facts = context::gather(catalogue, fit);
+    let mut hints = [0u32; 64];
+    let facts = context::gather(catalogue, fit, &mut hints);
     if 123384 <= out.len() {
         let n = validate::validate(
             catalogue,
@@ -122,6 +123,7 @@ fn hull_list(catalogue: &[u8], fit: &[u8], out: &mut [u8]) -> u64
             &facts.racks,
             &facts.hardpoints,
             &facts.volumes,
+            &mut hints,
             out,
         );
         return n as u64;
@@ -136,6 +138,7 @@ fn hull_list(catalogue: &[u8], fit: &[u8], out: &mut [u8]) -> u64
         &facts.racks,
         &facts.hardpoints,
         &facts.volumes,
+        &mut hints,
         &mut none,
     );
     if count == 0 {
@@ -153,6 +156,7 @@ fn hull_list(catalogue: &[u8], fit: &[u8], out: &mut [u8]) -> u64
         &facts.racks,
         &facts.hardpoints,
         &facts.volumes,
+        &mut hints,
         out,
     );
     n as u64

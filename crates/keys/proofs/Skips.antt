@@ -1,11 +1,11 @@
--- A search that skips half of what is left, or nothing. Assumes nothing.
+-- A search that skips half of what is left, or nothing; and a guess that needs no search. Assumes nothing.
 use Prim.Native.Nat.{ℕ, _+_, _-_, _*_, _/_, _≤_, _<_}
 use native.Mathlib.Omega.{arith}
 use mathlib.Core.Path.{_≡_, refl}
-use mathlib.Core.Bool.{Bool, true, false, cond}
+use mathlib.Core.Bool.{Bool, true, false, cond, _||_}
 use mathlib.Core.List.{List}
-use lib.Dec.{ltb}
-use borrow.Author.Tests.{ltb-true, ltb-false}
+use lib.Dec.{eqb, ltb, leb}
+use borrow.Author.Tests.{eqb-true, ltb-true, ltb-false, leb-true}
 use Rattle.keys.specs.Keys.{keyAt, rankOf, Sorted}
 
 -- a quotient is 3 where x is under y, else 2
@@ -57,3 +57,23 @@ skipped keys n key base left half sorted s p h g e = go (ltb (rankOf (keyAt keys
           under = λ k l. s .under k (omega (arith, e, l));
           over = λ k l m. omega (arith, sorted (base + half - 1) k (omega (arith, e, l, g, h)) m, x);
         }
+
+-- ---- a guess that passes both tests parts the keys
+module _ (keys : List ℕ) (n key r : ℕ) (sorted : Sorted keys n) where
+  pub guess-under : r ≤ n → (eqb r 0 || ltb (rankOf (keyAt keys (r - 1))) key) ≡ true → (k : ℕ) → k < r → rankOf (keyAt keys k) < key
+  guess-under within e k h = go (eqb r 0) refl e
+    where
+      go : (b : Bool) → eqb r 0 ≡ b → (b || ltb (rankOf (keyAt keys (r - 1))) key) ≡ true → rankOf (keyAt keys k) < key
+      go true q f = absurd (omega (arith, eqb-true r 0 q, h))
+      go false q f = omega (arith, sorted k (r - 1) (omega (arith, h)) (omega (arith, within, h)), ltb-true (rankOf (keyAt keys (r - 1))) key f)
+
+  pub guess-over : (leb n r || leb key (rankOf (keyAt keys r))) ≡ true → (k : ℕ) → r ≤ k → k < n → key ≤ rankOf (keyAt keys k)
+  guess-over e k h g = go (leb n r) refl e
+    where
+      go : (b : Bool) → leb n r ≡ b → (b || leb key (rankOf (keyAt keys r))) ≡ true → key ≤ rankOf (keyAt keys k)
+      go true q f = absurd (omega (arith, leb-true n r q, h, g))
+      go false q f = omega (arith, sorted r k h g, leb-true key (rankOf (keyAt keys r)) f)
+
+-- a step leaves what is left within the keys
+pub kept : (keys : List ℕ) (n key base left half : ℕ) {r : ℕ} → base + left ≤ n → half ≤ left → r ≡ base + cond (ltb (rankOf (keyAt keys (base + half - 1))) key) half 0 → r + (left - half) ≤ n
+kept keys n key base left half h g e = let m = at-most-half half (ltb (rankOf (keyAt keys (base + half - 1))) key) in omega (arith, e, h, g, m)

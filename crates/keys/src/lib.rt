@@ -1,9 +1,9 @@
 // Keys in an image: whether they are in order, and where an id stands among them.
 ghost use mathlib.Core.Path.{_≡_};
-ghost use mathlib.Core.Bool.{_&&_, cond};
+ghost use mathlib.Core.Bool.{_&&_, _||_, cond};
 ghost use Prim.Native.Nat.{ℕ, _+_, _-_, _*_, _<_, _≤_};
 ghost use lib.ListN.{length};
-ghost use lib.Dec.{ltb, leb};
+ghost use lib.Dec.{eqb, ltb, leb};
 ghost use lib.Signed.{ltZ, leZ};
 ghost use Rattle.words.specs.Words.{table, inOrder, anyOf};
 ghost use Rattle.image.specs.Bytes.{u32At, i32At};
@@ -13,6 +13,14 @@ ghost use Rattle.keys.specs.Keys.{keyAt, rankOf, Sorted, Parts, placeOf,
 pub enum Found {
     At(usize),
     Nothing,
+}
+
+// A place for each of four ids.
+pub struct Four {
+    pub a: usize,
+    pub b: usize,
+    pub c: usize,
+    pub d: usize,
 }
 
 // The bits of key i, moved up by a bias.
@@ -126,12 +134,82 @@ pub fn first_from(keys: &[u8], n: usize, id: i32) -> usize
     skip(keys, base, 1, key)
 }
 
-// Where an id stands first among the n keys, which never descend.
-pub fn place_of(keys: &[u8], n: usize, id: i32) -> Found
+// A guess at `first_from` of four ids, by its own steps: those of the four do not wait for one another. A guess is all that is
+// asked of it, so that it ensures nothing; `first_near` tests it.
+pub fn four_near(keys: &[u8], n: usize, i: i32, j: i32, k: i32, l: i32) -> Four
+    requires { ⌜ 4 * n ≤ length (now keys) ⌝ }
+{
+    let p = rank(i);
+    let q = rank(j);
+    let r = rank(k);
+    let s = rank(l);
+    let mut a = 0;
+    let mut b = 0;
+    let mut c = 0;
+    let mut d = 0;
+    let mut left = n;
+    while 1 < left {
+        let half = left / 2;
+        a = skip(keys, a, half, p);
+        b = skip(keys, b, half, q);
+        c = skip(keys, c, half, r);
+        d = skip(keys, d, half, s);
+        left -= half;
+    }
+    if left == 0 {
+        return Four { a, b, c, d };
+    }
+    Four {
+        a: skip(keys, a, 1, p),
+        b: skip(keys, b, 1, q),
+        c: skip(keys, c, 1, r),
+        d: skip(keys, d, 1, s),
+    }
+}
+
+// Whether all keys before a place are under a key.
+fn all_under(keys: &[u8], r: usize, key: u32) -> bool
+    requires { ⌜ 4 * r ≤ length (now keys) ⌝ }
+    ensures { λ b. ⌜ b ≡ (eqb r 0 || ltb (rankOf (keyAt (now (keys .entry)) (r - 1))) key) ⌝ }
+{
+    if r == 0 {
+        return true;
+    }
+    rank_at(keys, r - 1) < key
+}
+
+// Whether no key from a place on is under a key.
+fn none_under(keys: &[u8], n: usize, r: usize, key: u32) -> bool
+    requires { ⌜ 4 * n ≤ length (now keys) ⌝ }
+    ensures { λ b. ⌜ b ≡ (leb n r || leb key (rankOf (keyAt (now (keys .entry)) r))) ⌝ }
+{
+    if n <= r {
+        return true;
+    }
+    key <= rank_at(keys, r)
+}
+
+// As `first_from`. A guess that is right saves the search, and any may be given.
+pub fn first_near(keys: &[u8], n: usize, id: i32, guess: usize) -> usize
     requires { ⌜ (4 * n ≤ length (now keys)) × Sorted (now keys) n ⌝ }
+    ensures { λ r. ⌜ Parts (now (keys .entry)) n id r ⌝ }
+{
+    let key = rank(id);
+    if guess <= n {
+        if all_under(keys, guess, key) {
+            if none_under(keys, n, guess, key) {
+                return guess;
+            }
+        }
+    }
+    first_from(keys, n, id)
+}
+
+// Where an id stands first among the n keys, given how many of them are under it.
+pub fn place_at(keys: &[u8], n: usize, id: i32, at: usize) -> Found
+    requires { ⌜ (4 * n ≤ length (now keys)) × Sorted (now keys) n × Parts (now keys) n id at ⌝ }
     ensures { λ r. ⌜ foundOf r ≡ placeOf (now (keys .entry)) n id ⌝ }
 {
-    let at = first_from(keys, n, id);
     if n <= at {
         return Found::Nothing;
     }
@@ -141,4 +219,12 @@ pub fn place_of(keys: &[u8], n: usize, id: i32) -> Found
         return Found::At(at);
     }
     Found::Nothing
+}
+
+// Where an id stands first among the n keys, which never descend.
+pub fn place_of(keys: &[u8], n: usize, id: i32) -> Found
+    requires { ⌜ (4 * n ≤ length (now keys)) × Sorted (now keys) n ⌝ }
+    ensures { λ r. ⌜ foundOf r ≡ placeOf (now (keys .entry)) n id ⌝ }
+{
+    place_at(keys, n, id, first_from(keys, n, id))
 }

@@ -12,7 +12,7 @@ ghost use lib.IntN.{pos};
 ghost use Rattle.words.specs.Words.{when, same, contains};
 ghost use Rattle.catalogue.specs.Catalogue.{catalogueOf};
 ghost use Rattle.catalogue.specs.Sound as Catalogue;
-ghost use Rattle.fit.specs.Fit.{modeOf, fitOf};
+ghost use Rattle.fit.specs.Fit.{skillCount, modeOf, fitOf};
 ghost use Rattle.fit.specs.Sound as Fit;
 ghost use Rattle.entry.specs.declared.Rule.the-variants.{NotASkill};
 ghost use Rattle.entry.specs.Entries.{onShip};
@@ -65,7 +65,8 @@ pub fn is_hull(catalogue: &[u8], id: i32) -> bool
     requires { ⌜ Catalogue.Sound (now catalogue) ⌝ }
     ensures { λ r. ⌜ r ≡ isHull (catalogueOf (now (catalogue .entry))) id ⌝ }
 {
-    let answer = catalogue::type_of(catalogue, id);
+    let mut none = [0u32; 0];
+    let answer = catalogue::type_of(catalogue, id, &mut none);
     let TypeAnswer::Known(info) = answer else {
         return false;
     };
@@ -77,19 +78,20 @@ pub fn is_mode(catalogue: &[u8], id: i32) -> bool
     requires { ⌜ Catalogue.Sound (now catalogue) ⌝ }
     ensures { λ r. ⌜ r ≡ isMode (catalogueOf (now (catalogue .entry))) id ⌝ }
 {
-    let answer = catalogue::type_of(catalogue, id);
+    let mut none = [0u32; 0];
+    let answer = catalogue::type_of(catalogue, id, &mut none);
     let TypeAnswer::Known(info) = answer else {
         return false;
     };
     context::same_id(info.group, GROUP_SHIP_MODIFIERS)
 }
 
-// Whether the type is a skill.
-pub fn is_skill(catalogue: &[u8], id: i32) -> bool
+// Whether the type is a skill. `hints` are those of `catalogue::type_of`.
+pub fn is_skill(catalogue: &[u8], id: i32, hints: &mut [u32]) -> bool
     requires { ⌜ Catalogue.Sound (now catalogue) ⌝ }
     ensures { λ r. ⌜ r ≡ isSkill (catalogueOf (now (catalogue .entry))) id ⌝ }
 {
-    let answer = catalogue::type_of(catalogue, id);
+    let answer = catalogue::type_of(catalogue, id, hints);
     let TypeAnswer::Known(info) = answer else {
         return false;
     };
@@ -115,14 +117,14 @@ fn not_a_mode(catalogue: &[u8], fit: &[u8], out: &mut [u8], n: usize) -> usize
     )
 }
 
-fn not_a_skill_at(catalogue: &[u8], id: i32, out: &mut [u8], n: usize) -> usize
+fn not_a_skill_at(catalogue: &[u8], id: i32, hints: &mut [u32], out: &mut [u8], n: usize) -> usize
     requires { ⌜ Catalogue.Sound (now catalogue) × (n < 4294967296) ⌝ }
     ensures { λ r. ⌜ Wrote (now (out .entry)) n (now (out .exit)) r (when (not (isSkill (catalogueOf (now (catalogue .entry))) id)) (onShip (NotASkill id))) ⌝ }
 {
     entry::emit_when(
         out,
         n,
-        !is_skill(catalogue, id),
+        !is_skill(catalogue, id, hints),
         Entry {
             target: Target::Ship,
             rule: Rule::NotASkill(id),
@@ -130,7 +132,30 @@ fn not_a_skill_at(catalogue: &[u8], id: i32, out: &mut [u8], n: usize) -> usize
     )
 }
 
-fn not_a_skill(catalogue: &[u8], fit: &[u8], out: &mut [u8], n: usize) -> usize
+// At every fourth skill the next four are looked for at once. A hall, which has more hints than a list, looks for none twice.
+fn seek_skills(catalogue: &[u8], fit: &[u8], i: usize, hints: &mut [u32])
+    requires { ⌜ Catalogue.Sound (now catalogue) × Fit.Sound (now fit) × (i < skillCount (now fit)) ⌝ }
+{
+    if 64 < hints.len() {
+        return;
+    }
+    if i % 4 != 0 {
+        return;
+    }
+    if fit::skill_count(fit) < i + 4 {
+        return;
+    }
+    catalogue::seek_types(
+        catalogue,
+        fit::skill_id(fit, i),
+        fit::skill_id(fit, i + 1),
+        fit::skill_id(fit, i + 2),
+        fit::skill_id(fit, i + 3),
+        hints,
+    );
+}
+
+fn not_a_skill(catalogue: &[u8], fit: &[u8], hints: &mut [u32], out: &mut [u8], n: usize) -> usize
     requires { ⌜ Catalogue.Sound (now catalogue) × Fit.Sound (now fit) × (n ≤ 2000000) ⌝ }
     ensures { λ r. ⌜ Wrote (now (out .entry)) n (now (out .exit)) r (notASkill (catalogueOf (now (catalogue .entry))) (fitOf (now (fit .entry)) .skills)) × (r ≤ n + 1024) ⌝ }
 {
@@ -138,19 +163,20 @@ fn not_a_skill(catalogue: &[u8], fit: &[u8], out: &mut [u8], n: usize) -> usize
     let mut m = n;
     let mut i = 0;
     while i < count {
-        m = not_a_skill_at(catalogue, fit::skill_id(fit, i), out, m);
+        seek_skills(catalogue, fit, i, hints);
+        m = not_a_skill_at(catalogue, fit::skill_id(fit, i), hints, out, m);
         i += 1;
     }
     m
 }
 
 // The mode and the skills that are none.
-pub fn kind(catalogue: &[u8], fit: &[u8], out: &mut [u8], n: usize) -> usize
+pub fn kind(catalogue: &[u8], fit: &[u8], hints: &mut [u32], out: &mut [u8], n: usize) -> usize
     requires { ⌜ Catalogue.Sound (now catalogue) × Fit.Sound (now fit) × (n ≤ 1000000) ⌝ }
     ensures { λ r. ⌜ Wrote (now (out .entry)) n (now (out .exit)) r (notAMode (catalogueOf (now (catalogue .entry))) (modeOf (fitOf (now (fit .entry)) .frame)) ++ notASkill (catalogueOf (now (catalogue .entry))) (fitOf (now (fit .entry)) .skills)) × (r ≤ n + 1025) ⌝ }
 {
     let m = not_a_mode(catalogue, fit, out, n);
-    not_a_skill(catalogue, fit, out, m)
+    not_a_skill(catalogue, fit, hints, out, m)
 }
 
 // resource.rs, slot.rs and item.rs.
@@ -183,7 +209,7 @@ fn hull_rules<'a>(
     item::validate(catalogue, fit, starts, groups, categories, out, b)
 }
 
-// The list of a fit whose ship is a hull.
+// The list of a fit whose ship is a hull. `hints` are those of `catalogue::type_of`.
 pub fn validate<'a>(
     catalogue: &[u8],
     fit: &[u8],
@@ -193,12 +219,13 @@ pub fn validate<'a>(
     racks: &'a [u8; 256],
     hardpoints: &'a [u8; 256],
     volumes: &'a [f64; 256],
+    hints: &mut [u32],
     out: &mut [u8],
 ) -> usize
     requires { ⌜ Ready (now catalogue) (now fit) (now starts) × Groups (now catalogue) (now fit) (now groups) × Categories (now catalogue) (now fit) (now categories) × Racks (now catalogue) (now fit) (now racks) × Hardpoints (now catalogue) (now fit) (now hardpoints) × Volumes (now catalogue) (now fit) (now volumes) × (isHull (catalogueOf (now catalogue)) (fitOf (now fit) .frame .ship) ≡ true) ⌝ }
     ensures { λ r. ⌜ (r ≤ 5141) × Wrote (now (out .entry)) 0 (now (out .exit)) r (listOf (catalogueOf (now (catalogue .entry))) (fitOf (now (fit .entry)))) ⌝ }
 {
-    let n = kind(catalogue, fit, out, 0);
+    let n = kind(catalogue, fit, hints, out, 0);
     hull_rules(
         catalogue,
         fit,

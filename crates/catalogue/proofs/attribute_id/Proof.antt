@@ -18,15 +18,15 @@ use borrow.Author.Needs.{needs}
 use Rattle.catalogue.proofs.attribute_id.Statement.{statement}
 use Rattle.catalogue.proofs.attribute_id.Tie as tie
 
-found : (c : tie.After-find-key) → let a = c .before .before .before .before .args in foundOf (c .find-key .result) ≡ find (λ j. same (i32At (a .catalogue .now) (namesAt (a .catalogue .now) + 4 * j)) (pos (a .name))) (from 0 (nameCount (a .catalogue .now)))
+found : (c : tie.After-find-key) → let a = c .before .before .before .before .before .args in foundOf (c .find-key .result) ≡ find (λ j. same (i32At (a .catalogue .now) (namesAt (a .catalogue .now) + 4 * j)) (pos (a .name))) (from 0 (nameCount (a .catalogue .now)))
 found c =
-    let a = c .before .before .before .before in
-    let e = c .before .names .ensures in
+    let a = c .before .before .before .before .before in
+    let e = c .before .before .names .ensures in
     c .find-key .ensures ∙ simp (e .0, e .1, toZ-pos w32 (a .args .name) (omega arith))
 
-answer : (c : tie.After-find-key) (o : Option ℕ) → foundOf (c .find-key .result) ≡ o → let a = c .before .before .before .before .args in given o none (λ j. some (nameAt (a .catalogue .now) j .id)) ≡ nameId (catalogueOf (a .catalogue .now) .names) (a .name)
+answer : (c : tie.After-find-key) (o : Option ℕ) → foundOf (c .find-key .result) ≡ o → let a = c .before .before .before .before .before .args in given o none (λ j. some (nameAt (a .catalogue .now) j .id)) ≡ nameId (catalogueOf (a .catalogue .now) .names) (a .name)
 answer c o e =
-    let s = c .before .before .before .before in
+    let s = c .before .before .before .before .before in
     let a = s .args in
     sym (name-search (a .catalogue .now) (s .pre) (a .name) ∙ ap (λ (x : Option ℕ). given x none (λ j. some (nameAt (a .catalogue .now) j .id))) (sym (found c) ∙ e))
 
@@ -39,10 +39,13 @@ names-requires c κs = search needs
 cast-find-key : tie.Need-cast-find-key
 cast-find-key c = search needs
 
+slice-aggregate-find-key : tie.Need-slice-aggregate-find-key
+slice-aggregate-find-key c = search needs
+
 find-key-requires : tie.Need-find-key-requires
 find-key-requires c κs =
-    let a = c .before .before .before in
-    let e = c .names .ensures in
+    let a = c .before .before .before .before in
+    let e = c .before .names .ensures in
     (search needs, rw (e .0, e .1) (names-sorted (a .args .catalogue .now) (a .pre)))
 
 enum-known-found : tie.Need-enum-known-found
@@ -50,8 +53,8 @@ enum-known-found c = search needs
 
 id-at-requires : tie.Need-id-at-requires
 id-at-requires c κs =
-    let f = c .before .before .before in
-    (f .before .before .before .before .pre .size, find-below _ _ _ (sym (found f) ∙ ap foundOf (c .before .found .given .1)))
+    let f = c .before .before .before .before in
+    (f .before .before .before .before .before .pre .size, find-below _ _ _ (sym (found f) ∙ ap foundOf (c .before .found .given .1)))
 
 enum-told : tie.Need-enum-told
 enum-told c = search needs
@@ -59,12 +62,12 @@ enum-told c = search needs
 returns-2 : tie.Need-returns-2
 unfolding given
 returns-2 c =
-    let f = c .before .before .before .before in
+    let f = c .before .before .before .before .before in
     ap (λ (z : Id). some z) (toZ-ofZ w32 (c .id-at .result) (record { sfits = c .id-at .ok }) ∙ c .id-at .ensures) ∙ answer f _ (ap foundOf (c .before .before .found .given .1))
 
 returns-3 : tie.Need-returns-3
 unfolding given
-returns-3 c = answer (c .before .before) none (ap foundOf (c .enum-told .given .1))
+returns-3 c = answer (c .before .before .before) none (ap foundOf (c .enum-told .given .1))
 
 pub attribute-id-spec : {M : Type 1} → statement M
 attribute-id-spec =
@@ -73,6 +76,7 @@ attribute-id-spec =
     returns
     names-requires
     cast-find-key
+    slice-aggregate-find-key
     find-key-requires
     enum-known-found
     id-at-requires

@@ -11,10 +11,13 @@ use Rattle.catalogue.proofs.bases_of.Tie as tie
 bases-requires : tie.Need-bases-requires
 bases-requires c κs = search needs
 
+slice-aggregate-first-key : tie.Need-slice-aggregate-first-key
+slice-aggregate-first-key c = search needs
+
 first-key-requires : tie.Need-first-key-requires
 first-key-requires c κs =
-    let a = c .before .before in
-    let e = c .bases .ensures in
+    let a = c .before .before .before in
+    let e = c .before .bases .ensures in
     (search needs, rw (e .0, e .1) (bases-sorted (a .args .catalogue .now) (a .pre)))
 
 run-end-requires : tie.Need-run-end-requires
@@ -22,12 +25,12 @@ run-end-requires c κs = search needs
 
 returns : tie.Need-returns
 returns c =
-    let s = c .before .before .before .before in
+    let s = c .before .before .before .before .before .before in
     let b = s .args .catalogue .now in
-    let e = c .before .before .bases .ensures in
+    let e = c .before .before .before .before .bases .ensures in
     let z = toZ-ofZ w32 (s .args .id) (s .fits .id) in
-    run-of b (basesAt b) (baseCount b) (s .args .id) (s .fits .id .sfits) (c .before .first-key .result) (rw (e .0, e .1, z) at (c .before .first-key .ensures)) (bases-sorted b (s .pre))
+    run-of b (basesAt b) (baseCount b) (s .args .id) (s .fits .id .sfits) (c .before .before .first-key .result) (rw (e .0, e .1, z) at (c .before .before .first-key .ensures)) (bases-sorted b (s .pre))
     (c .run-end .result) (rw (e .0, e .1, z) at (c .run-end .ensures))
 
 pub bases-of-spec : {M : Type 1} → statement M
-bases-of-spec = tie.close (tie.spec bases-requires first-key-requires run-end-requires returns)
+bases-of-spec = tie.close (tie.spec bases-requires slice-aggregate-first-key first-key-requires run-end-requires returns)

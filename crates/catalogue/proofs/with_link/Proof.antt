@@ -26,22 +26,28 @@ enum-told : tie.Need-enum-told
 enum-told c = search needs
 
 -- what the lookup of the link's effect says
-told : (c : tie.After-effect-mark) → let a = c .before .before .before .args in markOf (c .effect-mark .result) ≡ effectMark (catalogueOf (a .catalogue .now)) (linkAt (a .catalogue .now) (a .i) .effect)
+told : (c : tie.After-effect-mark) → let a = c .before .before .before .before .before .args in markOf (c .effect-mark .result) ≡ effectMark (catalogueOf (a .catalogue .now)) (linkAt (a .catalogue .now) (a .i) .effect)
 told c =
-    let a = c .before .before .before .args in
+    let a = c .before .before .before .before .before .args in
     c .effect-mark .ensures
-    ∙ ap (effectMark (catalogueOf (a .catalogue .now))) (toZ-ofZ w32 (c .before .effect-at .result) (record { sfits = c .before .effect-at .ok }) ∙ c .before .effect-at .ensures)
+    ∙ ap (effectMark (catalogueOf (a .catalogue .now))) (toZ-ofZ w32 (c .before .before .effect-at .result) (record { sfits = c .before .before .effect-at .ok }) ∙ c .before .before .effect-at .ensures)
+
+same-length : tie.Need-same-length
+same-length c = search needs
 
 returns : tie.Need-returns
 unfolding _>>=_
 returns c =
-    let e = sym (told (c .before .before .before .before)) ∙ ap markOf (c .before .before .mark .given .1) in
+    let e = sym (told (c .before .before .before .before .before .before)) ∙ ap markOf (c .before .before .mark .given .1) in
     rw e (c .with-mark .ensures)
+
+same-length-2 : tie.Need-same-length-2
+same-length-2 c = search needs
 
 returns-2 : tie.Need-returns-2
 unfolding _>>=_
 returns-2 c =
-    let e = sym (told (c .before .before)) ∙ ap markOf (c .enum-told .given .1) in
+    let e = sym (told (c .before .before .before .before)) ∙ ap markOf (c .enum-told .given .1) in
     rw e (refl, refl)
 
 pub with-link-spec : {M : Type 1} → statement M
@@ -53,5 +59,7 @@ with-link-spec =
     enum-known-mark
     with-mark-requires
     enum-told
+    same-length
     returns
+    same-length-2
     returns-2)

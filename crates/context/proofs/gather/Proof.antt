@@ -14,21 +14,16 @@ use Rattle.context.specs.Gathered.{pairCount, pairAt}
 use Rattle.context.proofs.Gathering.{Filled, gathered-none, gathered-more}
 use Rattle.context.proofs.gather.Statement.{statement}
 use Rattle.context.proofs.gather.Tie as tie
-use Rattle.context.proofs.gather.Reads as reads
-use Rattle.context.proofs.gather.Lts as lts
-use Rattle.context.proofs.slot_codes.Reads as slot-codes-reads
-use Rattle.context.proofs.type_facts.Reads as type-facts-reads
-use Rattle.fit.proofs.item_type.Reads as item-type-reads
-use Rattle.fit.proofs.pair_count.Reads as pair-count-reads
 
 abbrev Inv-loop : tie.InvT-loop
-Inv-loop catalogue fit n groups₀ categories₀ racks₀ hardpoints₀ volumes₀ i₀ groups categories racks hardpoints volumes i =
+Inv-loop catalogue fit hints₀ n groups₀ categories₀ racks₀ hardpoints₀ volumes₀ i₀ hints groups categories racks hardpoints volumes i =
     (i ≤ n) × (n ≡ pairCount fit)
     × ((length groups ≡ 256) × (length categories ≡ 256) × (length racks ≡ 256) × (length hardpoints ≡ 256) × (length volumes ≡ 256))
     × Filled catalogue fit i groups categories racks hardpoints volumes
+    × (length hints ≡ length hints₀)
 
 abbrev μ-loop : tie.MeasureT-loop
-μ-loop catalogue fit n groups₀ categories₀ racks₀ hardpoints₀ volumes₀ i₀ groups categories racks hardpoints volumes i =
+μ-loop catalogue fit hints₀ n groups₀ categories₀ racks₀ hardpoints₀ volumes₀ i₀ hints groups categories racks hardpoints volumes i =
     n - i
 
 pair-count-requires : tie.Need-pair-count-requires Inv-loop μ-loop
@@ -36,7 +31,10 @@ pair-count-requires c κs = search needs
 
 loop-holds : tie.Need-loop-holds Inv-loop μ-loop
 loop-holds c =
-    (omega arith, c .pair-count .ensures, (refl, refl, refl, refl, refl), gathered-none _ _ _ _ _ _ _)
+    (omega arith, c .pair-count .ensures, (refl, refl, refl, refl, refl), gathered-none _ _ _ _ _ _ _, refl)
+
+seek-pairs-requires : tie.Need-seek-pairs-requires Inv-loop μ-loop
+seek-pairs-requires c κs = search needs
 
 item-type-requires : tie.Need-item-type-requires Inv-loop μ-loop
 item-type-requires c κs = search needs
@@ -79,26 +77,31 @@ loop-less c = omega arith
 
 loop-again : tie.Need-loop-again Inv-loop μ-loop
 loop-again c =
-    let l = c .before .before .before .before .before .before .loop in
-    let s = c .before .before .before .before .before .before .before .before .before .before in
+    let l = c .before .before .before .before .before .before .before .before .before .before .before .before .before .before .before .before .loop in
+    let s = c .before .before .before .before .before .before .before .before .before .before .before .before .before .before .before .before .before .before .before .before .before in
     let cat = s .args .catalogue .now in
     let fit = s .args .fit .now in
-    let it = c .before .before .before .before .item-type in
-    let t = c .before .before .before .type-facts in
-    let z = c .before .before .slot-codes in
+    let it = c .before .before .before .before .before .before .before .before .before .before .item-type in
+    let t = c .before .before .before .before .before .before .before .before .type-facts in
+    let z = c .before .before .before .before .slot-codes in
     let id : toZ w32 (ofZ w32 (it .result)) ≡ itemAt fit (l .i) .type = toZ-ofZ w32 (it .result) (record { sfits = it .ok }) ∙ it .ensures in
     let g : toZ w32 (ofZ w32 (t .result .group)) ≡ pairAt cat fit (l .i) .group = toZ-ofZ w32 (t .result .group) (search needs) ∙ t .ensures .group ∙ ap (groupOf (catalogueOf cat)) id in
     let k : toZ w32 (ofZ w32 (t .result .category)) ≡ pairAt cat fit (l .i) .category = toZ-ofZ w32 (t .result .category) (search needs) ∙ t .ensures .category ∙ ap (categoryOf (catalogueOf cat)) id in
     let n = l .inv .2 in
-    let b : l .i < 256 = omega (arith, s .pre .1 .items, l .inv .1) in (
-      omega arith,
+    let more = c .before .before .before .before .before .before .before .before .before .before .before .before .before .before .before .loop-test .taken in
+    let b : l .i < 256 = omega (arith, s .pre .1 .items, l .inv .1, more) in (
+      omega (arith, more),
       l .inv .1,
       (length-set (l .groups) (l .i) _ ∙ n .0, length-set (l .categories) (l .i) _ ∙ n .1, length-set (l .racks) (l .i) _ ∙ n .2, length-set (l .hardpoints) (l .i) _ ∙ n .3, length-set (l .volumes) (l .i) _ ∙ n .4),
       gathered-more cat fit (l .groups) (l .categories) (l .racks) (l .hardpoints) (l .volumes) (l .i) _ _ _ _ _
           (omega (arith, n .0, b)) (omega (arith, n .1, b)) (omega (arith, n .2, b)) (omega (arith, n .3, b)) (omega (arith, n .4, b))
           g k (z .ensures .0 ∙ ap (rackOf (catalogueOf cat)) id) (z .ensures .1 ∙ ap (hardpointOf (catalogueOf cat)) id) (t .ensures .volume ∙ ap (volumeOf (catalogueOf cat)) id)
           (l .inv .3),
+      c .before .before .before .hints3 .given ∙ c .before .before .before .before .before .before .before .hints2 .given ∙ c .before .before .before .before .before .before .before .before .before .before .before .before .hints .given ∙ l .inv .4,
     )
+
+same-length : tie.Need-same-length Inv-loop μ-loop
+same-length c = c .before .loop .inv .4
 
 returns : tie.Need-returns Inv-loop μ-loop
 returns c =
@@ -122,6 +125,7 @@ gather-spec =
     μ-loop
     pair-count-requires
     loop-holds
+    seek-pairs-requires
     item-type-requires
     type-facts-requires
     slot-codes-requires
@@ -136,4 +140,5 @@ gather-spec =
     add-i
     loop-less
     loop-again
+    same-length
     returns)

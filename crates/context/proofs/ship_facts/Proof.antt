@@ -15,19 +15,22 @@ use Rattle.context.proofs.ship_facts.Tie as tie
 ship-requires : tie.Need-ship-requires
 ship-requires c κs = search needs
 
+slice-aggregate-type-facts : tie.Need-slice-aggregate-type-facts
+slice-aggregate-type-facts c = search needs
+
 type-facts-requires : tie.Need-type-facts-requires
 type-facts-requires c κs = search needs
 
 returns : tie.Need-returns
 unfolding contextOf context
 returns c =
-    let a = c .before .before .before .before .args in
-    let z : toZ w32 (ofZ w32 (c .before .ship .result)) ≡ fitOf (a .fit .now) .frame .ship =
-    toZ-ofZ w32 (c .before .ship .result) (record { sfits = c .before .ship .ok }) ∙ c .before .ship .ensures in
+    let a = c .before .before .before .before .before .before .args in
+    let z : toZ w32 (ofZ w32 (c .before .before .before .ship .result)) ≡ fitOf (a .fit .now) .frame .ship =
+    toZ-ofZ w32 (c .before .before .before .ship .result) (record { sfits = c .before .before .before .ship .ok }) ∙ c .before .before .before .ship .ensures in
     record {
-      group = c .type-facts .ensures .group ∙ ap (groupOf (catalogueOf (a .catalogue .now))) z;
-      category = c .type-facts .ensures .category ∙ ap (categoryOf (catalogueOf (a .catalogue .now))) z;
+      group = c .before .type-facts .ensures .group ∙ ap (groupOf (catalogueOf (a .catalogue .now))) z;
+      category = c .before .type-facts .ensures .category ∙ ap (categoryOf (catalogueOf (a .catalogue .now))) z;
     }
 
 pub ship-facts-spec : {M : Type 1} → statement M
-ship-facts-spec = tie.close (tie.spec ship-requires type-facts-requires returns)
+ship-facts-spec = tie.close (tie.spec ship-requires slice-aggregate-type-facts type-facts-requires returns)

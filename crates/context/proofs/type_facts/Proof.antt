@@ -13,9 +13,6 @@ use Rattle.context.proofs.Types.{known, unknown}
 use borrow.Author.Needs.{needs}
 use Rattle.context.proofs.type_facts.Statement.{statement}
 use Rattle.context.proofs.type_facts.Tie as tie
-use Rattle.context.proofs.type_facts.Reads as reads
-use Rattle.context.proofs.type_facts.Lts as lts
-use Rattle.catalogue.proofs.type_of.Reads as type-of-reads
 
 type-of-requires : tie.Need-type-of-requires
 type-of-requires c κs = search needs
@@ -26,21 +23,27 @@ enum-known-answer c = search needs
 enum-told : tie.Need-enum-told
 enum-told c = search needs
 
+same-length : tie.Need-same-length
+same-length c = search needs
+
 returns : tie.Need-returns
 returns c =
-    let s = c .before .before .before .before .before in
+    let s = c .before .before .before .before .before .before .before .before .before in
     let e = c .before .answer .given .1 in
-    let t = c .before .before .before .type-of .ensures in
+    let t = c .before .before .before .before .before .type-of .ensures in
     known (catalogueOf (s .args .catalogue .now)) (s .args .id) _ (sym (ap infoOf e) ∙ t ∙ ap (λ (z : ℤ). given (typeOf (catalogueOf (s .args .catalogue .now)) z) none (λ x. some (infoOfType x))) (toZ-ofZ w32 (s .args .id) (s .fits .id)))
+
+same-length-2 : tie.Need-same-length-2
+same-length-2 c = search needs
 
 returns-2 : tie.Need-returns-2
 unfolding ofBits
 returns-2 c =
-    let s = c .before .before .before .before in
+    let s = c .before .before .before .before .before .before .before .before in
     let e = c .enum-told .given .1 in
-    let t = c .before .before .type-of .ensures in
+    let t = c .before .before .before .before .type-of .ensures in
     unknown (catalogueOf (s .args .catalogue .now)) (s .args .id) (sym (ap infoOf e) ∙ t ∙ ap (λ (z : ℤ). given (typeOf (catalogueOf (s .args .catalogue .now)) z) none (λ x. some (infoOfType x))) (toZ-ofZ w32 (s .args .id) (s .fits .id)))
 
 pub type-facts-spec : {M : Type 1} → statement M
 type-facts-spec =
-    tie.close (tie.spec type-of-requires enum-known-answer enum-told returns returns-2)
+    tie.close (tie.spec type-of-requires enum-known-answer enum-told same-length returns same-length-2 returns-2)

@@ -1,66 +1,22 @@
--- `keys::place_of` meets its contract: the first key that is not under the id is the id, or no key is.
-use Prim.Native.Nat.{ℕ, _≤_, _<_}
-use native.Mathlib.Omega.{arith}
-use mathlib.Core.Path.{_≡_, _∙_, ap, subst, sym}
-use lib.IntN.{ℤ}
+-- `keys::place_of` meets its contract: the search, and what stands where it ends.
+use mathlib.Core.Path.{_≡_, _∙_, ap}
 use mir.Syntax.{w32}
 use mir.ValLaws.{toZ-ofZ}
 use borrow.Author.Needs.{needs}
-use Rattle.keys.specs.Keys.{rankOf, keyAt, Parts}
-use Rattle.keys.proofs.Orders.{place-found, place-none}
+use Rattle.keys.specs.Keys.{placeOf}
 use Rattle.keys.proofs.place_of.Statement.{statement}
 use Rattle.keys.proofs.place_of.Tie as tie
 
 first-from-requires : tie.Need-first-from-requires
 first-from-requires c κs = search needs
 
--- what `first_from` says, at the id itself
-parted : (c : tie.After-first-from) → let s = c .before .before in Parts (s .args .keys .now) (s .args .n) (s .args .id) (c .first-from .result)
-parted c =
-    let s = c .before .before in
-    subst (λ (z : ℤ). Parts (s .args .keys .now) (s .args .n) z (c .first-from .result)) (toZ-ofZ w32 (s .args .id) (s .fits .id)) (c .first-from .ensures)
+place-at-requires : tie.Need-place-at-requires
+place-at-requires c κs = search needs
 
 returns : tie.Need-returns
 returns c =
     let s = c .before .before .before in
-    place-none (s .args .keys .now) (s .args .n) (s .args .id) (s .fits .id .sfits) (c .before .first-from .result) (parted (c .before))
-    (λ k h g. absurd (omega (arith, h, g, c .if1 .taken)))
-
-rank-at-requires : tie.Need-rank-at-requires
-rank-at-requires c κs = search needs
-
-rank-requires : tie.Need-rank-requires
-rank-requires c κs = search needs
-
-returns-2 : tie.Need-returns-2
-returns-2 c =
-    let f = c .before .before .before .before in
-    let s = f .before .before in
-    place-found (s .args .keys .now) (s .args .n) (s .args .id) (s .fits .id .sfits) (f .first-from .result) (parted f)
-    (c .before .before .before .if1 .left)
-    (sym (c .before .before .rank-at .ensures) ∙ c .if2 .taken ∙ c .before .rank .ensures ∙ ap rankOf (toZ-ofZ w32 (s .args .id) (s .fits .id)))
-
-returns-3 : tie.Need-returns-3
-returns-3 c =
-    let f = c .before .before .before .before in
-    let s = f .before .before in
-    let p = parted f in
-    let keys = s .args .keys .now in
-    let r = f .first-from .result in
-    let in-range = c .before .before .before .if1 .left in
-    let e : c .before .rank .result ≡ rankOf (s .args .id) = c .before .rank .ensures ∙ ap rankOf (toZ-ofZ w32 (s .args .id) (s .fits .id)) in
-    let x : c .before .before .rank-at .result ≡ rankOf (keyAt keys r) = c .before .before .rank-at .ensures in
-    let d : rankOf (s .args .id) < rankOf (keyAt keys r) = above _ _ _ _ e x (c .if2 .left) (p .over r (omega arith) in-range) in
-    place-none keys (s .args .n) (s .args .id) (s .fits .id .sfits) r p
-    (λ k h g. omega (arith, s .pre .1 r k h g, d))
-  where
-    above : (a b i k : ℕ) → a ≡ i → b ≡ k → (b ≡ a → ⊥) → i ≤ k → i < k
-    above a b i k e x n h = lt-of-le-ne h (λ q. n (x ∙ sym q ∙ sym e))
-      where
-        lt-of-le-ne : i ≤ k → (i ≡ k → ⊥) → i < k
-        lt-of-le-ne p q = omega arith
+    c .place-at .ensures ∙ ap (placeOf (s .args .keys .now) (s .args .n)) (toZ-ofZ w32 (s .args .id) (s .fits .id))
 
 pub place-of-spec : {M : Type 1} → statement M
-place-of-spec =
-    tie.close
-    (tie.spec first-from-requires returns rank-at-requires rank-requires returns-2 returns-3)
+place-of-spec = tie.close (tie.spec first-from-requires place-at-requires returns)

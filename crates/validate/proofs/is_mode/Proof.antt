@@ -16,6 +16,9 @@ use Rattle.validate.proofs.is_mode.Tie as tie
 test : Id → Id → Bool
 test category group = same group (pos 1306)
 
+slice-aggregate-type-of : tie.Need-slice-aggregate-type-of
+slice-aggregate-type-of c = search needs
+
 type-of-requires : tie.Need-type-of-requires
 type-of-requires c κs = search needs
 
@@ -28,8 +31,8 @@ enum-told c = search needs
 returns : tie.Need-returns
 unfolding isMode test
 returns c =
-    let t = c .before .before in
-    let s = t .before .before in
+    let t = c .before .before .before in
+    let s = t .before .before .before in
     test-unknown (catalogueOf (s .args .catalogue .now)) test (toZ-ofZ w32 (s .args .id) (s .fits .id)) (t .type-of .ensures) (c .enum-told .given .1)
 
 same-id-requires : tie.Need-same-id-requires
@@ -39,8 +42,8 @@ returns-2 : tie.Need-returns-2
 unfolding isMode test
 returns-2 c =
     let k = c .before .before .before in
-    let t = k .before .before in
-    let s = t .before .before in
+    let t = k .before .before .before in
+    let s = t .before .before .before in
     let info = k .answer .given .0 .0 in
     c .same-id .ensures ∙ ap (λ (z : ℤ). same z (pos 1306)) (toZ-ofZ w32 (info .group) (search needs))
     ∙ test-known (catalogueOf (s .args .catalogue .now)) test (toZ-ofZ w32 (s .args .id) (s .fits .id)) (t .type-of .ensures) (k .answer .given .1)
@@ -48,4 +51,4 @@ returns-2 c =
 pub is-mode-spec : {M : Type 1} → statement M
 is-mode-spec =
     tie.close
-    (tie.spec type-of-requires enum-known-answer enum-told returns same-id-requires returns-2)
+    (tie.spec slice-aggregate-type-of type-of-requires enum-known-answer enum-told returns same-id-requires returns-2)

@@ -25,22 +25,28 @@ enum-known-answer c = search needs
 enum-told : tie.Need-enum-told
 enum-told c = search needs
 
+same-length : tie.Need-same-length
+same-length c = search needs
+
 returns : tie.Need-returns
 unfolding isSkill test
 returns c =
-    let t = c .before .before in
-    let s = t .before .before in
+    let t = c .before .before .before .before in
+    let s = t .before .before .before .before in
     test-unknown (catalogueOf (s .args .catalogue .now)) test (toZ-ofZ w32 (s .args .id) (s .fits .id)) (t .type-of .ensures) (c .enum-told .given .1)
 
 same-id-requires : tie.Need-same-id-requires
 same-id-requires c κs = search needs
 
+same-length-2 : tie.Need-same-length-2
+same-length-2 c = search needs
+
 returns-2 : tie.Need-returns-2
 unfolding isSkill test
 returns-2 c =
     let k = c .before .before .before in
-    let t = k .before .before in
-    let s = t .before .before in
+    let t = k .before .before .before .before in
+    let s = t .before .before .before .before in
     let info = k .answer .given .0 .0 in
     c .same-id .ensures ∙ ap (λ (z : ℤ). same z (pos 16)) (toZ-ofZ w32 (info .category) (search needs))
     ∙ test-known (catalogueOf (s .args .catalogue .now)) test (toZ-ofZ w32 (s .args .id) (s .fits .id)) (t .type-of .ensures) (k .answer .given .1)
@@ -48,4 +54,4 @@ returns-2 c =
 pub is-skill-spec : {M : Type 1} → statement M
 is-skill-spec =
     tie.close
-    (tie.spec type-of-requires enum-known-answer enum-told returns same-id-requires returns-2)
+    (tie.spec type-of-requires enum-known-answer enum-told same-length returns same-id-requires same-length-2 returns-2)

@@ -14,11 +14,14 @@ not-a-skill-requires c κs = search needs
 same-length : tie.Need-same-length
 same-length c = search needs
 
+same-length-2 : tie.Need-same-length-2
+same-length-2 c = search needs
+
 returns : tie.Need-returns
 returns c =
-    let k = c .before .before in
-    let m = k .before .before .before .before in
+    let k = c .before .before .before .before in
+    let m = k .before .before .before .before .before in
     (wrote-append (m .not-a-mode .ensures .0) (k .not-a-skill .ensures .0), omega (arith, m .not-a-mode .ensures .1, k .not-a-skill .ensures .1))
 
 pub kind-spec : {M : Type 1} → statement M
-kind-spec = tie.close (tie.spec not-a-mode-requires not-a-skill-requires same-length returns)
+kind-spec = tie.close (tie.spec not-a-mode-requires not-a-skill-requires same-length same-length-2 returns)

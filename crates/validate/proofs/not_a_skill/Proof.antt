@@ -1,7 +1,7 @@
 -- `validate::not_a_skill` meets its contract. The invariant: the first i skills are looked at, at most one entry each.
 use Prim.Native.Nat.{ℕ, _+_, _*_, _-_, _≤_}
 use native.Mathlib.Omega.{arith}
-use mathlib.Core.Path.{ap, _∙_}
+use mathlib.Core.Path.{_≡_, refl, ap, _∙_}
 use mathlib.Core.Bool.{not}
 use mathlib.Core.List.{List}
 use lib.ListN.{length}
@@ -33,19 +33,22 @@ few-entry : (c : Catalogue) (id : Id) → length (entry-of c id) ≤ 1
 few-entry c id = few-when (not (isSkill c id)) (onShip (NotASkill id))
 
 abbrev Inv-loop : tie.InvT-loop
-Inv-loop catalogue fit out₀ n count m₀ i₀ out m i =
-    (i ≤ skillCount fit) × Wrote out₀ n out m (each (table i (skill fit)) (entry-of (catalogueOf catalogue))) × (m ≤ n + i)
+Inv-loop catalogue fit hints₀ out₀ n count m₀ i₀ hints out m i =
+    (i ≤ skillCount fit) × Wrote out₀ n out m (each (table i (skill fit)) (entry-of (catalogueOf catalogue))) × (m ≤ n + i) × (length hints ≡ length hints₀)
 
 abbrev μ-loop : tie.MeasureT-loop
-μ-loop catalogue fit out₀ n count m₀ i₀ out m i = count - i
+μ-loop catalogue fit hints₀ out₀ n count m₀ i₀ hints out m i = count - i
 
 skill-count-requires : tie.Need-skill-count-requires Inv-loop μ-loop
 skill-count-requires c κs = search needs
 
 loop-holds : tie.Need-loop-holds Inv-loop μ-loop
 loop-holds c =
-    let a = c .before .before .before .before .args in
-    (omega arith, wrote-table-none (entry-of (catalogueOf (a .catalogue .now))) (skill (a .fit .now)) _ _, omega arith)
+    let a = c .before .before .before .before .before .args in
+    (omega arith, wrote-table-none (entry-of (catalogueOf (a .catalogue .now))) (skill (a .fit .now)) _ _, omega arith, refl)
+
+seek-skills-requires : tie.Need-seek-skills-requires Inv-loop μ-loop
+seek-skills-requires c κs = search needs
 
 skill-id-requires : tie.Need-skill-id-requires Inv-loop μ-loop
 skill-id-requires c κs = search needs
@@ -61,22 +64,25 @@ loop-less c = search needs
 
 loop-again : tie.Need-loop-again Inv-loop μ-loop
 loop-again c =
-    let w = c .before .before in
-    let l = w .before .before .before .before in
-    let a = l .before .before .before .before .before .args in
+    let w = c .before .before .before .before in
+    let l = w .before .before .before .before .before .before .before .before .before in
+    let a = l .before .before .before .before .before .before .args in
     let f = entry-of (catalogueOf (a .catalogue .now)) in
-    let k = w .before .before .skill-id in
+    let k = w .before .before .before .skill-id in
     let e = wrote-same (ap f (toZ-ofZ w32 (k .result) (record { sfits = k .ok }) ∙ k .ensures)) (w .not-a-skill-at .ensures) in
-    (omega arith, wrote-table-next f (skill (a .fit .now)) (l .loop .i) (l .loop .inv .1) e, omega (arith, l .loop .inv .2, e .count, few-entry (catalogueOf (a .catalogue .now)) (skill (a .fit .now) (l .loop .i))))
+    (omega (arith, w .before .before .before .before .before .before .before .before .loop-test .taken), wrote-table-next f (skill (a .fit .now)) (l .loop .i) (l .loop .inv .1) e, omega (arith, l .loop .inv .2, e .count, few-entry (catalogueOf (a .catalogue .now)) (skill (a .fit .now) (l .loop .i))), c .before .before .before .hints2 .given ∙ c .before .before .before .before .before .before .before .before .before .hints .given ∙ l .loop .inv .3)
 
 same-length : tie.Need-same-length Inv-loop μ-loop
-same-length c = wrote-length (c .before .loop .inv .1)
+same-length c = c .before .loop .inv .3
+
+same-length-2 : tie.Need-same-length-2 Inv-loop μ-loop
+same-length-2 c = wrote-length (c .before .loop .inv .1)
 
 returns : tie.Need-returns Inv-loop μ-loop
 unfolding notASkill fitOf
 returns c =
     let l = c .before in
-    let s = l .before .before .before .before .before in
+    let s = l .before .before .before .before .before .before in
     (wrote-table-all (entry-of (catalogueOf (s .args .catalogue .now))) (skill (s .args .fit .now)) (l .loop .inv .0) (omega arith) (l .loop .inv .1), omega (arith, l .loop .inv .0, l .loop .inv .2, s .pre .1 .skills))
 
 pub not-a-skill-spec : {M : Type 1} → statement M
@@ -87,10 +93,12 @@ not-a-skill-spec =
     μ-loop
     skill-count-requires
     loop-holds
+    seek-skills-requires
     skill-id-requires
     not-a-skill-at-requires
     add-i
     loop-less
     loop-again
     same-length
+    same-length-2
     returns)

@@ -22,12 +22,16 @@ emit-when-requires c κs = search needs
 same-length : tie.Need-same-length
 same-length c = search needs
 
+same-length-2 : tie.Need-same-length-2
+same-length-2 c = search needs
+
 returns : tie.Need-returns
 returns c =
     let w = c .before .before in
-    let s = w .before .before .before .before .before in
+    let k = w .before .before .before in
+    let s = k .before .before .before .before .before .before in
     let id = toZ-ofZ w32 (s .args .id) (s .fits .id) in
-    wrote-same (ap₂ (λ (t : Bool) (i : Id). when (not t) (onShip (NotASkill i))) (w .before .is-skill .ensures ∙ ap (isSkill (catalogueOf (s .args .catalogue .now))) id) id) (w .emit-when .ensures)
+    wrote-same (ap₂ (λ (t : Bool) (i : Id). when (not t) (onShip (NotASkill i))) (k .is-skill .ensures ∙ ap (isSkill (catalogueOf (s .args .catalogue .now))) id) id) (w .emit-when .ensures)
 
 pub not-a-skill-at-spec : {M : Type 1} → statement M
-not-a-skill-at-spec = tie.close (tie.spec is-skill-requires emit-when-requires same-length returns)
+not-a-skill-at-spec = tie.close (tie.spec is-skill-requires emit-when-requires same-length same-length-2 returns)

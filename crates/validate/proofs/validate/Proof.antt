@@ -15,11 +15,14 @@ hull-rules-requires c κs = search needs
 same-length : tie.Need-same-length
 same-length c = search needs
 
+same-length-2 : tie.Need-same-length-2
+same-length-2 c = search needs
+
 returns : tie.Need-returns
 returns c =
     let h = c .before .before in
-    let k = h .before .before .before .before in
-    let s = k .before .before .before .before .before in
+    let k = h .before .before .before .before .before .before in
+    let s = k .before .before .before .before .before .before .before in
     let u = k .kind .ensures in
     let v = h .hull-rules .ensures in (
       omega (arith, u .1, v .0),
@@ -28,4 +31,4 @@ returns c =
 
 pub validate-spec : {M : Type 1} → statement M
 validate-spec =
-    tie.close (tie.spec kind-requires hull-rules-requires same-length returns)
+    tie.close (tie.spec kind-requires hull-rules-requires same-length same-length-2 returns)

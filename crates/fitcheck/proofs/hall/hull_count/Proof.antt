@@ -16,10 +16,13 @@ slice-aggregate-validate c = search needs
 validate-requires : tie.Need-validate-requires
 validate-requires c κs = search needs
 
+same-length : tie.Need-same-length
+same-length c = search needs
+
 returns : tie.Need-returns
-returns c = wrote-count (c .before .validate .ensures .1)
+returns c = wrote-count (c .before .before .before .validate .ensures .1)
 
 pub hull-count-spec : {M : Type 1} → statement M
 hull-count-spec =
     tie.close
-    (tie.spec starts-requires gather-requires slice-aggregate-validate validate-requires returns)
+    (tie.spec starts-requires gather-requires slice-aggregate-validate validate-requires same-length returns)

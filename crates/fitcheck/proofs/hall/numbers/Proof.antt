@@ -1,7 +1,7 @@
 -- `hall::numbers` meets its contract. The invariant: `at` is where fit i begins, and the word is that of the fits before it.
 use Prim.Native.Nat.{ℕ, _+_, _*_, _-_, _≤_}
 use native.Mathlib.Omega.{arith}
-use mathlib.Core.Path.{_≡_, sym, ap, _∙_}
+use mathlib.Core.Path.{_≡_, refl, sym, ap, _∙_}
 use lib.ListN.{length}
 use Rattle.words.specs.Words.{table}
 use Rattle.catalogue.specs.Catalogue.{catalogueOf}
@@ -13,10 +13,10 @@ use Rattle.fitcheck.proofs.hall.numbers.Statement.{statement}
 use Rattle.fitcheck.proofs.hall.numbers.Tie as tie
 
 abbrev Inv-loop : tie.InvT-loop
-Inv-loop catalogue input n word₀ at₀ i₀ word at i = (i ≤ n) × (at ≡ fitStart input i) × (word ≡ wordOf (catalogueOf catalogue) (table i (fitAt input))) × (word ≤ 65536 * i)
+Inv-loop catalogue input n hints₀ word₀ at₀ i₀ hints word at i = (i ≤ n) × (at ≡ fitStart input i) × (word ≡ wordOf (catalogueOf catalogue) (table i (fitAt input))) × (word ≤ 65536 * i) × (length hints ≡ 8192)
 
 abbrev μ-loop : tie.MeasureT-loop
-μ-loop catalogue input n word₀ at₀ i₀ word at i = n - i
+μ-loop catalogue input n hints₀ word₀ at₀ i₀ hints word at i = n - i
 
 -- fit i stands within the input
 within : (c : tie.In-loop Inv-loop μ-loop) → let b = c .before .before .before .before .before .args .input .now in fitStart b (c .before .loop .i) + lengthAt b (c .before .loop .i) ≤ length b
@@ -36,7 +36,7 @@ add-at c = omega arith
 loop-holds : tie.Need-loop-holds Inv-loop μ-loop
 loop-holds c =
     let a = c .before .before .before .args in
-    (omega arith, omega (arith, start-none (a .input .now)), sym (word-none (catalogueOf (a .catalogue .now)) (fitAt (a .input .now))), omega arith)
+    (omega arith, omega (arith, start-none (a .input .now)), sym (word-none (catalogueOf (a .catalogue .now)) (fitAt (a .input .now))), omega arith, refl)
 
 length-at-requires : tie.Need-length-at-requires Inv-loop μ-loop
 length-at-requires c κs =
@@ -46,6 +46,9 @@ length-at-requires c κs =
 part-requires : tie.Need-part-requires Inv-loop μ-loop
 part-requires c κs = omega (arith, within (c .before))
 
+slice-aggregate-share : tie.Need-slice-aggregate-share Inv-loop μ-loop
+slice-aggregate-share c = search (needs, sym (c .before .before .before .before .loop .inv .4))
+
 share-requires : tie.Need-share-requires Inv-loop μ-loop
 share-requires c κs = search needs
 
@@ -53,7 +56,7 @@ add-word : tie.Need-add-word Inv-loop μ-loop
 add-word c = omega arith
 
 add-at-2 : tie.Need-add-at-2 Inv-loop μ-loop
-add-at-2 c = omega (arith, within (c .before .before .before))
+add-at-2 c = omega (arith, within (c .before .before .before .before .before))
 
 add-i : tie.Need-add-i Inv-loop μ-loop
 add-i c = omega arith
@@ -63,15 +66,16 @@ loop-less c = omega arith
 
 loop-again : tie.Need-loop-again Inv-loop μ-loop
 loop-again c =
-    let l = c .before .before .before .before .loop in
-    let a = c .before .before .before .before .before .before .before .before .args in
+    let l = c .before .before .before .before .before .before .loop in
+    let a = c .before .before .before .before .before .before .before .before .before .before .args in
     let cat = catalogueOf (a .catalogue .now) in
-    let lent = c .before .part .ensures ∙ part-fit (a .input .now) (l .i) (l .inv .1) (c .before .before .length-at .ensures .0) in
-    let more = c .share .ensures .0 ∙ ap (shareOf cat) lent in (
+    let lent = c .before .before .before .part .ensures ∙ part-fit (a .input .now) (l .i) (l .inv .1) (c .before .before .before .before .length-at .ensures .0) in
+    let more = c .before .share .ensures .0 ∙ ap (shareOf cat) lent in (
       omega arith,
       omega (arith, start-next (a .input .now) (l .i)),
       omega (arith, more, word-more cat (fitAt (a .input .now)) (l .i)),
       omega arith,
+      c .hints2 .given,
     )
 
 returns : tie.Need-returns Inv-loop μ-loop
@@ -94,6 +98,7 @@ numbers-spec =
     loop-holds
     length-at-requires
     part-requires
+    slice-aggregate-share
     share-requires
     add-word
     add-at-2
