@@ -33,7 +33,7 @@ ghost use Rattle.fitcheck.specs.Hall.{hallCall, hallReturned};
 fn catalogue_refusal(catalogue: &[u8]) -> u64
     ensures { λ r. ⌜ r ≡ catalogueRefusal (now (catalogue .entry)) ⌝ }
 {
-    let verdict = catalogue::verdict_of(catalogue);
+    let verdict = catalogue_refusals::verdict(catalogue);
     match verdict {
         catalogue::Verdict::Accepted => 0,
         catalogue::Verdict::BadLength => 1,

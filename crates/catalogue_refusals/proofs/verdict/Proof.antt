@@ -1,9 +1,9 @@
--- `catalogue::verdict_of` meets its contract: each test is that of its refusal, in their order.
+-- `catalogue_refusals::verdict` meets its contract: each test is that of its refusal, in their order.
 use mathlib.Core.Path.{_∙_, sym}
 use borrow.Author.Needs.{needs}
 use Rattle.catalogue.proofs.Sound.{fits-size, refused-1, refused-2, refused-3, refused-none}
-use Rattle.catalogue.proofs.verdict_of.Statement.{statement}
-use Rattle.catalogue.proofs.verdict_of.Tie as tie
+use Rattle.catalogue_refusals.proofs.verdict.Statement.{statement}
+use Rattle.catalogue_refusals.proofs.verdict.Tie as tie
 
 bad-length-requires : tie.Need-bad-length-requires
 bad-length-requires c κs = search needs
@@ -36,8 +36,8 @@ returns-4 c =
     refused-none _ (sym (one .before .bad-length .ensures) ∙ one .if1 .left) (sym (two .before .bad-order .ensures) ∙ two .if2 .left)
     (sym (c .before .bad-field .ensures) ∙ c .if3 .left)
 
-pub verdict-of-spec : {M : Type 1} → statement M
-verdict-of-spec =
+pub verdict-spec : {M : Type 1} → statement M
+verdict-spec =
     tie.close
     (tie.spec
     bad-length-requires

@@ -1,9 +1,9 @@
--- `catalogue::bad_order` meets its contract: the first block that is out of order, or none.
+-- `catalogue_refusals::bad_order` meets its contract: the first block that is out of order, or none.
 use mathlib.Core.Path.{_≡_, _∙_}
 use borrow.Author.Needs.{needs}
 use Rattle.catalogue.proofs.Blocks.{names-ascend, effects-ascend, types-ascend, links-rise, bases-rise, bad-order}
-use Rattle.catalogue.proofs.bad_order.Statement.{statement}
-use Rattle.catalogue.proofs.bad_order.Tie as tie
+use Rattle.catalogue_refusals.proofs.bad_order.Statement.{statement}
+use Rattle.catalogue_refusals.proofs.bad_order.Tie as tie
 
 names-requires : tie.Need-names-requires
 names-requires c κs = search needs

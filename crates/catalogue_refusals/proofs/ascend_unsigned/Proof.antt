@@ -1,4 +1,4 @@
--- `catalogue::ascend_unsigned` meets its contract: the keys in their part are those in the whole.
+-- `catalogue_refusals::ascend_unsigned` meets its contract: the keys in their part are those in the whole.
 use Prim.Native.Nat.{ℕ, _*_}
 use native.Mathlib.Omega.{arith}
 use mathlib.Core.Path.{_∙_, ap}
@@ -7,9 +7,9 @@ use lib.Dec.{ltb}
 use borrow.Author.Needs.{needs}
 use Rattle.words.specs.Words.{table, inOrder}
 use Rattle.image.specs.Bytes.{u32At}
 use Rattle.catalogue.proofs.Blocks.{numbers-part}
-use Rattle.catalogue.proofs.ascend_unsigned.Statement.{statement}
-use Rattle.catalogue.proofs.ascend_unsigned.Tie as tie
+use Rattle.catalogue_refusals.proofs.ascend_unsigned.Statement.{statement}
+use Rattle.catalogue_refusals.proofs.ascend_unsigned.Tie as tie
 
 keys-of-requires : tie.Need-keys-of-requires
 keys-of-requires c κs = search needs

@@ -1,9 +1,9 @@
--- `catalogue::bad_field` meets its contract: the first field over its limit, or none.
+-- `catalogue_refusals::bad_field` meets its contract: the first field over its limit, or none.
 use mathlib.Core.Path.{_≡_, _∙_}
 use borrow.Author.Needs.{needs}
 use Rattle.catalogue.proofs.Blocks.{name-over, mark-over, flag-over, bad-field}
-use Rattle.catalogue.proofs.bad_field.Statement.{statement}
-use Rattle.catalogue.proofs.bad_field.Tie as tie
+use Rattle.catalogue_refusals.proofs.bad_field.Statement.{statement}
+use Rattle.catalogue_refusals.proofs.bad_field.Tie as tie
 
 names : (c : tie.After-any-above) → c .any-above .result ≡ name-over (c .before .before .before .args .catalogue .now)
 names c = c .any-above .ensures ∙ simp (c .before .names .ensures .0, c .before .names .ensures .1)

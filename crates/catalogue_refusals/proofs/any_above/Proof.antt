@@ -1,4 +1,4 @@
--- `catalogue::any_above` meets its contract. The invariant: the verdict so far is that of the first i numbers.
+-- `catalogue_refusals::any_above` meets its contract. The invariant: the verdict so far is that of the first i numbers.
 use Prim.Native.Nat.{ℕ, _+_, _-_, _*_, _≤_}
 use native.Mathlib.Omega.{arith}
 use mathlib.Core.Path.{_≡_, sym, ap, _∙_}
@@ -7,8 +7,8 @@ use lib.Dec.{ltb}
 use Rattle.words.specs.Words.{table, anyOf}
 use Rattle.words.proofs.Tables.{any-none, any-more}
 use Rattle.image.specs.Bytes.{u32At}
-use Rattle.catalogue.proofs.any_above.Statement.{statement}
-use Rattle.catalogue.proofs.any_above.Tie as tie
+use Rattle.catalogue_refusals.proofs.any_above.Statement.{statement}
+use Rattle.catalogue_refusals.proofs.any_above.Tie as tie
 
 abbrev Inv-loop : tie.InvT-loop
 Inv-loop b at n step limit found₀ i₀ found i = (i ≤ n) × (found ≡ anyOf (ltb limit) (table i (λ j. u32At b (at + step * j))))

@@ -1,4 +1,4 @@
--- `catalogue::ascend` meets its contract: the keys in their part are those in the whole.
+-- `catalogue_refusals::ascend` meets its contract: the keys in their part are those in the whole.
 use Prim.Native.Nat.{ℕ}
 use native.Mathlib.Omega.{arith}
 use mathlib.Core.Path.{_∙_, ap}
@@ -7,9 +7,9 @@ use lib.Signed.{ltZ}
 use borrow.Author.Needs.{needs}
 use Rattle.words.specs.Words.{table, inOrder}
 use Rattle.keys.specs.Keys.{keyAt}
 use Rattle.catalogue.proofs.Blocks.{keys-part}
-use Rattle.catalogue.proofs.ascend.Statement.{statement}
-use Rattle.catalogue.proofs.ascend.Tie as tie
+use Rattle.catalogue_refusals.proofs.ascend.Statement.{statement}
+use Rattle.catalogue_refusals.proofs.ascend.Tie as tie
 
 keys-of-requires : tie.Need-keys-of-requires
 keys-of-requires c κs = search needs

@@ -1,4 +1,4 @@
--- `catalogue::bad_length` meets its contract: a catalogue under 20 bytes is unlike any sizes.
+-- `catalogue_refusals::bad_length` meets its contract: a catalogue under 20 bytes is unlike any sizes.
 use mathlib.Core.Path.{_≡_}
 use mathlib.Core.Bool.{false}
 use lib.ListN.{length}
@@ -6,10 +6,10 @@ use lib.Dec.{eqb}
 use native.Mathlib.Omega.{arith}
 use borrow.Author.Tests.{lt-ltb, le-ltb, ne-eqb}
 use borrow.Author.Needs.{needs}
 use Rattle.catalogue.specs.Catalogue.{sizeOf}
 use Rattle.catalogue.specs.Refusals.{badLength}
-use Rattle.catalogue.proofs.bad_length.Statement.{statement}
-use Rattle.catalogue.proofs.bad_length.Tie as tie
+use Rattle.catalogue_refusals.proofs.bad_length.Statement.{statement}
+use Rattle.catalogue_refusals.proofs.bad_length.Tie as tie
 
 returns : tie.Need-returns
 unfolding badLength
