@@ -1,25 +1,23 @@
-// The catalogue: what it must be, and how it is read. Document 01, "Records", "Refusals in their order".
+// The catalogue: where its blocks are, and how it is read. Document 01, "Records".
 use floats::Value;
 use keys::Found;
 ghost use mathlib.Core.Path.{_≡_};
-ghost use mathlib.Core.Bool.{_||_, cond};
+ghost use mathlib.Core.Bool.{cond};
 ghost use mathlib.Core.List.{foldl};
 ghost use mathlib.Core.Option.{none, some};
 ghost use Prim.Native.Nat.{ℕ, _+_, _*_, _<_, _≤_};
 ghost use lib.ListN.{length, take, drop};
-ghost use lib.Dec.{ltb, eqb};
-ghost use lib.Signed.{ltZ, leZ};
-ghost use Rattle.words.specs.Words.{table, from, anyOf, inOrder, find, given, same};
+ghost use lib.Dec.{eqb};
+ghost use Rattle.words.specs.Words.{from, find, given, same};
 ghost use Rattle.image.specs.Bytes.{u32At, i32At};
 ghost use Rattle.keys.specs.Keys.{Sorted, Parts, foundOf};
 ghost use Rattle.floats.specs.Floats.{zeroF, f32At};
 ghost use Rattle.floats.specs.Values.{valueOf};
 ghost use Rattle.catalogue.specs.Catalogue.{catalogueOf, sizeOf, nameCount, effectCount, typeCount, linkCount, baseCount};
 ghost use Rattle.catalogue.specs.Catalogue.{namesAt, effectsAt, typesAt, linksAt, basesAt, nameAt, effectAt, typeAt, linkAt};
-ghost use Rattle.catalogue.specs.Refusals.{badLength, badOrder, badField, catalogueRefusal};
 ghost use Rattle.catalogue.specs.Lookups.{nameId, typeOf, effectMark, rackOf, hardpointOf};
 ghost use Rattle.catalogue.specs.Sound.{Sound};
-ghost use Rattle.catalogue.specs.Answers.{numberOf, idOf, markOf, infoOf, infoOfType, slotOf};
+ghost use Rattle.catalogue.specs.Answers.{idOf, markOf, infoOf, infoOfType, slotOf};
 ghost use Rattle.catalogue.specs.Walks.{Ends, SpanOf, spanValue, marked, linkMarks};
 
 // Refusals 1 to 3, or none.
@@ -73,34 +71,21 @@ pub struct Span {
 }
 
 // A block: where it begins, and how many records it has.
-struct Block {
-    at: usize,
-    n: usize,
+pub struct Block {
+    pub at: usize,
+    pub n: usize,
 }
 
 // ---- where the blocks are
 
-fn count(catalogue: &[u8], at: usize) -> usize
+pub fn count(catalogue: &[u8], at: usize) -> usize
     requires { ⌜ at + 4 ≤ length (now catalogue) ⌝ }
     ensures { λ r. ⌜ (r ≡ u32At (now (catalogue .entry)) at) × (r < 4294967296) ⌝ }
 {
     image::u32_at(catalogue, at) as usize
 }
 
-// The length that the sizes say. No sum of five sizes of 32 bits wraps.
-fn size_of(catalogue: &[u8]) -> usize
-    requires { ⌜ 20 ≤ length (now catalogue) ⌝ }
-    ensures { λ r. ⌜ r ≡ sizeOf (now (catalogue .entry)) ⌝ }
-{
-    20
-        + 8 * count(catalogue, 0)
-        + 8 * count(catalogue, 4)
-        + 20 * count(catalogue, 8)
-        + 8 * count(catalogue, 12)
-        + 12 * count(catalogue, 16)
-}
-
-fn names(catalogue: &[u8]) -> Block
+pub fn names(catalogue: &[u8]) -> Block
     requires { ⌜ length (now catalogue) ≡ sizeOf (now catalogue) ⌝ }
     ensures { λ r. ⌜ (r .at ≡ namesAt (now (catalogue .entry))) × (r .n ≡ nameCount (now (catalogue .entry))) ⌝ }
 {
@@ -110,7 +95,7 @@ fn names(catalogue: &[u8]) -> Block
     }
 }
 
-fn effects(catalogue: &[u8]) -> Block
+pub fn effects(catalogue: &[u8]) -> Block
     requires { ⌜ length (now catalogue) ≡ sizeOf (now catalogue) ⌝ }
     ensures { λ r. ⌜ (r .at ≡ effectsAt (now (catalogue .entry))) × (r .n ≡ effectCount (now (catalogue .entry))) ⌝ }
 {
@@ -121,7 +106,7 @@ fn effects(catalogue: &[u8]) -> Block
     }
 }
 
-fn types(catalogue: &[u8]) -> Block
+pub fn types(catalogue: &[u8]) -> Block
     requires { ⌜ length (now catalogue) ≡ sizeOf (now catalogue) ⌝ }
     ensures { λ r. ⌜ (r .at ≡ typesAt (now (catalogue .entry))) × (r .n ≡ typeCount (now (catalogue .entry))) ⌝ }
 {
@@ -132,7 +117,7 @@ fn types(catalogue: &[u8]) -> Block
     }
 }
 
-fn links(catalogue: &[u8]) -> Block
+pub fn links(catalogue: &[u8]) -> Block
     requires { ⌜ length (now catalogue) ≡ sizeOf (now catalogue) ⌝ }
     ensures { λ r. ⌜ (r .at ≡ linksAt (now (catalogue .entry))) × (r .n ≡ linkCount (now (catalogue .entry))) ⌝ }
 {
@@ -143,7 +128,7 @@ fn links(catalogue: &[u8]) -> Block
     }
 }
 
-fn bases(catalogue: &[u8]) -> Block
+pub fn bases(catalogue: &[u8]) -> Block
     requires { ⌜ length (now catalogue) ≡ sizeOf (now catalogue) ⌝ }
     ensures { λ r. ⌜ (r .at ≡ basesAt (now (catalogue .entry))) × (r .n ≡ baseCount (now (catalogue .entry))) ⌝ }
 {
@@ -154,122 +139,12 @@ fn bases(catalogue: &[u8]) -> Block
     }
 }
 
-// ---- refusals
-
-// Refusal 1.
-fn bad_length(catalogue: &[u8]) -> bool
-    ensures { λ r. ⌜ r ≡ badLength (now (catalogue .entry)) ⌝ }
-{
-    if 16777216 < catalogue.len() {
-        return true;
-    }
-    if catalogue.len() < 20 {
-        return true;
-    }
-    catalogue.len() != size_of(catalogue)
-}
-
 // The keys of a block.
-fn keys_of(catalogue: &[u8], b: Block) -> &[u8]
+pub fn keys_of(catalogue: &[u8], b: Block) -> &[u8]
     requires { ⌜ b .at + 4 * b .n ≤ length (now catalogue) ⌝ }
     ensures { λ r. ⌜ (now r ≡ take (4 * b .n) (drop (b .at) (now (catalogue .entry)))) × (length (now r) ≡ 4 * b .n) ⌝ }
 {
     image::part(catalogue, b.at, 4 * b.n)
-}
-
-fn ascend_unsigned(catalogue: &[u8], b: Block) -> bool
-    requires { ⌜ b .at + 4 * b .n ≤ length (now catalogue) ⌝ }
-    ensures { λ r. ⌜ r ≡ inOrder ltb (table (b .n) (λ i. u32At (now (catalogue .entry)) (b .at + 4 * i))) ⌝ }
-{
-    keys::ascend_unsigned(keys_of(catalogue, b), b.n)
-}
-
-fn ascend(catalogue: &[u8], b: Block) -> bool
-    requires { ⌜ b .at + 4 * b .n ≤ length (now catalogue) ⌝ }
-    ensures { λ r. ⌜ r ≡ inOrder ltZ (table (b .n) (λ i. i32At (now (catalogue .entry)) (b .at + 4 * i))) ⌝ }
-{
-    keys::ascend(keys_of(catalogue, b), b.n)
-}
-
-fn never_descend(catalogue: &[u8], b: Block) -> bool
-    requires { ⌜ b .at + 4 * b .n ≤ length (now catalogue) ⌝ }
-    ensures { λ r. ⌜ r ≡ inOrder leZ (table (b .n) (λ i. i32At (now (catalogue .entry)) (b .at + 4 * i))) ⌝ }
-{
-    keys::never_descend(keys_of(catalogue, b), b.n)
-}
-
-// Refusal 2.
-fn bad_order(catalogue: &[u8]) -> bool
-    requires { ⌜ length (now catalogue) ≡ sizeOf (now catalogue) ⌝ }
-    ensures { λ r. ⌜ r ≡ badOrder (catalogueOf (now (catalogue .entry))) ⌝ }
-{
-    if !ascend_unsigned(catalogue, names(catalogue)) {
-        return true;
-    }
-    if !ascend(catalogue, effects(catalogue)) {
-        return true;
-    }
-    if !ascend(catalogue, types(catalogue)) {
-        return true;
-    }
-    if !never_descend(catalogue, links(catalogue)) {
-        return true;
-    }
-    !never_descend(catalogue, bases(catalogue))
-}
-
-fn either(a: bool, b: bool) -> bool
-    ensures { λ r. ⌜ r ≡ (a || b) ⌝ }
-{
-    if a { true } else { b }
-}
-
-// Whether any of n numbers, each `step` bytes after the last, is above a limit. Like an order check it runs to its end.
-fn any_above(b: &[u8], at: usize, n: usize, step: usize, limit: u32) -> bool
-    requires { ⌜ ((i : ℕ) → i < n → at + step * i + 4 ≤ length (now b)) ⌝ }
-    ensures { λ r. ⌜ r ≡ anyOf (ltb limit) (table n (λ i. u32At (now (b .entry)) (at + step * i))) ⌝ }
-{
-    let mut found = false;
-    let mut i = 0;
-    while i < n {
-        let x = image::u32_at(b, at + step * i);
-        found = either(found, limit < x);
-        i += 1;
-    }
-    found
-}
-
-// Refusal 3.
-fn bad_field(catalogue: &[u8]) -> bool
-    requires { ⌜ length (now catalogue) ≡ sizeOf (now catalogue) ⌝ }
-    ensures { λ r. ⌜ r ≡ badField (catalogueOf (now (catalogue .entry))) ⌝ }
-{
-    let n = names(catalogue);
-    if any_above(catalogue, n.at, n.n, 4, 87) {
-        return true;
-    }
-    let e = effects(catalogue);
-    if any_above(catalogue, e.at + 4 * e.n, e.n, 4, 8) {
-        return true;
-    }
-    let t = types(catalogue);
-    any_above(catalogue, t.at + 4 * t.n + 8, t.n, 16, 1)
-}
-
-// The first refusal of 1 to 3 that holds.
-pub fn verdict_of(catalogue: &[u8]) -> Verdict
-    ensures { λ r. ⌜ numberOf r ≡ catalogueRefusal (now (catalogue .entry)) ⌝ }
-{
-    if bad_length(catalogue) {
-        return Verdict::BadLength;
-    }
-    if bad_order(catalogue) {
-        return Verdict::BadOrder;
-    }
-    if bad_field(catalogue) {
-        return Verdict::BadField;
-    }
-    Verdict::Accepted
 }
 
 // ---- lookups of one record

@@ -1,6 +1,5 @@
-// The fit's image: whether it is refused, its fields, and what each result reached. Document 01, "Records", "Refusals in their order".
-mod layout;
-pub mod refusals;
+// The fit's image: its fields, and what each result reached. Document 01, "Records".
+pub mod layout;
 
 use floats::Value;
 use keys::Found;

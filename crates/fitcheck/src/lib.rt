@@ -33,7 +33,7 @@ ghost use Rattle.fitcheck.specs.Hall.{hallCall, hallReturned};
 fn catalogue_refusal(catalogue: &[u8]) -> u64
     ensures { λ r. ⌜ r ≡ catalogueRefusal (now (catalogue .entry)) ⌝ }
 {
-    let verdict = catalogue::verdict_of(catalogue);
+    let verdict = catalogue_refusals::verdict(catalogue);
     match verdict {
         catalogue::Verdict::Accepted => 0,
         catalogue::Verdict::BadLength => 1,
@@ -46,7 +46,7 @@ fn catalogue_refusal(catalogue: &[u8]) -> u64
 fn fit_refusal(fit: &[u8]) -> u64
     ensures { λ r. ⌜ r ≡ fitRefusal (now (fit .entry)) ⌝ }
 {
-    let verdict = fit::refusals::verdict(fit);
+    let verdict = fit_refusals::verdict(fit);
     match verdict {
         fit::Verdict::Accepted => 0,
         fit::Verdict::BadSize => 4,

@@ -27,7 +27,7 @@ fn say(text: &[u8], n: u64) {
 }
 
 fn catalogue_number(b: &[u8]) -> u64 {
-    let v = catalogue::verdict_of(b);
+    let v = catalogue_refusals::verdict(b);
     match v {
         catalogue::Verdict::Accepted => 0,
         catalogue::Verdict::BadLength => 1,
@@ -37,7 +37,7 @@ fn catalogue_number(b: &[u8]) -> u64 {
 }
 
 fn fit_number(b: &[u8]) -> u64 {
-    let v = fit::refusals::verdict(b);
+    let v = fit_refusals::verdict(b);
     match v {
         fit::Verdict::Accepted => 0,
         fit::Verdict::BadSize => 4,

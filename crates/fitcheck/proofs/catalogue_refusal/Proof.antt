@@ -5,8 +5,8 @@ use borrow.Author.Needs.{needs}
 use Rattle.fitcheck.proofs.catalogue_refusal.Statement.{statement}
 use Rattle.fitcheck.proofs.catalogue_refusal.Tie as tie
 
-verdict-of-requires : tie.Need-verdict-of-requires
-verdict-of-requires c κs = search needs
+verdict-requires : tie.Need-verdict-requires
+verdict-requires c κs = search needs
 
 enum-told : tie.Need-enum-told
 enum-told c = search needs
@@ -21,22 +21,22 @@ enum-told-4 : tie.Need-enum-told-4
 enum-told-4 c = search needs
 
 returns : tie.Need-returns
-returns c = sym (ap numberOf (c .enum-told .given .1)) ∙ c .before .before .verdict-of .ensures
+returns c = sym (ap numberOf (c .enum-told .given .1)) ∙ c .before .before .verdict .ensures
 
 returns-2 : tie.Need-returns-2
-returns-2 c = sym (ap numberOf (c .enum-told2 .given .1)) ∙ c .before .before .verdict-of .ensures
+returns-2 c = sym (ap numberOf (c .enum-told2 .given .1)) ∙ c .before .before .verdict .ensures
 
 returns-3 : tie.Need-returns-3
-returns-3 c = sym (ap numberOf (c .enum-told3 .given .1)) ∙ c .before .before .verdict-of .ensures
+returns-3 c = sym (ap numberOf (c .enum-told3 .given .1)) ∙ c .before .before .verdict .ensures
 
 returns-4 : tie.Need-returns-4
-returns-4 c = sym (ap numberOf (c .enum-told4 .given .1)) ∙ c .before .before .verdict-of .ensures
+returns-4 c = sym (ap numberOf (c .enum-told4 .given .1)) ∙ c .before .before .verdict .ensures
 
 pub catalogue-refusal-spec : {M : Type 1} → statement M
 catalogue-refusal-spec =
     tie.close
     (tie.spec
-    verdict-of-requires
+    verdict-requires
     enum-told
     enum-told-2
     enum-told-3

@@ -1,0 +1,2 @@
+-- Laws of the refusals: each one from the tests of the code.
+mod Refused
