@@ -1,5 +1,3 @@
--- Laws of slots: counts and tests over pairs, what the code of each check tells, racks and hardpoints.
-pub mod Counts
+-- Laws of slots: what the code of each check tells, of an item and of its attributes.
 pub mod Checks
 pub mod Numbers
-pub mod Reports

@@ -1,12 +1,12 @@
--- validate/slot.rs: what the code holds of a pair and of the names, what it tells of a pair, the two tests of one pair against another, and the file's rules in order.
+-- validate/slot.rs: what the code holds of a pair and of the names, what it tells of a pair, and the two tests of one pair against another.
 use Prim.Native.Nat.{ℕ, _+_, _≤_}
 use mathlib.Core.Path.{_≡_}
 use mathlib.Core.Bool.{Bool, true, false, not, _&&_}
-use mathlib.Core.List.{List, _++_}
+use mathlib.Core.List.{List}
 use mathlib.Core.Option.{Option}
 use lib.Dec.{eqb}
 use lib.Ieee.{Float, eq}
-use Rattle.words.specs.Words.{_>>=_, when, whenAny, each, given}
+use Rattle.words.specs.Words.{_>>=_, when, whenAny, given}
 use Rattle.floats.specs.Floats.{toU}
 use Rattle.catalogue.specs.Catalogue.{Id, Name}
 use Rattle.catalogue.specs.Lookups.{nameId}
@@ -19,7 +19,6 @@ use Rattle.entry.specs.Entries.{onItem}
 use Rattle.entry.specs.Wrote.{Wrote}
 use Rattle.context.specs.Context.{Pair, Context, isIn, isOther, on}
 use Rattle.context.specs.Gathered.{slotIn}
-use Rattle.slot.specs.Slot.{racks, hardpoints, slotChecks}
 use Rattle.slot.specs.declared.Item.{Item}
 use Rattle.slot.specs.declared.Ids.{Ids}
 
@@ -61,7 +60,3 @@ unfoldable pub partShared : List Pair → Pair → Id → Option Float → List 
 partShared ps p id value = do
   part ← value
   whenAny true (sharesPart id part p) ps (on p SubsystemTaken)
-
--- `validate`: racks, hardpoints, and the checks of each pair
-abbrev pub slotRules : Context → List Pair → List Entry
-slotRules x ps = racks x ps ++ (hardpoints x ps ++ each ps (slotChecks x ps))

@@ -10,7 +10,7 @@ use Rattle.words.proofs.Elements.{any-turn}
 use Rattle.context.specs.Context.{Pair}
 use Rattle.context.specs.Gathered.{pairAt, pairCount}
 use Rattle.slot.specs.AtPair.{Holds, sharesSlot}
-use Rattle.slot.proofs.Counts.{any-all}
+use Rattle.slot.proofs.Checks.{any-all}
 use Rattle.slot.proofs.shares_slot.Statement.{statement}
 use Rattle.slot.proofs.shares_slot.Tie as tie
 

@@ -1,12 +1,12 @@
--- `slot::takes_hardpoint` meets its contract: the byte is the pair's hardpoint.
+-- `racks::takes_hardpoint` meets its contract: the byte is the pair's hardpoint.
 use mathlib.Core.Path.{_≡_, ap, _∙_}
 use mathlib.Core.Bool.{_&&_}
 use lib.Dec.{leb, eqb}
 use Rattle.context.specs.Gathered.{slotIn, pairAt}
-use Rattle.slot.proofs.Checks.{takes-is}
+use Rattle.racks.proofs.Counts.{takes-is}
 use borrow.Author.Needs.{needs}
-use Rattle.slot.proofs.takes_hardpoint.Statement.{statement}
-use Rattle.slot.proofs.takes_hardpoint.Tie as tie
+use Rattle.racks.proofs.takes_hardpoint.Statement.{statement}
+use Rattle.racks.proofs.takes_hardpoint.Tie as tie
 
 item-slot-requires : tie.Need-item-slot-requires
 item-slot-requires c κs = search needs

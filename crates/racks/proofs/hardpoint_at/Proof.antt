@@ -1,12 +1,12 @@
--- `slot::hardpoint_at` meets its contract: the row and the count.
+-- `racks::hardpoint_at` meets its contract: the row and the count.
 use native.Mathlib.Omega.{arith}
 use Rattle.entry.proofs.Wrote.{wrote-same}
 use Rattle.context.specs.Gathered.{contextOf, pairsOf}
 use Rattle.slot.specs.Tables.{hardpointNumbers, rowAt}
-use Rattle.slot.proofs.Reports.{on-hardpoint-is, hardpoint-small}
+use Rattle.racks.proofs.Reports.{on-hardpoint-is, hardpoint-small}
 use borrow.Author.Needs.{needs}
-use Rattle.slot.proofs.hardpoint_at.Statement.{statement}
-use Rattle.slot.proofs.hardpoint_at.Tie as tie
+use Rattle.racks.proofs.hardpoint_at.Statement.{statement}
+use Rattle.racks.proofs.hardpoint_at.Tie as tie
 
 hardpoint-requires : tie.Need-hardpoint-requires
 hardpoint-requires c κs = search needs

@@ -1,11 +1,11 @@
--- `slot::rack_at` meets its contract: the row and the count.
+-- `racks::rack_at` meets its contract: the row and the count.
 use Rattle.entry.proofs.Wrote.{wrote-same}
 use Rattle.context.specs.Gathered.{contextOf, pairsOf}
 use Rattle.slot.specs.Tables.{rackNumbers, rowAt}
-use Rattle.slot.proofs.Reports.{in-rack-is}
+use Rattle.racks.proofs.Reports.{in-rack-is}
 use borrow.Author.Needs.{needs}
-use Rattle.slot.proofs.rack_at.Statement.{statement}
-use Rattle.slot.proofs.rack_at.Tie as tie
+use Rattle.racks.proofs.rack_at.Statement.{statement}
+use Rattle.racks.proofs.rack_at.Tie as tie
 
 rack-requires : tie.Need-rack-requires
 rack-requires c κs = search needs

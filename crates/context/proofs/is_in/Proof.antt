@@ -1,11 +1,11 @@
--- `slot::is_in` meets its contract: a pair's slot is its item's, whatever the catalogue.
+-- `context::is_in` meets its contract: a pair's slot is its item's, whatever the catalogue.
 use Prim.Native.Nat.{ℕ}
 use mathlib.Core.Path.{ap}
 use lib.Dec.{eqb}
 use Rattle.context.specs.Context.{isIn}
 use borrow.Author.Needs.{needs}
-use Rattle.slot.proofs.is_in.Statement.{statement}
-use Rattle.slot.proofs.is_in.Tie as tie
+use Rattle.context.proofs.is_in.Statement.{statement}
+use Rattle.context.proofs.is_in.Tie as tie
 
 item-slot-requires : tie.Need-item-slot-requires
 item-slot-requires c κs = search needs

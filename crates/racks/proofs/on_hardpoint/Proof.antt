@@ -1,4 +1,4 @@
--- `slot::on_hardpoint` meets its contract. The invariant: the count so far is that of the first i pairs.
+-- `racks::on_hardpoint` meets its contract. The invariant: the count so far is that of the first i pairs.
 use Prim.Native.Nat.{ℕ, _+_, _-_, _≤_}
 use native.Mathlib.Omega.{arith}
 use mathlib.Core.Path.{_≡_, sym}
@@ -7,10 +7,10 @@ use borrow.Author.Needs.{needs}
 use Rattle.words.specs.Words.{table, countOf}
 use Rattle.words.proofs.Tables.{count-none}
 use Rattle.context.specs.Gathered.{pairAt, pairCount, Hardpoints}
 use Rattle.slot.specs.Slot.{takesHardpoint}
-use Rattle.slot.proofs.Counts.{count-turn, count-all}
-use Rattle.slot.proofs.on_hardpoint.Statement.{statement}
-use Rattle.slot.proofs.on_hardpoint.Tie as tie
+use Rattle.racks.proofs.Counts.{count-turn, count-all}
+use Rattle.racks.proofs.on_hardpoint.Statement.{statement}
+use Rattle.racks.proofs.on_hardpoint.Tie as tie
 
 abbrev Inv-loop : tie.InvT-loop
 Inv-loop fit hardpoints slot count used₀ i₀ used i =

@@ -1,4 +1,4 @@
--- `slot::report` meets its contract, by whether the attribute is known.
+-- `racks::report` meets its contract, by whether the attribute is known.
 use Prim.Native.Nat.{ℕ}
 use native.Mathlib.Omega.{arith}
 use mathlib.Core.Path.{_≡_, sym, ap, _∙_}
@@ -14,10 +14,10 @@ use Rattle.fit.specs.Lookups.{amount}
 use Rattle.entry.specs.declared.Rule.the-variants.{Slots}
 use Rattle.entry.specs.Entries.{onShip}
 use Rattle.entry.proofs.Wrote.{wrote-same, wrote-none}
-use Rattle.slot.proofs.Reports.{slots-is, slots-none}
+use Rattle.racks.proofs.Reports.{slots-is, slots-none}
 use borrow.Author.Needs.{needs}
-use Rattle.slot.proofs.report.Statement.{statement}
-use Rattle.slot.proofs.report.Tie as tie
+use Rattle.racks.proofs.report.Statement.{statement}
+use Rattle.racks.proofs.report.Tie as tie
 
 attribute-id-requires : tie.Need-attribute-id-requires
 attribute-id-requires c κs = search needs

@@ -1,4 +1,4 @@
--- `slot::in_rack` meets its contract. The invariant: the count so far is that of the first i pairs.
+-- `racks::in_rack` meets its contract. The invariant: the count so far is that of the first i pairs.
 use Prim.Native.Nat.{ℕ, _+_, _-_, _≤_}
 use native.Mathlib.Omega.{arith}
 use mathlib.Core.Path.{_≡_, sym}
@@ -8,14 +8,14 @@ use Rattle.words.specs.Words.{table, countOf}
 use Rattle.words.proofs.Tables.{count-none}
 use Rattle.context.specs.Context.{isIn}
 use Rattle.context.specs.Gathered.{pairAt, pairCount}
-use Rattle.slot.proofs.Counts.{count-turn, count-all}
-use Rattle.slot.proofs.in_rack.Statement.{statement}
-use Rattle.slot.proofs.in_rack.Tie as tie
-use Rattle.slot.proofs.in_rack.Reads as reads
-use Rattle.slot.proofs.in_rack.Lts as lts
+use Rattle.racks.proofs.Counts.{count-turn, count-all}
+use Rattle.racks.proofs.in_rack.Statement.{statement}
+use Rattle.racks.proofs.in_rack.Tie as tie
+use Rattle.racks.proofs.in_rack.Reads as reads
+use Rattle.racks.proofs.in_rack.Lts as lts
 use Rattle.fit.proofs.pair_count.Reads as pair-count-reads
-use Rattle.slot.proofs.is_in.Reads as is-in-reads
-use Rattle.slot.proofs.one_if.Reads as one-if-reads
+use Rattle.context.proofs.is_in.Reads as is-in-reads
+use Rattle.context.proofs.one_if.Reads as one-if-reads
 
 abbrev Inv-loop : tie.InvT-loop
 Inv-loop fit slot count used₀ i₀ used i = (i ≤ count) × ((used ≤ i) × ((catalogue : List ℕ) → used ≡ countOf (isIn slot) (table i (pairAt catalogue fit))))
