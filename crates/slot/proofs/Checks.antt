@@ -14,7 +14,7 @@ use Rattle.entry.specs.declared.Rule.the-variants.{WrongSlot, NotAModule, NotAD
 use Rattle.entry.specs.Entries.{onItem}
 use Rattle.entry.specs.Wrote.{Wrote}
 use Rattle.entry.proofs.Wrote.{wrote-same, wrote-none}
-use Rattle.context.specs.Context.{Pair, Context, isFitted, isIn, isFighterSlot, isOther, isModuleCategory}
+use Rattle.context.specs.Context.{Pair, Context, isFitted, isIn, isFighterSlot, isModuleCategory}
 use Rattle.context.specs.Gathered.{slotIn, pairCount, pairAt, pairsOf}
 use Rattle.context.proofs.Pairs.{pairs-table}
 use Rattle.slot.specs.declared.Item.{Item}
@@ -70,10 +70,6 @@ any-all t catalogue fit e p = p ∙ ap (λ (n : ℕ). anyOf t (table n (pairAt c
 pub holds-one-is : (p : Pair) {s : ℕ} → s ≡ p .slot → not ((eqb s 10 || eqb s 7) || eqb s 11) ≡ holdsOne p
 unfolding holdsOne isIn
 holds-one-is p e = rw e
-
-pub shares-slot-is : (o : Pair) {p : Pair} {item : Item} {j s i : ℕ} → Holds p item → j ≡ o .at → s ≡ o .slot → i ≡ o .index → not (eqb j (item .at)) && (eqb s (item .slot) && eqb i (item .index)) ≡ sharesSlot p o
-unfolding sharesSlot isOther
-shares-slot-is o h a b c = rw (a, b, c, h .at, h .slot, h .index)
 
 -- ---- a slot that another pair has
 module _ (x : Context) (ps : List Pair) where

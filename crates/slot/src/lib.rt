@@ -25,7 +25,7 @@ ghost use Rattle.entry.specs.Wrote.{Wrote};
 ghost use Rattle.context.specs.Context.{Pair, Context};
 ghost use Rattle.context.specs.Gathered.{pairCount, pairAt, pairsOf, contextOf, Ready, Categories, Racks};
 ghost use Rattle.slot.specs.Slot as Slot;
-ghost use Rattle.slot.specs.AtPair.{Holds, Checked, Named, indexNamed, sharesSlot, sharesPart, partShared};
+ghost use Rattle.slot.specs.AtPair.{Holds, Checked, Named, Sits, Places, indexNamed, sharesSlot, sharesPart, partShared};
 
 const SUBSYSTEM: u8 = 4;
 
@@ -173,44 +173,58 @@ fn holds_one(slot: u8) -> bool
     !context::either(bay, slot == CARGO)
 }
 
-fn place(item: Item) -> usize
+fn position(item: Item) -> usize
     ensures { λ r. ⌜ r ≡ item .at ⌝ }
 {
     item.at as usize
 }
 
-// Whether pair j is another one in the item's slot.
-fn same_slot(fit: &[u8], item: Item, j: usize) -> bool
-    requires { ⌜ Fit.Sound (now fit) × (j < pairCount (now fit)) ⌝ }
-    ensures { λ r. ⌜ ((catalogue : List ℕ) (p : Pair) → Holds p item → r ≡ sharesSlot p (pairAt catalogue (now (fit .entry)) j)) ⌝ }
+// A slot and an index as one number, so that one comparison tells both.
+fn place_of(slot: u8, index: u16) -> u32
+    ensures { λ r. ⌜ Sits slot index r ⌝ }
 {
-    let there = context::both(
-        fit::item_slot(fit, j) == item.slot,
-        fit::item_index(fit, j) == item.index,
-    );
-    context::both(j != place(item), there)
+    slot as u32 * 65536 + index as u32
 }
 
-fn shares_slot(fit: &[u8], item: Item) -> bool
+// Where each pair sits, gathered once for all pairs.
+fn places(fit: &[u8]) -> [u32; 256]
     requires { ⌜ Fit.Sound (now fit) ⌝ }
-    ensures { λ r. ⌜ ((catalogue : List ℕ) (p : Pair) → Holds p item → r ≡ anyOf (sharesSlot p) (pairsOf catalogue (now (fit .entry)))) ⌝ }
+    ensures { λ r. ⌜ Places (now (fit .entry)) r ⌝ }
 {
     let count = fit::pair_count(fit);
-    let mut found = false;
-    let mut j = 0;
-    while j < count {
-        found = context::either(found, same_slot(fit, item, j));
-        j += 1;
+    let mut places = [0u32; 256];
+    let mut i = 0;
+    while i < count {
+        places[i] = place_of(fit::item_slot(fit, i), fit::item_index(fit, i));
+        i += 1;
     }
-    found
+    places
 }
 
-fn slot_taken(fit: &[u8], item: Item, out: &mut [u8], n: usize) -> usize
-    requires { ⌜ Fit.Sound (now fit) × (n < 4294967296) ⌝ }
-    ensures { λ r. ⌜ ((catalogue : List ℕ) → Checked item (λ x. Slot.slotTaken x (pairsOf catalogue (now (fit .entry)))) (now (out .entry)) n (now (out .exit)) r) ⌝ }
+// Whether another pair is in the item's slot. The pair itself is counted too, and the loop runs to its end, so that the
+// compiler can take many pairs at once.
+fn shares_slot(fit: &[u8], places: &[u32; 256], item: Item) -> bool
+    requires { ⌜ Fit.Sound (now fit) × Places (now fit) (now places) × (item .at < pairCount (now fit)) ⌝ }
+    ensures { λ r. ⌜ ((catalogue : List ℕ) (i : ℕ) → Holds (pairAt catalogue (now (fit .entry)) i) item → r ≡ anyOf (sharesSlot (pairAt catalogue (now (fit .entry)) i)) (pairsOf catalogue (now (fit .entry)))) ⌝ }
+{
+    let pairs = fit::pair_count(fit);
+    let place = place_of(item.slot, item.index);
+    let mut there: u32 = 0;
+    let mut j: usize = 0;
+    while j < pairs {
+        there += context::one_if(places[j] == place);
+        j += 1;
+    }
+    1 < there
+}
+
+fn slot_taken(fit: &[u8], places: &[u32; 256], item: Item, out: &mut [u8], n: usize) -> usize
+    requires { ⌜ Fit.Sound (now fit) × Places (now fit) (now places) × (item .at < pairCount (now fit)) × (n < 4294967296) ⌝ }
+    ensures { λ r. ⌜ (r ≤ n + 1) × ((catalogue : List ℕ) (x : Context) (i : ℕ) → Holds (pairAt catalogue (now (fit .entry)) i) item → Wrote (now (out .entry)) n (now (out .exit)) r (Slot.slotTaken x (pairsOf catalogue (now (fit .entry))) (pairAt catalogue (now (fit .entry)) i))) ⌝ }
 {
     if holds_one(item.slot) {
-        return push_when(item, shares_slot(fit, item), Rule::SlotTaken, out, n);
+        let test = shares_slot(fit, places, item);
+        return push_when(item, test, Rule::SlotTaken, out, n);
     }
     n
 }
@@ -275,7 +289,7 @@ fn wrong_slot_index(
     let number = slot_number(ids, item.slot);
     match number {
         AttributeId::Known(id) => {
-            let value = fit::value(fit, starts, place(item) + 2, id);
+            let value = fit::value(fit, starts, position(item) + 2, id);
             expect_index(value, item, out, n)
         }
         AttributeId::Unknown => n,
@@ -297,7 +311,7 @@ fn same_part(fit: &[u8], starts: &[u32; 259], item: Item, id: i32, part: f64, j:
     requires { ⌜ Fit.Sound (now fit) × Fit.Starts (now fit) (now starts) × (j < pairCount (now fit)) ⌝ }
     ensures { λ r. ⌜ ((catalogue : List ℕ) (p : Pair) → Holds p item → r ≡ sharesPart id part p (pairAt catalogue (now (fit .entry)) j)) ⌝ }
 {
-    if j == place(item) {
+    if j == position(item) {
         return false;
     }
     if !context::is_in(fit, j, SUBSYSTEM) {
@@ -361,7 +375,7 @@ fn subsystem_taken(
     let part = ids.part;
     match part {
         AttributeId::Known(id) => {
-            let value = fit::value(fit, starts, place(item) + 2, id);
+            let value = fit::value(fit, starts, position(item) + 2, id);
             push_shared(fit, starts, item, id, value, out, n)
         }
         AttributeId::Unknown => n,
@@ -384,6 +398,7 @@ fn alone(item: Item, out: &mut [u8], n: usize) -> usize
 fn slot_checks_at(
     fit: &[u8],
     starts: &[u32; 259],
+    places: &[u32; 256],
     categories: &[i32; 256],
     racks: &[u8; 256],
     ids: Ids,
@@ -391,12 +406,12 @@ fn slot_checks_at(
     out: &mut [u8],
     n: usize,
 ) -> usize
-    requires { ⌜ Fit.Sound (now fit) × Fit.Starts (now fit) (now starts) × (i < pairCount (now fit)) × (n ≤ 2000000) ⌝ }
+    requires { ⌜ Fit.Sound (now fit) × Fit.Starts (now fit) (now starts) × Places (now fit) (now places) × (i < pairCount (now fit)) × (n ≤ 2000000) ⌝ }
     ensures { λ r. ⌜ (r ≤ n + 8) × ((catalogue : List ℕ) → Categories catalogue (now (fit .entry)) (now (categories .entry)) → Racks catalogue (now (fit .entry)) (now (racks .entry)) → Named (catalogueOf catalogue .names) ids → Wrote (now (out .entry)) n (now (out .exit)) r (Slot.slotChecks (contextOf catalogue (now (fit .entry))) (pairsOf catalogue (now (fit .entry))) (pairAt catalogue (now (fit .entry)) i))) ⌝ }
 {
     let item = item_at(fit, categories, racks, i);
     let a = alone(item, out, n);
-    let b = slot_taken(fit, item, out, a);
+    let b = slot_taken(fit, places, item, out, a);
     let c = wrong_slot_index(fit, starts, ids, item, out, b);
     subsystem_taken(fit, starts, ids, item, out, c)
 }
@@ -415,11 +430,12 @@ pub fn validate(
     ensures { λ r. ⌜ (r ≤ n + 2048) × Wrote (now (out .entry)) n (now (out .exit)) r (each (pairsOf (now (catalogue .entry)) (now (fit .entry))) (Slot.slotChecks (contextOf (now (catalogue .entry)) (now (fit .entry))) (pairsOf (now (catalogue .entry)) (now (fit .entry))))) ⌝ }
 {
     let ids = ids_of(catalogue);
+    let places = places(fit);
     let count = fit::pair_count(fit);
     let mut k = n;
     let mut i = 0;
     while i < count {
-        k = slot_checks_at(fit, starts, categories, racks, ids, i, out, k);
+        k = slot_checks_at(fit, starts, &places, categories, racks, ids, i, out, k);
         i += 1;
     }
     k

@@ -20,14 +20,17 @@ use Rattle.slot.proofs.ids_of.Reads as ids-of-reads
 use Rattle.slot.proofs.slot_checks_at.Reads as slot-checks-at-reads
 
 abbrev Inv-loop : tie.InvT-loop
-Inv-loop catalogue fit starts categories racks out₀ n ids count k₀ i₀ out k i =
+Inv-loop catalogue fit starts categories racks out₀ n ids places count k₀ i₀ out k i =
     (i ≤ count) × ((k ≤ n + 8 * i) × Wrote out₀ n out k (each (table i (pairAt catalogue fit)) (slotChecks (contextOf catalogue fit) (pairsOf catalogue fit))))
 
 abbrev μ-loop : tie.MeasureT-loop
-μ-loop catalogue fit starts categories racks out₀ n ids count k₀ i₀ out k i = count - i
+μ-loop catalogue fit starts categories racks out₀ n ids places count k₀ i₀ out k i = count - i
 
 ids-of-requires : tie.Need-ids-of-requires Inv-loop μ-loop
 ids-of-requires c κs = search needs
+
+places-requires : tie.Need-places-requires Inv-loop μ-loop
+places-requires c κs = search needs
 
 pair-count-requires : tie.Need-pair-count-requires Inv-loop μ-loop
 pair-count-requires c κs = search needs
@@ -37,16 +40,17 @@ loop-holds c = (omega arith, (omega arith, wrote-table-none _ _ _ _))
 
 -- pairs are no more than items, of which there are 256 at most
 few : (c : tie.At-loop Inv-loop μ-loop) → c .before .pair-count .result ≤ 256
-few c = omega (arith, c .before .pair-count .ensures, c .before .before .before .before .before .before .pre .0 .fit-sound .items)
+few c = omega (arith, c .before .pair-count .ensures, c .before .before .before .before .before .before .before .pre .0 .fit-sound .items)
 
 slot-checks-at-requires : tie.Need-slot-checks-at-requires Inv-loop μ-loop
 slot-checks-at-requires c κs =
-    let l = c .before .before in
-    let s = l .before .before .before .before .before .before in (
+    let l = c .before .before .before in
+    let s = l .before .before .before .before .before .before .before in (
       s .pre .0 .fit-sound,
       s .pre .0 .begins,
-      omega (arith, l .before .pair-count .ensures, c .before .loop-test .taken),
-      omega (arith, few l, c .before .loop-test .taken, l .loop .inv .1 .0, s .pre .3),
+      l .before .before .places .ensures,
+      omega (arith, l .before .pair-count .ensures, c .before .before .loop-test .taken),
+      omega (arith, few l, c .before .before .loop-test .taken, l .loop .inv .1 .0, s .pre .3),
     )
 
 add-i : tie.Need-add-i Inv-loop μ-loop
@@ -58,12 +62,12 @@ loop-less c = omega arith
 loop-again : tie.Need-loop-again Inv-loop μ-loop
 loop-again c =
     let w = c .before .before .slot-checks-at .ensures in
-    let l = c .before .before .before .before .before in
-    let s = l .before .before .before .before .before .before in (
+    let l = c .before .before .before .before .before .before in
+    let s = l .before .before .before .before .before .before .before in (
       omega arith,
       (
         omega (arith, w .0, l .loop .inv .1 .0),
-        wrote-table-next _ _ (l .loop .i) (l .loop .inv .1 .1) (w .1 (s .args .catalogue .now) (s .pre .1) (s .pre .2) (l .before .before .ids-of .ensures)),
+        wrote-table-next _ _ (l .loop .i) (l .loop .inv .1 .1) (w .1 (s .args .catalogue .now) (s .pre .1) (s .pre .2) (l .before .before .before .ids-of .ensures)),
       ),
     )
 
@@ -73,7 +77,7 @@ same-length c = wrote-length (c .before .loop .inv .1 .1)
 returns : tie.Need-returns Inv-loop μ-loop
 returns c =
     let l = c .before in
-    let a = l .before .before .before .before .before .before .args in
+    let a = l .before .before .before .before .before .before .before .args in
     let catalogue = a .catalogue .now in
     let fit = a .fit .now in
     let checks = slotChecks (contextOf catalogue fit) (pairsOf catalogue fit) in
@@ -91,6 +95,7 @@ validate-spec =
     Inv-loop
     μ-loop
     ids-of-requires
+    places-requires
     pair-count-requires
     loop-holds
     slot-checks-at-requires
