@@ -3,16 +3,19 @@ use catalogue::SlotAnswer;
 use catalogue::TypeAnswer;
 use catalogue::TypeInfo;
 ghost use mathlib.Core.Path.{_≡_};
+ghost use mathlib.Core.Bool.{_&&_, _||_, cond};
+ghost use mathlib.Core.List.{List};
 ghost use Prim.Native.Nat.{ℕ, _+_, _<_, _≤_};
-ghost use lib.ListN.{length};
+ghost use lib.Dec.{leb};
+ghost use lib.ListN.{getD};
 ghost use Rattle.words.specs.Words.{same};
 ghost use Rattle.catalogue.specs.Catalogue.{catalogueOf};
 ghost use Rattle.catalogue.specs.Lookups.{rackOf, hardpointOf};
 ghost use Rattle.catalogue.specs.Sound as Catalogue;
 ghost use Rattle.catalogue.specs.Answers.{slotOf};
 ghost use Rattle.fit.specs.Sound as Fit;
-ghost use Rattle.context.specs.Context.{isModuleCategory};
-ghost use Rattle.context.specs.Gathered.{pairCount, contextOf, slotIn, Below, TypeFacts, ShipFacts, Gathered};
+ghost use Rattle.context.specs.Context.{isIn, isModuleCategory};
+ghost use Rattle.context.specs.Gathered.{pairCount, pairAt, contextOf, slotIn, Below, TypeFacts, ShipFacts, Gathered};
 
 // What the catalogue says of the type of each pair, at the pair's position. A slot of 8 is none.
 pub struct Facts {
@@ -152,4 +155,50 @@ pub fn is_module_category(category: i32) -> bool
         return true;
     }
     same_id(category, 66)
+}
+
+pub fn both(a: bool, b: bool) -> bool
+    ensures { λ r. ⌜ r ≡ (a && b) ⌝ }
+{
+    if a { b } else { false }
+}
+
+pub fn either(a: bool, b: bool) -> bool
+    ensures { λ r. ⌜ r ≡ (a || b) ⌝ }
+{
+    if a { true } else { b }
+}
+
+// What a test adds to a count.
+pub fn one_if(b: bool) -> u32
+    ensures { λ r. ⌜ (r ≡ cond b 1 0) × (r ≤ 1) ⌝ }
+{
+    b as u32
+}
+
+pub fn wide(n: u8) -> u32
+    ensures { λ r. ⌜ r ≡ n ⌝ }
+{
+    n as u32
+}
+
+pub fn slot_at(slots: &[u8; 256], i: usize) -> u8
+    requires { ⌜ i < 256 ⌝ }
+    ensures { λ r. ⌜ r ≡ getD (now (slots .entry)) i 0 ⌝ }
+{
+    slots[i]
+}
+
+pub fn is_fitted(slot: u8) -> bool
+    ensures { λ r. ⌜ r ≡ leb slot 5 ⌝ }
+{
+    slot <= 5
+}
+
+// Whether pair i is in a rack.
+pub fn is_in(fit: &[u8], i: usize, slot: u8) -> bool
+    requires { ⌜ Fit.Sound (now fit) × (i < pairCount (now fit)) ⌝ }
+    ensures { λ r. ⌜ ((catalogue : List ℕ) → r ≡ isIn slot (pairAt catalogue (now (fit .entry)) i)) ⌝ }
+{
+    fit::item_slot(fit, i) == slot
 }

@@ -1,5 +1,5 @@
 -- What the code of each check tells of an item is what the check's definition says of the pair. Assumes nothing.
-use Prim.Native.Nat.{ℕ, _+_, _<_, _≤_}
+use Prim.Native.Nat.{ℕ, _+_, _≤_}
 use native.Mathlib.Omega.{arith}
 use mathlib.Core.Path.{_≡_, refl, sym, ap, _∙_}
 use mathlib.Core.Bool.{Bool, true, false, not, _&&_, _||_, cond}
@@ -7,32 +7,19 @@ use mathlib.Core.List.{List, []}
 use mathlib.Core.Option.{Option, none, some}
 use lib.Dec.{eqb, leb, ltb}
 use lib.IntN.{pos}
-use borrow.Author.Tests.{ne-eqb, ltb-false}
-use Rattle.words.specs.Words.{_>>=_, when, whenAny, anyOf, given, same}
+use Rattle.words.specs.Words.{_>>=_, table, when, whenAny, anyOf, same}
 use Rattle.fit.specs.Refusals.{fighterTube, fighterBay, implant, booster, droneBay, cargoHold}
 use Rattle.entry.specs.declared.Entry.{Entry}
 use Rattle.entry.specs.declared.Rule.the-variants.{WrongSlot, NotAModule, NotADrone, NotAFighter, NotAnImplant, SlotTaken}
 use Rattle.entry.specs.Entries.{onItem}
 use Rattle.entry.specs.Wrote.{Wrote}
 use Rattle.entry.proofs.Wrote.{wrote-same, wrote-none}
-use Rattle.context.specs.Context.{Pair, Context, isFitted, isIn, isFighterSlot, isOther, isModuleCategory}
-use Rattle.context.specs.Gathered.{slotIn}
+use Rattle.context.specs.Context.{Pair, Context, isFitted, isIn, isFighterSlot, isModuleCategory}
+use Rattle.context.specs.Gathered.{slotIn, pairCount, pairAt, pairsOf}
+use Rattle.context.proofs.Pairs.{pairs-table}
 use Rattle.slot.specs.declared.Item.{Item}
-use Rattle.slot.specs.Slot.{takesHardpoint, wrongSlot, notAModule, notADrone, notAFighter, notAnImplant, holdsOne, slotTaken}
+use Rattle.slot.specs.Slot.{wrongSlot, notAModule, notADrone, notAFighter, notAnImplant, holdsOne, slotTaken}
 use Rattle.slot.specs.AtPair.{Holds, Checked, sharesSlot}
-
--- ---- a slot in a byte
--- a byte is a slot below 8 where it is that number
-pub slot-given : (code slot : ℕ) → slot < 8 → eqb code slot ≡ given (slotIn code) false (λ s. eqb s slot)
-unfolding slotIn given
-slot-given code slot h = go (ltb code 8) refl
-  where
-    go : (b : Bool) → ltb code 8 ≡ b → eqb code slot ≡ given (cond b (some code) none) false (λ s. eqb s slot)
-    go true e = refl
-    go false e = let l : 8 ≤ code = ltb-false code 8 e in ne-eqb code slot (apart l)
-      where
-        apart : 8 ≤ code → code ≡ slot → ⊥
-        apart l q = omega arith
 
 -- an entry that shows the slot of a byte
 slot-shown : (code : ℕ) (t : ℕ → Bool) (e : ℕ → Entry) → when (ltb code 8 && t code) (e code) ≡ _>>=_ (slotIn code) (λ s. when (t s) (e s))
@@ -76,17 +63,13 @@ module _ {b : List ℕ} {n : ℕ} {item : Item} (check : Context → Pair → Li
   unchecked told = record { few = omega arith; wrote = λ x p h. wrote-same (told x p h) (wrote-none b n) }
 
 -- ---- tests
-pub takes-is : (p : Pair) (code slot : ℕ) {s : ℕ} → s ≡ p .slot → slotIn code ≡ p .hardpoint → slot < 8 → leb s 5 && eqb code slot ≡ takesHardpoint slot p
-unfolding takesHardpoint isFitted
-takes-is p code slot e q l = rw (slot-given code slot l, e, q)
+-- all pairs asked
+pub any-all : (t : Pair → Bool) (catalogue fit : List ℕ) {i : ℕ} {found : Bool} → i ≡ pairCount fit → found ≡ anyOf t (table i (pairAt catalogue fit)) → found ≡ anyOf t (pairsOf catalogue fit)
+any-all t catalogue fit e p = p ∙ ap (λ (n : ℕ). anyOf t (table n (pairAt catalogue fit))) e ∙ ap (anyOf t) (sym (pairs-table catalogue fit))
 
 pub holds-one-is : (p : Pair) {s : ℕ} → s ≡ p .slot → not ((eqb s 10 || eqb s 7) || eqb s 11) ≡ holdsOne p
 unfolding holdsOne isIn
 holds-one-is p e = rw e
-
-pub shares-slot-is : (o : Pair) {p : Pair} {item : Item} {j s i : ℕ} → Holds p item → j ≡ o .at → s ≡ o .slot → i ≡ o .index → not (eqb j (item .at)) && (eqb s (item .slot) && eqb i (item .index)) ≡ sharesSlot p o
-unfolding sharesSlot isOther
-shares-slot-is o h a b c = rw (a, b, c, h .at, h .slot, h .index)
 
 -- ---- a slot that another pair has
 module _ (x : Context) (ps : List Pair) where

@@ -1,5 +1,4 @@
--- Laws of slots: counts and tests over pairs, what the code of each check tells, racks and hardpoints.
-pub mod Counts
+-- Laws of slots: what the code of each check tells, of an item, of those beside it and of its attributes.
 pub mod Checks
+pub mod Sharing
 pub mod Numbers
-pub mod Reports

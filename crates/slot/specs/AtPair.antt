@@ -1,16 +1,18 @@
--- validate/slot.rs: what the code holds of a pair and of the names, what it tells of a pair, the two tests of one pair against another, and the file's rules in order.
-use Prim.Native.Nat.{ℕ, _+_, _≤_}
+-- validate/slot.rs: what the code holds of a pair, of where pairs sit and of the names, what it tells of a pair, and the two tests of one pair against another.
+use Prim.Native.Nat.{ℕ, _+_, _*_, _<_, _≤_}
 use mathlib.Core.Path.{_≡_}
 use mathlib.Core.Bool.{Bool, true, false, not, _&&_}
-use mathlib.Core.List.{List, _++_}
+use mathlib.Core.List.{List}
 use mathlib.Core.Option.{Option}
 use lib.Dec.{eqb}
+use lib.ListN.{getD}
 use lib.Ieee.{Float, eq}
-use Rattle.words.specs.Words.{_>>=_, when, whenAny, each, given}
+use Rattle.words.specs.Words.{_>>=_, when, whenAny, given}
 use Rattle.floats.specs.Floats.{toU}
 use Rattle.catalogue.specs.Catalogue.{Id, Name}
 use Rattle.catalogue.specs.Lookups.{nameId}
 use Rattle.catalogue.specs.Answers.{idOf}
+use Rattle.fit.specs.Fit.{itemAt}
 use Rattle.fit.specs.Lookups.{value}
 use Rattle.fit.specs.Refusals.{subsystem}
 use Rattle.entry.specs.declared.Entry.{Entry}
@@ -18,8 +20,7 @@ use Rattle.entry.specs.declared.Rule.the-variants.{WrongSlotIndex, SubsystemTak
 use Rattle.entry.specs.Entries.{onItem}
 use Rattle.entry.specs.Wrote.{Wrote}
 use Rattle.context.specs.Context.{Pair, Context, isIn, isOther, on}
-use Rattle.context.specs.Gathered.{slotIn}
-use Rattle.slot.specs.Slot.{racks, hardpoints, slotChecks}
+use Rattle.context.specs.Gathered.{slotIn, pairCount}
 use Rattle.slot.specs.declared.Item.{Item}
 use Rattle.slot.specs.declared.Ids.{Ids}
 
@@ -42,6 +43,15 @@ pub record Named (names : List Name) (ids : Ids) : Type 0 where
   pub boosterness : idOf (ids .boosterness) ≡ nameId names 31
   pub part : idOf (ids .part) ≡ nameId names 32
 
+-- a slot and an index as one number, which is that of no others
+pub record Sits (slot index place : ℕ) : Type 0 where
+  pub number : place ≡ slot * 65536 + index
+  pub small : index < 65536
+
+-- an array holds where each pair sits, at the pair's position
+abbrev pub Places : (fit places : List ℕ) → Type 0
+Places fit places = (i : ℕ) → i < pairCount fit → Sits (itemAt fit i .slot) (itemAt fit i .index) (getD places i 0)
+
 -- an entry where the value of an item's attribute names another slot than the item's
 unfoldable pub indexNamed : Item → Option Float → List Entry
 indexNamed item value = do
@@ -61,7 +71,3 @@ unfoldable pub partShared : List Pair → Pair → Id → Option Float → List 
 partShared ps p id value = do
   part ← value
   whenAny true (sharesPart id part p) ps (on p SubsystemTaken)
-
--- `validate`: racks, hardpoints, and the checks of each pair
-abbrev pub slotRules : Context → List Pair → List Entry
-slotRules x ps = racks x ps ++ (hardpoints x ps ++ each ps (slotChecks x ps))

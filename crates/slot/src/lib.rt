@@ -1,19 +1,18 @@
-// What sits in the slots of a ship, and whether it may: validate/slot.rs.
+// What sits in the slots of a ship, and whether it may: validate/slot.rs, `slot_checks`. How many there are is counted in `racks`.
 use catalogue::AttributeId;
 use entry::Entry;
 use entry::Rule;
 use entry::Target;
 use floats::Value;
 ghost use mathlib.Core.Path.{_≡_};
-ghost use mathlib.Core.Bool.{Bool, false, not, _&&_, _||_, cond};
+ghost use mathlib.Core.Bool.{false, not, _&&_};
 ghost use mathlib.Core.List.{List, _++_};
 ghost use mathlib.Core.Option.{none};
 ghost use Prim.Native.Nat.{ℕ, _+_, _*_, _<_, _≤_};
-ghost use lib.Dec.{eqb, leb};
 ghost use lib.ListN.{getD};
 ghost use lib.IntN.{pos};
 ghost use lib.Ieee.{eq};
-ghost use Rattle.words.specs.Words.{each, when, given, countOf, anyOf, same};
+ghost use Rattle.words.specs.Words.{each, when, given, anyOf, same};
 ghost use Rattle.floats.specs.Values.{valueOf};
 ghost use Rattle.catalogue.specs.Catalogue.{Name, catalogueOf};
 ghost use Rattle.catalogue.specs.Lookups.{nameId};
@@ -23,19 +22,10 @@ ghost use Rattle.fit.specs.Fit.{resultOf};
 ghost use Rattle.fit.specs.Sound as Fit;
 ghost use Rattle.entry.specs.Entries.{onItem};
 ghost use Rattle.entry.specs.Wrote.{Wrote};
-ghost use Rattle.context.specs.Context.{Pair, Context, isIn};
-ghost use Rattle.context.specs.Gathered.{pairCount, pairAt, pairsOf, contextOf, Ready, Categories, Racks, Hardpoints};
+ghost use Rattle.context.specs.Context.{Pair, Context};
+ghost use Rattle.context.specs.Gathered.{pairCount, pairAt, pairsOf, contextOf, Ready, Categories, Racks};
 ghost use Rattle.slot.specs.Slot as Slot;
-ghost use Rattle.slot.specs.Tables.{rackNumbers, hardpointNumbers, rowAt, inRack, onHardpoint};
-ghost use Rattle.slot.specs.AtPair.{Holds, Checked, Named, indexNamed, sharesSlot, sharesPart, partShared, slotRules};
-
-// A rack, and the name of the ship attribute saying how many slots it has. A ship without the attribute has no such rack
-// at all.
-const RACKS: [u8; 12] = [0, 22, 1, 23, 2, 24, 3, 25, 4, 26, 5, 27];
-
-// A hardpoint, and the name of the ship attribute saying how many there are. A weapon takes one on top of the slot it sits
-// in.
-const HARDPOINTS: [u8; 4] = [6, 28, 7, 29];
+ghost use Rattle.slot.specs.AtPair.{Holds, Checked, Named, Sits, Places, indexNamed, sharesSlot, sharesPart, partShared};
 
 const SUBSYSTEM: u8 = 4;
 
@@ -73,124 +63,11 @@ struct Ids {
     part: AttributeId,
 }
 
-// A row of a table.
-struct Row {
-    slot: u8,
-    name: u32,
-}
-
-fn wide(n: u8) -> u32
-    ensures { λ r. ⌜ r ≡ n ⌝ }
-{
-    n as u32
-}
-
-fn rack(i: usize) -> Row
-    requires { ⌜ i < 6 ⌝ }
-    ensures { λ r. ⌜ (r .slot ≡ rowAt rackNumbers i .0) × (r .name ≡ rowAt rackNumbers i .1) ⌝ }
-{
-    Row {
-        slot: RACKS[2 * i],
-        name: wide(RACKS[2 * i + 1]),
-    }
-}
-
-fn hardpoint(i: usize) -> Row
-    requires { ⌜ i < 2 ⌝ }
-    ensures { λ r. ⌜ (r .slot ≡ rowAt hardpointNumbers i .0) × (r .name ≡ rowAt hardpointNumbers i .1) ⌝ }
-{
-    Row {
-        slot: HARDPOINTS[2 * i],
-        name: wide(HARDPOINTS[2 * i + 1]),
-    }
-}
-
 fn category_at(categories: &[i32; 256], i: usize) -> i32
     requires { ⌜ i < 256 ⌝ }
     ensures { λ r. ⌜ r ≡ getD (now (categories .entry)) i (pos 0) ⌝ }
 {
     categories[i]
-}
-
-fn slot_at(slots: &[u8; 256], i: usize) -> u8
-    requires { ⌜ i < 256 ⌝ }
-    ensures { λ r. ⌜ r ≡ getD (now (slots .entry)) i 0 ⌝ }
-{
-    slots[i]
-}
-
-fn both(a: bool, b: bool) -> bool
-    ensures { λ r. ⌜ r ≡ (a && b) ⌝ }
-{
-    if a { b } else { false }
-}
-
-fn either(a: bool, b: bool) -> bool
-    ensures { λ r. ⌜ r ≡ (a || b) ⌝ }
-{
-    if a { true } else { b }
-}
-
-// What a test adds to a count.
-fn one_if(b: bool) -> u32
-    ensures { λ r. ⌜ (r ≡ cond b 1 0) × (r ≤ 1) ⌝ }
-{
-    b as u32
-}
-
-fn is_fitted(slot: u8) -> bool
-    ensures { λ r. ⌜ r ≡ leb slot 5 ⌝ }
-{
-    slot <= 5
-}
-
-// Whether pair i is in a rack.
-fn is_in(fit: &[u8], i: usize, slot: u8) -> bool
-    requires { ⌜ Fit.Sound (now fit) × (i < pairCount (now fit)) ⌝ }
-    ensures { λ r. ⌜ ((catalogue : List ℕ) → r ≡ isIn slot (pairAt catalogue (now (fit .entry)) i)) ⌝ }
-{
-    fit::item_slot(fit, i) == slot
-}
-
-// How many pairs sit in a rack.
-fn in_rack(fit: &[u8], slot: u8) -> u32
-    requires { ⌜ Fit.Sound (now fit) ⌝ }
-    ensures { λ r. ⌜ ((catalogue : List ℕ) → r ≡ countOf (isIn slot) (pairsOf catalogue (now (fit .entry)))) ⌝ }
-{
-    let count = fit::pair_count(fit);
-    let mut used: u32 = 0;
-    let mut i = 0;
-    while i < count {
-        used += one_if(is_in(fit, i, slot));
-        i += 1;
-    }
-    used
-}
-
-// Whether pair i is fitted and takes a hardpoint.
-fn takes_hardpoint(fit: &[u8], hardpoints: &[u8; 256], i: usize, slot: u8) -> bool
-    requires { ⌜ Fit.Sound (now fit) × (i < pairCount (now fit)) × (slot < 8) ⌝ }
-    ensures { λ r. ⌜ ((catalogue : List ℕ) → Hardpoints catalogue (now (fit .entry)) (now (hardpoints .entry)) → r ≡ Slot.takesHardpoint slot (pairAt catalogue (now (fit .entry)) i)) ⌝ }
-{
-    both(
-        is_fitted(fit::item_slot(fit, i)),
-        slot_at(hardpoints, i) == slot,
-    )
-}
-
-// How many pairs take a hardpoint.
-fn on_hardpoint(fit: &[u8], hardpoints: &[u8; 256], slot: u8) -> u32
-    requires { ⌜ Fit.Sound (now fit) × (slot < 8) ⌝ }
-    ensures { λ r. ⌜ ((catalogue : List ℕ) → Hardpoints catalogue (now (fit .entry)) (now (hardpoints .entry)) → r ≡ countOf (Slot.takesHardpoint slot) (pairsOf catalogue (now (fit .entry)))) ⌝ }
-{
-    let count = fit::pair_count(fit);
-    let mut used: u32 = 0;
-    let mut i = 0;
-    while i < count {
-        used += one_if(takes_hardpoint(fit, hardpoints, i, slot));
-        i += 1;
-    }
-    used
 }
 
 fn item_at(fit: &[u8], categories: &[i32; 256], racks: &[u8; 256], i: usize) -> Item
@@ -202,7 +79,7 @@ fn item_at(fit: &[u8], categories: &[i32; 256], racks: &[u8; 256], i: usize) -> 
         slot: fit::item_slot(fit, i),
         index: fit::item_index(fit, i),
         category: category_at(categories, i),
-        rack: slot_at(racks, i),
+        rack: context::slot_at(racks, i),
     }
 }
 
@@ -234,7 +111,7 @@ fn push_unless(
     requires { ⌜ n < 4294967296 ⌝ }
     ensures { λ r. ⌜ (r ≤ n + 1) × Wrote (now (out .entry)) n (now (out .exit)) r (when (there && not (same (item .category) category)) (onItem (item .at) rule)) ⌝ }
 {
-    let test = both(there, !context::same_id(item.category, category));
+    let test = context::both(there, !context::same_id(item.category, category));
     push_when(item, test, rule, out, n)
 }
 
@@ -243,10 +120,10 @@ fn wrong_slot(item: Item, out: &mut [u8], n: usize) -> usize
     ensures { λ r. ⌜ Checked item Slot.wrongSlot (now (out .entry)) n (now (out .exit)) r ⌝ }
 {
     let rack = item.rack;
-    let misplaced = both(is_fitted(item.slot), item.slot != rack);
+    let misplaced = context::both(context::is_fitted(item.slot), item.slot != rack);
     push_when(
         item,
-        both(rack < 8, misplaced),
+        context::both(rack < 8, misplaced),
         Rule::WrongSlot(rack),
         out,
         n,
@@ -257,8 +134,8 @@ fn not_a_module(item: Item, out: &mut [u8], n: usize) -> usize
     requires { ⌜ n < 4294967296 ⌝ }
     ensures { λ r. ⌜ Checked item Slot.notAModule (now (out .entry)) n (now (out .exit)) r ⌝ }
 {
-    let test = both(
-        is_fitted(item.slot),
+    let test = context::both(
+        context::is_fitted(item.slot),
         !context::is_module_category(item.category),
     );
     push_when(item, test, Rule::NotAModule, out, n)
@@ -276,7 +153,7 @@ fn not_a_fighter(item: Item, out: &mut [u8], n: usize) -> usize
     requires { ⌜ n < 4294967296 ⌝ }
     ensures { λ r. ⌜ Checked item Slot.notAFighter (now (out .entry)) n (now (out .exit)) r ⌝ }
 {
-    let there = either(item.slot == FIGHTER_TUBE, item.slot == FIGHTER_BAY);
+    let there = context::either(item.slot == FIGHTER_TUBE, item.slot == FIGHTER_BAY);
     push_unless(item, there, CATEGORY_FIGHTER, Rule::NotAFighter, out, n)
 }
 
@@ -284,7 +161,7 @@ fn not_an_implant(item: Item, out: &mut [u8], n: usize) -> usize
     requires { ⌜ n < 4294967296 ⌝ }
     ensures { λ r. ⌜ Checked item Slot.notAnImplant (now (out .entry)) n (now (out .exit)) r ⌝ }
 {
-    let there = either(item.slot == IMPLANT, item.slot == BOOSTER);
+    let there = context::either(item.slot == IMPLANT, item.slot == BOOSTER);
     push_unless(item, there, CATEGORY_IMPLANT, Rule::NotAnImplant, out, n)
 }
 
@@ -292,48 +169,62 @@ fn not_an_implant(item: Item, out: &mut [u8], n: usize) -> usize
 fn holds_one(slot: u8) -> bool
     ensures { λ r. ⌜ ((p : Pair) → slot ≡ p .slot → r ≡ Slot.holdsOne p) ⌝ }
 {
-    let bay = either(slot == DRONE_BAY, slot == FIGHTER_BAY);
-    !either(bay, slot == CARGO)
+    let bay = context::either(slot == DRONE_BAY, slot == FIGHTER_BAY);
+    !context::either(bay, slot == CARGO)
 }
 
-fn place(item: Item) -> usize
+fn position(item: Item) -> usize
     ensures { λ r. ⌜ r ≡ item .at ⌝ }
 {
     item.at as usize
 }
 
-// Whether pair j is another one in the item's slot.
-fn same_slot(fit: &[u8], item: Item, j: usize) -> bool
-    requires { ⌜ Fit.Sound (now fit) × (j < pairCount (now fit)) ⌝ }
-    ensures { λ r. ⌜ ((catalogue : List ℕ) (p : Pair) → Holds p item → r ≡ sharesSlot p (pairAt catalogue (now (fit .entry)) j)) ⌝ }
+// A slot and an index as one number, so that one comparison tells both.
+fn place_of(slot: u8, index: u16) -> u32
+    ensures { λ r. ⌜ Sits slot index r ⌝ }
 {
-    let there = both(
-        fit::item_slot(fit, j) == item.slot,
-        fit::item_index(fit, j) == item.index,
-    );
-    both(j != place(item), there)
+    slot as u32 * 65536 + index as u32
 }
 
-fn shares_slot(fit: &[u8], item: Item) -> bool
+// Where each pair sits, gathered once for all pairs.
+fn places(fit: &[u8]) -> [u32; 256]
     requires { ⌜ Fit.Sound (now fit) ⌝ }
-    ensures { λ r. ⌜ ((catalogue : List ℕ) (p : Pair) → Holds p item → r ≡ anyOf (sharesSlot p) (pairsOf catalogue (now (fit .entry)))) ⌝ }
+    ensures { λ r. ⌜ Places (now (fit .entry)) r ⌝ }
 {
     let count = fit::pair_count(fit);
-    let mut found = false;
-    let mut j = 0;
-    while j < count {
-        found = either(found, same_slot(fit, item, j));
-        j += 1;
+    let mut places = [0u32; 256];
+    let mut i = 0;
+    while i < count {
+        places[i] = place_of(fit::item_slot(fit, i), fit::item_index(fit, i));
+        i += 1;
     }
-    found
+    places
 }
 
-fn slot_taken(fit: &[u8], item: Item, out: &mut [u8], n: usize) -> usize
-    requires { ⌜ Fit.Sound (now fit) × (n < 4294967296) ⌝ }
-    ensures { λ r. ⌜ ((catalogue : List ℕ) → Checked item (λ x. Slot.slotTaken x (pairsOf catalogue (now (fit .entry)))) (now (out .entry)) n (now (out .exit)) r) ⌝ }
+// Whether another pair is in the item's slot. The pair itself is counted too, and the loop runs to its end, so that the
+// compiler can take many pairs at once.
+fn shares_slot(fit: &[u8], places: &[u32; 256], item: Item) -> bool
+    requires { ⌜ Fit.Sound (now fit) × Places (now fit) (now places) × (item .at < pairCount (now fit)) ⌝ }
+    ensures { λ r. ⌜ ((catalogue : List ℕ) (i : ℕ) → Holds (pairAt catalogue (now (fit .entry)) i) item → r ≡ anyOf (sharesSlot (pairAt catalogue (now (fit .entry)) i)) (pairsOf catalogue (now (fit .entry)))) ⌝ }
+{
+    let pairs = fit::pair_count(fit);
+    let place = place_of(item.slot, item.index);
+    let mut there: u32 = 0;
+    let mut j: usize = 0;
+    while j < pairs {
+        there += context::one_if(places[j] == place);
+        j += 1;
+    }
+    1 < there
+}
+
+fn slot_taken(fit: &[u8], places: &[u32; 256], item: Item, out: &mut [u8], n: usize) -> usize
+    requires { ⌜ Fit.Sound (now fit) × Places (now fit) (now places) × (item .at < pairCount (now fit)) × (n < 4294967296) ⌝ }
+    ensures { λ r. ⌜ (r ≤ n + 1) × ((catalogue : List ℕ) (x : Context) (i : ℕ) → Holds (pairAt catalogue (now (fit .entry)) i) item → Wrote (now (out .entry)) n (now (out .exit)) r (Slot.slotTaken x (pairsOf catalogue (now (fit .entry))) (pairAt catalogue (now (fit .entry)) i))) ⌝ }
 {
     if holds_one(item.slot) {
-        return push_when(item, shares_slot(fit, item), Rule::SlotTaken, out, n);
+        let test = shares_slot(fit, places, item);
+        return push_when(item, test, Rule::SlotTaken, out, n);
     }
     n
 }
@@ -398,7 +289,7 @@ fn wrong_slot_index(
     let number = slot_number(ids, item.slot);
     match number {
         AttributeId::Known(id) => {
-            let value = fit::value(fit, starts, place(item) + 2, id);
+            let value = fit::value(fit, starts, position(item) + 2, id);
             expect_index(value, item, out, n)
         }
         AttributeId::Unknown => n,
@@ -420,10 +311,10 @@ fn same_part(fit: &[u8], starts: &[u32; 259], item: Item, id: i32, part: f64, j:
     requires { ⌜ Fit.Sound (now fit) × Fit.Starts (now fit) (now starts) × (j < pairCount (now fit)) ⌝ }
     ensures { λ r. ⌜ ((catalogue : List ℕ) (p : Pair) → Holds p item → r ≡ sharesPart id part p (pairAt catalogue (now (fit .entry)) j)) ⌝ }
 {
-    if j == place(item) {
+    if j == position(item) {
         return false;
     }
-    if !is_in(fit, j, SUBSYSTEM) {
+    if !context::is_in(fit, j, SUBSYSTEM) {
         return false;
     }
     is_part(fit::value(fit, starts, j + 2, id), part)
@@ -438,7 +329,7 @@ fn shares_part(fit: &[u8], starts: &[u32; 259], item: Item, id: i32, part: f64) 
     let mut found = false;
     let mut j = 0;
     while j < count {
-        found = either(found, same_part(fit, starts, item, id, part, j));
+        found = context::either(found, same_part(fit, starts, item, id, part, j));
         j += 1;
     }
     found
@@ -484,7 +375,7 @@ fn subsystem_taken(
     let part = ids.part;
     match part {
         AttributeId::Known(id) => {
-            let value = fit::value(fit, starts, place(item) + 2, id);
+            let value = fit::value(fit, starts, position(item) + 2, id);
             push_shared(fit, starts, item, id, value, out, n)
         }
         AttributeId::Unknown => n,
@@ -507,6 +398,7 @@ fn alone(item: Item, out: &mut [u8], n: usize) -> usize
 fn slot_checks_at(
     fit: &[u8],
     starts: &[u32; 259],
+    places: &[u32; 256],
     categories: &[i32; 256],
     racks: &[u8; 256],
     ids: Ids,
@@ -514,18 +406,18 @@ fn slot_checks_at(
     out: &mut [u8],
     n: usize,
 ) -> usize
-    requires { ⌜ Fit.Sound (now fit) × Fit.Starts (now fit) (now starts) × (i < pairCount (now fit)) × (n ≤ 2000000) ⌝ }
+    requires { ⌜ Fit.Sound (now fit) × Fit.Starts (now fit) (now starts) × Places (now fit) (now places) × (i < pairCount (now fit)) × (n ≤ 2000000) ⌝ }
     ensures { λ r. ⌜ (r ≤ n + 8) × ((catalogue : List ℕ) → Categories catalogue (now (fit .entry)) (now (categories .entry)) → Racks catalogue (now (fit .entry)) (now (racks .entry)) → Named (catalogueOf catalogue .names) ids → Wrote (now (out .entry)) n (now (out .exit)) r (Slot.slotChecks (contextOf catalogue (now (fit .entry))) (pairsOf catalogue (now (fit .entry))) (pairAt catalogue (now (fit .entry)) i))) ⌝ }
 {
     let item = item_at(fit, categories, racks, i);
     let a = alone(item, out, n);
-    let b = slot_taken(fit, item, out, a);
+    let b = slot_taken(fit, places, item, out, a);
     let c = wrong_slot_index(fit, starts, ids, item, out, b);
     subsystem_taken(fit, starts, ids, item, out, c)
 }
 
 // The eight checks of all pairs.
-fn slot_checks(
+pub fn validate(
     catalogue: &[u8],
     fit: &[u8],
     starts: &[u32; 259],
@@ -538,129 +430,13 @@ fn slot_checks(
     ensures { λ r. ⌜ (r ≤ n + 2048) × Wrote (now (out .entry)) n (now (out .exit)) r (each (pairsOf (now (catalogue .entry)) (now (fit .entry))) (Slot.slotChecks (contextOf (now (catalogue .entry)) (now (fit .entry))) (pairsOf (now (catalogue .entry)) (now (fit .entry))))) ⌝ }
 {
     let ids = ids_of(catalogue);
+    let places = places(fit);
     let count = fit::pair_count(fit);
     let mut k = n;
     let mut i = 0;
     while i < count {
-        k = slot_checks_at(fit, starts, categories, racks, ids, i, out, k);
+        k = slot_checks_at(fit, starts, &places, categories, racks, ids, i, out, k);
         i += 1;
     }
     k
-}
-
-// More items in a rack or on a hardpoint than the ship has of them.
-fn report(
-    catalogue: &[u8],
-    fit: &[u8],
-    starts: &[u32; 259],
-    slot: u8,
-    name: u32,
-    used: u32,
-    out: &mut [u8],
-    n: usize,
-) -> usize
-    requires { ⌜ Ready (now catalogue) (now fit) (now starts) × (n < 4294967296) ⌝ }
-    ensures { λ r. ⌜ (r ≤ n + 1) × Wrote (now (out .entry)) n (now (out .exit)) r (Slot.slots (contextOf (now (catalogue .entry)) (now (fit .entry))) slot name used) ⌝ }
-{
-    let id = catalogue::attribute_id(catalogue, name);
-    match id {
-        AttributeId::Known(id) => {
-            let available = floats::to_u32(fit::amount(fit, starts, 0, id));
-            let test = used > available;
-            entry::emit_when(
-                out,
-                n,
-                test,
-                Entry {
-                    target: Target::Ship,
-                    rule: Rule::Slots(slot, used, available),
-                },
-            )
-        }
-        AttributeId::Unknown => n,
-    }
-}
-
-fn rack_at(
-    catalogue: &[u8],
-    fit: &[u8],
-    starts: &[u32; 259],
-    i: usize,
-    out: &mut [u8],
-    n: usize,
-) -> usize
-    requires { ⌜ Ready (now catalogue) (now fit) (now starts) × (i < 6) × (n < 4294967296) ⌝ }
-    ensures { λ r. ⌜ (r ≤ n + 1) × Wrote (now (out .entry)) n (now (out .exit)) r (inRack (contextOf (now (catalogue .entry)) (now (fit .entry))) (pairsOf (now (catalogue .entry)) (now (fit .entry))) (rowAt rackNumbers i)) ⌝ }
-{
-    let row = rack(i);
-    let used = in_rack(fit, row.slot);
-    report(catalogue, fit, starts, row.slot, row.name, used, out, n)
-}
-
-fn racks(catalogue: &[u8], fit: &[u8], starts: &[u32; 259], out: &mut [u8], n: usize) -> usize
-    requires { ⌜ Ready (now catalogue) (now fit) (now starts) × (n ≤ 1000100) ⌝ }
-    ensures { λ r. ⌜ (r ≤ n + 6) × Wrote (now (out .entry)) n (now (out .exit)) r (Slot.racks (contextOf (now (catalogue .entry)) (now (fit .entry))) (pairsOf (now (catalogue .entry)) (now (fit .entry)))) ⌝ }
-{
-    let mut k = n;
-    let mut i = 0;
-    while i < 6 {
-        k = rack_at(catalogue, fit, starts, i, out, k);
-        i += 1;
-    }
-    k
-}
-
-fn hardpoint_at(
-    catalogue: &[u8],
-    fit: &[u8],
-    starts: &[u32; 259],
-    hardpoints: &[u8; 256],
-    i: usize,
-    out: &mut [u8],
-    n: usize,
-) -> usize
-    requires { ⌜ Ready (now catalogue) (now fit) (now starts) × Hardpoints (now catalogue) (now fit) (now hardpoints) × (i < 2) × (n < 4294967296) ⌝ }
-    ensures { λ r. ⌜ (r ≤ n + 1) × Wrote (now (out .entry)) n (now (out .exit)) r (onHardpoint (contextOf (now (catalogue .entry)) (now (fit .entry))) (pairsOf (now (catalogue .entry)) (now (fit .entry))) (rowAt hardpointNumbers i)) ⌝ }
-{
-    let row = hardpoint(i);
-    let used = on_hardpoint(fit, hardpoints, row.slot);
-    report(catalogue, fit, starts, row.slot, row.name, used, out, n)
-}
-
-fn hardpoints(
-    catalogue: &[u8],
-    fit: &[u8],
-    starts: &[u32; 259],
-    hardpoints: &[u8; 256],
-    out: &mut [u8],
-    n: usize,
-) -> usize
-    requires { ⌜ Ready (now catalogue) (now fit) (now starts) × Hardpoints (now catalogue) (now fit) (now hardpoints) × (n ≤ 1000100) ⌝ }
-    ensures { λ r. ⌜ (r ≤ n + 2) × Wrote (now (out .entry)) n (now (out .exit)) r (Slot.hardpoints (contextOf (now (catalogue .entry)) (now (fit .entry))) (pairsOf (now (catalogue .entry)) (now (fit .entry)))) ⌝ }
-{
-    let mut k = n;
-    let mut i = 0;
-    while i < 2 {
-        k = hardpoint_at(catalogue, fit, starts, hardpoints, i, out, k);
-        i += 1;
-    }
-    k
-}
-
-pub fn validate(
-    catalogue: &[u8],
-    fit: &[u8],
-    starts: &[u32; 259],
-    categories: &[i32; 256],
-    racks: &[u8; 256],
-    hardpoints: &[u8; 256],
-    out: &mut [u8],
-    n: usize,
-) -> usize
-    requires { ⌜ Ready (now catalogue) (now fit) (now starts) × Categories (now catalogue) (now fit) (now categories) × Racks (now catalogue) (now fit) (now racks) × Hardpoints (now catalogue) (now fit) (now hardpoints) × (n ≤ 1000000) ⌝ }
-    ensures { λ r. ⌜ (r ≤ n + 2056) × Wrote (now (out .entry)) n (now (out .exit)) r (slotRules (contextOf (now (catalogue .entry)) (now (fit .entry))) (pairsOf (now (catalogue .entry)) (now (fit .entry)))) ⌝ }
-{
-    let a = crate::racks(catalogue, fit, starts, out, n);
-    let b = crate::hardpoints(catalogue, fit, starts, hardpoints, out, a);
-    slot_checks(catalogue, fit, starts, categories, racks, out, b)
 }

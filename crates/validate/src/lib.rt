@@ -196,17 +196,9 @@ fn hull_rules<'a>(
     ensures { λ r. ⌜ (r ≤ n + 4116) × Wrote (now (out .entry)) n (now (out .exit)) r (hullRules (contextOf (now (catalogue .entry)) (now (fit .entry))) (pairsOf (now (catalogue .entry)) (now (fit .entry)))) ⌝ }
 {
     let a = resource::validate(catalogue, fit, starts, volumes, out, n);
-    let b = slot::validate(
-        catalogue,
-        fit,
-        starts,
-        categories,
-        racks,
-        hardpoints,
-        out,
-        a,
-    );
-    item::validate(catalogue, fit, starts, groups, categories, out, b)
+    let b = racks::validate(catalogue, fit, starts, hardpoints, out, a);
+    let c = slot::validate(catalogue, fit, starts, categories, racks, out, b);
+    item::validate(catalogue, fit, starts, groups, categories, out, c)
 }
 
 // The list of a fit whose ship is a hull. `hints` are those of `catalogue::type_of`.

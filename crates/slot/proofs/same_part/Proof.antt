@@ -18,13 +18,13 @@ use borrow.Author.Needs.{needs}
 use Rattle.slot.proofs.same_part.Statement.{statement}
 use Rattle.slot.proofs.same_part.Tie as tie
 
-place-requires : tie.Need-place-requires
-place-requires c κs = search needs
+position-requires : tie.Need-position-requires
+position-requires c κs = search needs
 
 returns : tie.Need-returns
 returns c =
     let a = c .before .before .before .args in
-    λ catalogue p h. part-own (a .id) (a .part) (pairAt catalogue (a .fit .now) (a .j)) h (c .if1 .taken ∙ c .before .place .ensures)
+    λ catalogue p h. part-own (a .id) (a .part) (pairAt catalogue (a .fit .now) (a .j)) h (c .if1 .taken ∙ c .before .position .ensures)
 
 is-in-requires : tie.Need-is-in-requires
 is-in-requires c κs = search needs
@@ -32,7 +32,7 @@ is-in-requires c κs = search needs
 returns-2 : tie.Need-returns-2
 returns-2 c =
     let a = c .before .before .before .before .before .args in
-    λ catalogue p h. part-elsewhere (a .id) (a .part) (pairAt catalogue (a .fit .now) (a .j)) h (λ e. c .before .before .if1 .left (e ∙ sym (c .before .before .before .place .ensures))) (sym (c .before .is-in .ensures catalogue) ∙ not-true _ (c .if2 .taken))
+    λ catalogue p h. part-elsewhere (a .id) (a .part) (pairAt catalogue (a .fit .now) (a .j)) h (λ e. c .before .before .if1 .left (e ∙ sym (c .before .before .before .position .ensures))) (sym (c .before .is-in .ensures catalogue) ∙ not-true _ (c .if2 .taken))
 
 add-value : tie.Need-add-value
 add-value c = search needs
@@ -50,13 +50,13 @@ returns-3 c =
     let a = s .args in
     let e : c .is-part .result ≡ given (value (resultOf (a .fit .now) (a .j + 2)) (a .id)) false (λ v. eq v (a .part)) =
     c .is-part .ensures ∙ ap (λ (o : Option Float). given o false (λ v. eq v (a .part))) (c .before .value .ensures ∙ ap (value (resultOf (a .fit .now) (a .j + 2))) (toZ-ofZ w32 (a .id) (s .fits .id))) in
-    λ catalogue p h. part-is (a .id) (a .part) (pairAt catalogue (a .fit .now) (a .j)) h (λ q. i .before .if1 .left (q ∙ sym (i .before .before .place .ensures))) (sym (i .is-in .ensures catalogue) ∙ not-false _ (c .before .before .if2 .left)) e
+    λ catalogue p h. part-is (a .id) (a .part) (pairAt catalogue (a .fit .now) (a .j)) h (λ q. i .before .if1 .left (q ∙ sym (i .before .before .position .ensures))) (sym (i .is-in .ensures catalogue) ∙ not-false _ (c .before .before .if2 .left)) e
 
 pub same-part-spec : {M : Type 1} → statement M
 same-part-spec =
     tie.close
     (tie.spec
-    place-requires
+    position-requires
     returns
     is-in-requires
     returns-2

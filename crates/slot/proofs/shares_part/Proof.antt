@@ -14,7 +14,7 @@ use Rattle.words.proofs.Elements.{any-turn}
 use Rattle.context.specs.Context.{Pair}
 use Rattle.context.specs.Gathered.{pairAt, pairCount, pairsOf}
 use Rattle.slot.specs.AtPair.{Holds, sharesPart}
-use Rattle.slot.proofs.Counts.{any-all}
+use Rattle.slot.proofs.Checks.{any-all}
 use Rattle.slot.proofs.shares_part.Statement.{statement}
 use Rattle.slot.proofs.shares_part.Tie as tie
 

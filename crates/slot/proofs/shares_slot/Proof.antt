@@ -1,37 +1,47 @@
--- `slot::shares_slot` meets its contract. The invariant: the answer so far is that of the first j pairs.
-use Prim.Native.Nat.{ℕ, _+_, _-_, _≤_}
+-- `slot::shares_slot` meets its contract. The invariant: the count so far tells whether another pair is among the first j.
+use Prim.Native.Nat.{ℕ, _-_, _≤_}
 use native.Mathlib.Omega.{arith}
-use mathlib.Core.Path.{_≡_, sym}
+use mathlib.Core.Path.{_≡_}
 use mathlib.Core.List.{List}
 use borrow.Author.Needs.{needs}
 use Rattle.words.specs.Words.{table, anyOf}
 use Rattle.words.proofs.Tables.{any-none}
-use Rattle.words.proofs.Elements.{any-turn}
-use Rattle.context.specs.Context.{Pair}
 use Rattle.context.specs.Gathered.{pairAt, pairCount}
-use Rattle.slot.specs.AtPair.{Holds, sharesSlot}
-use Rattle.slot.proofs.Counts.{any-all}
+use Rattle.slot.specs.AtPair.{Sits, sharesSlot}
+use Rattle.slot.proofs.Checks.{any-all}
+use Rattle.slot.proofs.Sharing.{Told, told-none, told-all, sits-as, shares-next}
 use Rattle.slot.proofs.shares_slot.Statement.{statement}
 use Rattle.slot.proofs.shares_slot.Tie as tie
 
 abbrev Inv-loop : tie.InvT-loop
-Inv-loop fit item count found₀ j₀ found j =
-    (j ≤ count) × ((catalogue : List ℕ) (p : Pair) → Holds p item → found ≡ anyOf (sharesSlot p) (table j (pairAt catalogue fit)))
+Inv-loop fit places pairs place there₀ j₀ there j =
+    (j ≤ pairs) × (there ≤ j)
+    × ((catalogue : List ℕ) (i : ℕ) → Sits (pairAt catalogue fit i .slot) (pairAt catalogue fit i .index) place
+    → Told i j there (anyOf (sharesSlot (pairAt catalogue fit i)) (table j (pairAt catalogue fit))))
 
 abbrev μ-loop : tie.MeasureT-loop
-μ-loop fit item count found₀ j₀ found j = count - j
+μ-loop fit places pairs place there₀ j₀ there j = pairs - j
 
 pair-count-requires : tie.Need-pair-count-requires Inv-loop μ-loop
 pair-count-requires c κs = search needs
 
+place-of-requires : tie.Need-place-of-requires Inv-loop μ-loop
+place-of-requires c κs = search needs
+
 loop-holds : tie.Need-loop-holds Inv-loop μ-loop
-loop-holds c = (omega arith, λ catalogue p h. sym (any-none _ _))
+loop-holds c = (omega arith, omega arith, λ catalogue i t. told-none i (any-none _ _))
 
-same-slot-requires : tie.Need-same-slot-requires Inv-loop μ-loop
-same-slot-requires c κs = (c .before .before .before .before .pre, omega arith)
+mul-one-if : tie.Need-mul-one-if Inv-loop μ-loop
+mul-one-if c = omega arith
 
-either-requires : tie.Need-either-requires Inv-loop μ-loop
-either-requires c κs = search needs
+element-copy-out-one-if : tie.Need-element-copy-out-one-if Inv-loop μ-loop
+element-copy-out-one-if c = omega arith
+
+one-if-requires : tie.Need-one-if-requires Inv-loop μ-loop
+one-if-requires c κs = search needs
+
+add-there : tie.Need-add-there Inv-loop μ-loop
+add-there c = omega arith
 
 add-j : tie.Need-add-j Inv-loop μ-loop
 add-j c = omega arith
@@ -42,15 +52,19 @@ loop-less c = omega arith
 loop-again : tie.Need-loop-again Inv-loop μ-loop
 loop-again c =
     let l = c .before .before .before .loop in
-    let a = c .before .before .before .before .before .before .args in (
+    let s = c .before .before .before .before .before .before .before in (
       omega arith,
-      λ catalogue p h. any-turn (sharesSlot p) (pairAt catalogue (a .fit .now)) (l .j) _ _ _ (l .inv .1 catalogue p h) (c .before .same-slot .ensures catalogue p h) (c .either .ensures),
+      omega (arith, l .inv .1, c .one-if .ensures .1),
+      λ catalogue i t. shares-next catalogue (s .args .fit .now) i (l .j) t (s .pre .1 (l .j) (omega arith)) (c .one-if .ensures .0) (l .inv .2 catalogue i t),
     )
 
 returns : tie.Need-returns Inv-loop μ-loop
 returns c =
-    let a = c .before .before .before .before .args in
-    λ catalogue p h. any-all (sharesSlot p) catalogue (a .fit .now) (omega arith) (c .before .loop .inv .1 catalogue p h)
+    let l = c .before .loop in
+    let s = c .before .before .before .before .before in
+    let fit = s .args .fit .now in
+    let e : l .j ≡ pairCount fit = omega arith in
+    λ catalogue i h. any-all (sharesSlot (pairAt catalogue fit i)) catalogue fit e (told-all (omega (arith, e, h .at, s .pre .2)) (l .inv .2 catalogue i (sits-as (h .slot) (h .index) (c .before .before .place-of .ensures))))
 
 pub shares-slot-spec : {M : Type 1} → statement M
 shares-slot-spec =
@@ -59,9 +73,12 @@ shares-slot-spec =
     Inv-loop
     μ-loop
     pair-count-requires
+    place-of-requires
     loop-holds
-    same-slot-requires
-    either-requires
+    mul-one-if
+    element-copy-out-one-if
+    one-if-requires
+    add-there
     add-j
     loop-less
     loop-again

@@ -2,7 +2,6 @@
 use Prim.Native.Nat.{ℕ, _+_}
 use native.Mathlib.Omega.{arith}
 use mathlib.Core.Path.{_≡_, sym, ap}
-use mathlib.Core.List.{[]}
 use Rattle.fit.specs.Fit.{resultOf}
 use Rattle.entry.proofs.Wrote.{wrote-append}
 use Rattle.context.specs.Gathered.{pairAt, contextOf}
@@ -19,7 +18,15 @@ alone-requires : tie.Need-alone-requires
 alone-requires c κs = search needs
 
 slot-taken-requires : tie.Need-slot-taken-requires
-slot-taken-requires c κs = search needs
+slot-taken-requires c κs =
+    let a = c .before .before .before in
+    let m = a .before .before in
+    let s = m .before .before .before in (
+      s .pre .0,
+      s .pre .2,
+      omega (arith, m .item-at .ensures .0, s .pre .3),
+      omega (arith, a .alone .ensures .0, s .pre .4),
+    )
 
 wrong-slot-index-requires : tie.Need-wrong-slot-index-requires
 wrong-slot-index-requires c κs =
@@ -29,8 +36,8 @@ wrong-slot-index-requires c κs =
     let s = m .before .before .before in (
       s .pre .0,
       s .pre .1,
-      omega (arith, m .item-at .ensures .0, s .pre .2),
-      omega (arith, (t .slot-taken .ensures []) .few, a .alone .ensures .0, s .pre .3),
+      omega (arith, m .item-at .ensures .0, s .pre .3),
+      omega (arith, t .slot-taken .ensures .0, a .alone .ensures .0, s .pre .4),
     )
 
 subsystem-taken-requires : tie.Need-subsystem-taken-requires
@@ -42,8 +49,8 @@ subsystem-taken-requires c κs =
     let s = m .before .before .before in (
       s .pre .0,
       s .pre .1,
-      omega (arith, m .item-at .ensures .0, s .pre .2),
-      omega (arith, w .wrong-slot-index .ensures .0, (t .slot-taken .ensures []) .few, a .alone .ensures .0, s .pre .3),
+      omega (arith, m .item-at .ensures .0, s .pre .3),
+      omega (arith, w .wrong-slot-index .ensures .0, t .slot-taken .ensures .0, a .alone .ensures .0, s .pre .4),
     )
 
 same-length : tie.Need-same-length
@@ -59,14 +66,14 @@ returns c =
     let m = a .before .before in
     let s = m .before .before .before in
     let fit = s .args .fit .now in (
-      omega (arith, u .subsystem-taken .ensures .0, w .wrong-slot-index .ensures .0, (t .slot-taken .ensures []) .few, a .alone .ensures .0),
+      omega (arith, u .subsystem-taken .ensures .0, w .wrong-slot-index .ensures .0, t .slot-taken .ensures .0, a .alone .ensures .0),
       λ catalogue hc hr named.
           let x = contextOf catalogue fit in
           let p = pairAt catalogue fit (s .args .i) in
           let h = m .item-at .ensures .1 catalogue hc hr in
           let r : resultOf fit (s .args .i + 2) ≡ resultOf fit (m .item-at .result .at + 2) = ap (λ (j : ℕ). resultOf fit (j + 2)) (sym (m .item-at .ensures .0)) in
           let known = named-context catalogue fit named in
-          wrote-append (wrote-append (wrote-append (a .alone .ensures .1 x p h) ((t .slot-taken .ensures catalogue) .wrote x p h)) (w .wrong-slot-index .ensures .1 x p known h r)) (u .subsystem-taken .ensures .1 catalogue x p known h r),
+          wrote-append (wrote-append (wrote-append (a .alone .ensures .1 x p h) (t .slot-taken .ensures .1 catalogue x (s .args .i) h)) (w .wrong-slot-index .ensures .1 x p known h r)) (u .subsystem-taken .ensures .1 catalogue x p known h r),
     )
 
 pub slot-checks-at-spec : {M : Type 1} → statement M

@@ -28,8 +28,8 @@ returns c =
 enum-known-part : tie.Need-enum-known-part
 enum-known-part c = search needs
 
-place-requires : tie.Need-place-requires
-place-requires c κs = search needs
+position-requires : tie.Need-position-requires
+position-requires c κs = search needs
 
 add-value : tie.Need-add-value
 add-value c = search needs
@@ -57,8 +57,8 @@ returns-2 c =
     let z = toZ-ofZ w32 (m .0 .0) (record { sfits = k .known-told .given .0 .1 }) in
     let e : valueOf (v .value .result) ≡ value (resultOf (a .fit .now) (a .item .at + 2)) (m .0 .0) =
     v .value .ensures
-    ∙ ap (value (resultOf (a .fit .now) (v .before .place .result + 2))) z
-    ∙ ap (λ (j : ℕ). value (resultOf (a .fit .now) (j + 2)) (m .0 .0)) (v .before .place .ensures) in (
+    ∙ ap (value (resultOf (a .fit .now) (v .before .position .result + 2))) z
+    ∙ ap (λ (j : ℕ). value (resultOf (a .fit .now) (j + 2)) (m .0 .0)) (v .before .position .ensures) in (
       w [] .few,
       λ catalogue x p named h r.
           let ps = pairsOf catalogue (a .fit .now) in
@@ -81,7 +81,7 @@ subsystem-taken-spec =
     (tie.spec
     returns
     enum-known-part
-    place-requires
+    position-requires
     add-value
     value-requires
     push-shared-requires

@@ -21,8 +21,8 @@ slot-number-requires c κs = search needs
 enum-known-number : tie.Need-enum-known-number
 enum-known-number c = search needs
 
-place-requires : tie.Need-place-requires
-place-requires c κs = search needs
+position-requires : tie.Need-position-requires
+position-requires c κs = search needs
 
 add-value : tie.Need-add-value
 add-value c = search needs
@@ -49,8 +49,8 @@ returns c =
     let a = s .before .before .before .args in
     let e : valueOf (v .value .result) ≡ value (resultOf (a .fit .now) (a .item .at + 2)) (m .0 .0) =
     v .value .ensures
-    ∙ ap (value (resultOf (a .fit .now) (v .before .place .result + 2))) (toZ-ofZ w32 (m .0 .0) (record { sfits = k .known-told .given .0 .1 }))
-    ∙ ap (λ (j : ℕ). value (resultOf (a .fit .now) (j + 2)) (m .0 .0)) (v .before .place .ensures) in (
+    ∙ ap (value (resultOf (a .fit .now) (v .before .position .result + 2))) (toZ-ofZ w32 (m .0 .0) (record { sfits = k .known-told .given .0 .1 }))
+    ∙ ap (λ (j : ℕ). value (resultOf (a .fit .now) (j + 2)) (m .0 .0)) (v .before .position .ensures) in (
       w .0,
       λ x p named h r. wrote-same
           (wrong-index-is x h (m .0 .0) (sym (s .slot-number .ensures (x .names) p named (h .slot)) ∙ ap idOf (m .1)) (e ∙ ap (λ q. value q (m .0 .0)) (sym r)))
@@ -70,7 +70,7 @@ wrong-slot-index-spec =
     (tie.spec
     slot-number-requires
     enum-known-number
-    place-requires
+    position-requires
     add-value
     value-requires
     expect-index-requires

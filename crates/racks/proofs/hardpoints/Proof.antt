@@ -1,0 +1,69 @@
+-- `racks::hardpoints` meets its contract. The invariant: what is written so far is said of the first i rows of the table.
+use Prim.Native.Nat.{ℕ, _+_, _-_, _≤_}
+use native.Mathlib.Omega.{arith}
+use mathlib.Core.Path.{_≡_, ap, _∙_}
+use Rattle.words.specs.Words.{each, table}
+use Rattle.entry.specs.Wrote.{Wrote}
+use Rattle.entry.proofs.Wrote.{wrote-same, wrote-length, wrote-table-none, wrote-table-next}
+use Rattle.context.specs.Gathered.{contextOf, pairsOf}
+use Rattle.slot.specs.Tables.{hardpointNumbers, rowAt, onHardpoint}
+use Rattle.racks.proofs.Reports.{hardpoints-rows}
+use Rattle.racks.proofs.hardpoints.Statement.{statement}
+use Rattle.racks.proofs.hardpoints.Tie as tie
+use Rattle.racks.proofs.hardpoints.Reads as reads
+use Rattle.racks.proofs.hardpoints.Lts as lts
+use Rattle.racks.proofs.hardpoint_at.Reads as hardpoint-at-reads
+
+abbrev Inv-loop : tie.InvT-loop
+Inv-loop catalogue fit starts hardpoints out₀ n k₀ i₀ out k i =
+    (i ≤ 2) × ((k ≤ n + i) × Wrote out₀ n out k (each (table i (rowAt hardpointNumbers)) (onHardpoint (contextOf catalogue fit) (pairsOf catalogue fit))))
+
+abbrev μ-loop : tie.MeasureT-loop
+μ-loop catalogue fit starts hardpoints out₀ n k₀ i₀ out k i = 2 - i
+
+loop-holds : tie.Need-loop-holds Inv-loop μ-loop
+loop-holds c = (omega arith, (omega arith, wrote-table-none _ _ _ _))
+
+hardpoint-at-requires : tie.Need-hardpoint-at-requires Inv-loop μ-loop
+hardpoint-at-requires c κs =
+    let l = c .before .before in
+    let s = l .before .before .before .before in (s .pre .0, s .pre .1, c .before .loop-test .taken, omega arith)
+
+add-i : tie.Need-add-i Inv-loop μ-loop
+add-i c = omega arith
+
+loop-less : tie.Need-loop-less Inv-loop μ-loop
+loop-less c = omega arith
+
+loop-again : tie.Need-loop-again Inv-loop μ-loop
+loop-again c =
+    let w = c .before .before .hardpoint-at .ensures in
+    let l = c .before .before .before .before .before .loop in (omega arith, (omega (arith, w .0), wrote-table-next _ _ (l .i) (l .inv .1 .1) (w .1)))
+
+same-length : tie.Need-same-length Inv-loop μ-loop
+same-length c = wrote-length (c .before .loop .inv .1 .1)
+
+returns : tie.Need-returns Inv-loop μ-loop
+returns c =
+    let l = c .before .loop in
+    let a = c .before .before .before .before .before .args in
+    let x = contextOf (a .catalogue .now) (a .fit .now) in
+    let ps = pairsOf (a .catalogue .now) (a .fit .now) in
+    let e : l .i ≡ 2 = omega arith in (
+      omega arith,
+      wrote-same (ap (λ (m : ℕ). each (table m (rowAt hardpointNumbers)) (onHardpoint x ps)) e ∙ hardpoints-rows x ps) (l .inv .1 .1),
+    )
+
+pub hardpoints-spec : {M : Type 1} → statement M
+hardpoints-spec =
+    tie.close
+    (tie.spec
+    Inv-loop
+    μ-loop
+    loop-holds
+    hardpoint-at-requires
+    add-i
+    loop-less
+    loop-again
+    same-length
+    returns)

@@ -1,0 +1,73 @@
+-- `racks::on_hardpoint` meets its contract. The invariant: the count so far is that of the first i pairs.
+use Prim.Native.Nat.{ℕ, _+_, _-_, _≤_}
+use native.Mathlib.Omega.{arith}
+use mathlib.Core.Path.{_≡_, sym}
+use mathlib.Core.List.{List}
+use borrow.Author.Needs.{needs}
+use Rattle.words.specs.Words.{table, countOf}
+use Rattle.words.proofs.Tables.{count-none}
+use Rattle.context.specs.Gathered.{pairAt, pairCount, Hardpoints}
+use Rattle.slot.specs.Slot.{takesHardpoint}
+use Rattle.racks.proofs.Counts.{count-turn, count-all}
+use Rattle.racks.proofs.on_hardpoint.Statement.{statement}
+use Rattle.racks.proofs.on_hardpoint.Tie as tie
+
+abbrev Inv-loop : tie.InvT-loop
+Inv-loop fit hardpoints slot count used₀ i₀ used i =
+    (i ≤ count) × ((used ≤ i) × ((catalogue : List ℕ) → Hardpoints catalogue fit hardpoints → used ≡ countOf (takesHardpoint slot) (table i (pairAt catalogue fit))))
+
+abbrev μ-loop : tie.MeasureT-loop
+μ-loop fit hardpoints slot count used₀ i₀ used i = count - i
+
+pair-count-requires : tie.Need-pair-count-requires Inv-loop μ-loop
+pair-count-requires c κs = search needs
+
+loop-holds : tie.Need-loop-holds Inv-loop μ-loop
+loop-holds c = (omega arith, (omega arith, λ catalogue h. sym (count-none _ _)))
+
+takes-hardpoint-requires : tie.Need-takes-hardpoint-requires Inv-loop μ-loop
+takes-hardpoint-requires c κs = let s = c .before .before .before .before in (s .pre .0, omega arith, s .pre .1)
+
+one-if-requires : tie.Need-one-if-requires Inv-loop μ-loop
+one-if-requires c κs = search needs
+
+add-used : tie.Need-add-used Inv-loop μ-loop
+add-used c = omega arith
+
+add-i : tie.Need-add-i Inv-loop μ-loop
+add-i c = omega arith
+
+loop-less : tie.Need-loop-less Inv-loop μ-loop
+loop-less c = omega arith
+
+loop-again : tie.Need-loop-again Inv-loop μ-loop
+loop-again c =
+    let l = c .before .before .before .loop in
+    let a = c .before .before .before .before .before .before .args in (
+      omega arith,
+      (
+        omega arith,
+        λ catalogue h. count-turn (takesHardpoint (a .slot)) catalogue (a .fit .now) (l .inv .1 .1 catalogue h) (c .before .takes-hardpoint .ensures catalogue h) (c .one-if .ensures .0),
+      ),
+    )
+
+returns : tie.Need-returns Inv-loop μ-loop
+returns c =
+    let a = c .before .before .before .before .args in
+    λ catalogue h. count-all (takesHardpoint (a .slot)) catalogue (a .fit .now) (omega arith) (c .before .loop .inv .1 .1 catalogue h)
+
+pub on-hardpoint-spec : {M : Type 1} → statement M
+on-hardpoint-spec =
+    tie.close
+    (tie.spec
+    Inv-loop
+    μ-loop
+    pair-count-requires
+    loop-holds
+    takes-hardpoint-requires
+    one-if-requires
+    add-used
+    add-i
+    loop-less
+    loop-again
+    returns)

@@ -1,0 +1,79 @@
+-- `racks::report` meets its contract, by whether the attribute is known.
+use Prim.Native.Nat.{ℕ}
+use native.Mathlib.Omega.{arith}
+use mathlib.Core.Path.{_≡_, sym, ap, _∙_}
+use mathlib.Core.Option.{some}
+use lib.Dec.{ltb}
+use mir.Syntax.{w32}
+use mir.ValLaws.{toZ-ofZ}
+use Rattle.words.proofs.Lengths.{few-when}
+use Rattle.floats.specs.Floats.{toU}
+use Rattle.catalogue.specs.Answers.{idOf}
+use Rattle.fit.specs.Fit.{resultOf}
+use Rattle.fit.specs.Lookups.{amount}
+use Rattle.entry.specs.declared.Rule.the-variants.{Slots}
+use Rattle.entry.specs.Entries.{onShip}
+use Rattle.entry.proofs.Wrote.{wrote-same, wrote-none}
+use Rattle.racks.proofs.Reports.{slots-is, slots-none}
+use borrow.Author.Needs.{needs}
+use Rattle.racks.proofs.report.Statement.{statement}
+use Rattle.racks.proofs.report.Tie as tie
+
+attribute-id-requires : tie.Need-attribute-id-requires
+attribute-id-requires c κs = search needs
+
+enum-known-id : tie.Need-enum-known-id
+enum-known-id c = search needs
+
+amount-requires : tie.Need-amount-requires
+amount-requires c κs = search needs
+
+to-u32-requires : tie.Need-to-u32-requires
+to-u32-requires c κs = search needs
+
+emit-when-requires : tie.Need-emit-when-requires
+emit-when-requires c κs = search needs
+
+enum-told : tie.Need-enum-told
+enum-told c = search needs
+
+same-length : tie.Need-same-length
+same-length c = search needs
+
+returns : tie.Need-returns
+returns c =
+    let w = c .before .before .emit-when .ensures in
+    let t = c .before .before .before .before in
+    let k = t .before .before in
+    let m = k .before .id .given in
+    let n = k .before .before .before in
+    let a = n .before .before .before .before .args in
+    let available = t .to-u32 .result in
+    let e : available ≡ toU 32 (amount (resultOf (a .fit .now) 0) (m .0 .0)) =
+    t .to-u32 .ensures
+    ∙ ap (toU 32) (t .before .amount .ensures ∙ ap (amount (resultOf (a .fit .now) 0)) (toZ-ofZ w32 (m .0 .0) (record { sfits = k .known-told .given .0 .1 }))) in (
+      omega (arith, w .count, few-when (ltb available (a .used)) (onShip (Slots (a .slot) (a .used) available))),
+      wrote-same (slots-is (a .catalogue .now) (a .fit .now) (a .slot) (a .name) (a .used) (m .0 .0) available (sym (n .attribute-id .ensures) ∙ ap idOf (m .1)) e) w,
+    )
+
+returns-2 : tie.Need-returns-2
+returns-2 c =
+    let n = c .before .before in
+    let a = n .before .before .before .before .args in (
+      omega arith,
+      wrote-same (slots-none (a .catalogue .now) (a .fit .now) (a .slot) (a .name) (a .used) (sym (n .attribute-id .ensures) ∙ ap idOf (c .enum-told .given .1))) (wrote-none _ _),
+    )
+
+pub report-spec : {M : Type 1} → statement M
+report-spec =
+    tie.close
+    (tie.spec
+    attribute-id-requires
+    enum-known-id
+    amount-requires
+    to-u32-requires
+    emit-when-requires
+    enum-told
+    same-length
+    returns
+    returns-2)

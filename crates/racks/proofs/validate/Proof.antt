@@ -1,0 +1,25 @@
+-- `racks::validate` meets its contract: racks, then hardpoints.
+use native.Mathlib.Omega.{arith}
+use Rattle.entry.proofs.Wrote.{wrote-append}
+use borrow.Author.Needs.{needs}
+use Rattle.racks.proofs.validate.Statement.{statement}
+use Rattle.racks.proofs.validate.Tie as tie
+
+racks-requires : tie.Need-racks-requires
+racks-requires c κs = search needs
+
+hardpoints-requires : tie.Need-hardpoints-requires
+hardpoints-requires c κs = search needs
+
+same-length : tie.Need-same-length
+same-length c = search needs
+
+returns : tie.Need-returns
+returns c =
+    let h = c .before .before in
+    let r = h .before .before .before .before in
+    let u = r .racks .ensures in
+    let v = h .hardpoints .ensures in (omega (arith, u .0, v .0), wrote-append (u .1) (v .1))
+
+pub validate-spec : {M : Type 1} → statement M
+validate-spec = tie.close (tie.spec racks-requires hardpoints-requires same-length returns)

@@ -1,0 +1,87 @@
+-- `slot::places` meets its contract. The invariant: the first i pairs have been placed.
+use Prim.Native.Nat.{ℕ, _+_, _-_, _<_, _≤_}
+use native.Mathlib.Omega.{arith}
+use mathlib.Core.Path.{_≡_, refl, _∙_}
+use mathlib.Core.List.{List}
+use lib.ListN.{length, getD, length-set}
+use borrow.Author.Needs.{needs}
+use Rattle.fit.specs.Fit.{itemAt}
+use Rattle.context.specs.Gathered.{pairCount}
+use Rattle.context.proofs.Filled.{filled-more}
+use Rattle.slot.specs.AtPair.{Sits}
+use Rattle.slot.proofs.Sharing.{sits-as}
+use Rattle.slot.proofs.places.Statement.{statement}
+use Rattle.slot.proofs.places.Tie as tie
+
+-- item k of a fit sits there
+abbrev At : List ℕ → ℕ → ℕ → Type 0
+At fit k place = Sits (itemAt fit k .slot) (itemAt fit k .index) place
+
+abbrev Inv-loop : tie.InvT-loop
+Inv-loop fit count places₀ i₀ places i =
+    (i ≤ count) × (length places ≡ 256) × ((k : ℕ) → k < i → At fit k (getD places k 0))
+
+abbrev μ-loop : tie.MeasureT-loop
+μ-loop fit count places₀ i₀ places i = count - i
+
+pair-count-requires : tie.Need-pair-count-requires Inv-loop μ-loop
+pair-count-requires c κs = search needs
+
+none : (k : ℕ) → k < 0 → ⊥
+none k h = omega arith
+
+loop-holds : tie.Need-loop-holds Inv-loop μ-loop
+loop-holds c = (omega arith, refl, λ k h. absurd (none k h))
+
+item-slot-requires : tie.Need-item-slot-requires Inv-loop μ-loop
+item-slot-requires c κs = search needs
+
+item-index-requires : tie.Need-item-index-requires Inv-loop μ-loop
+item-index-requires c κs = search needs
+
+place-of-requires : tie.Need-place-of-requires Inv-loop μ-loop
+place-of-requires c κs = search needs
+
+mul-places : tie.Need-mul-places Inv-loop μ-loop
+mul-places c = omega arith
+
+array-write-places : tie.Need-array-write-places Inv-loop μ-loop
+array-write-places c = omega arith
+
+add-i : tie.Need-add-i Inv-loop μ-loop
+add-i c = omega arith
+
+loop-less : tie.Need-loop-less Inv-loop μ-loop
+loop-less c = omega arith
+
+loop-again : tie.Need-loop-again Inv-loop μ-loop
+loop-again c =
+    let l = c .before .before .before .before .loop in
+    let s = c .before .before .before .before .before .before .before in
+    let b : l .i < length (l .places) = omega (arith, l .inv .1, s .pre .items) in (
+      omega arith,
+      length-set (l .places) (l .i) _ ∙ l .inv .1,
+      filled-more (At (s .args .fit .now)) 0 (l .places) (l .i) (c .place-of .result) b (l .inv .2)
+          (sits-as (c .before .before .item-slot .ensures) (c .before .item-index .ensures) (c .place-of .ensures)),
+    )
+
+returns : tie.Need-returns Inv-loop μ-loop
+returns c = λ i h. c .before .loop .inv .2 i (omega (arith, h, c .loop-test .left, c .before .before .pair-count .ensures))
+
+pub places-spec : {M : Type 1} → statement M
+places-spec =
+    tie.close
+    (tie.spec
+    Inv-loop
+    μ-loop
+    pair-count-requires
+    loop-holds
+    item-slot-requires
+    item-index-requires
+    place-of-requires
+    mul-places
+    array-write-places
+    add-i
+    loop-less
+    loop-again
+    returns)
