@@ -5,4 +5,5 @@ pub mod Loops
 pub mod Counts
 pub mod Limits
 pub mod Marks
+pub mod Flags
 pub mod Rules

@@ -7,12 +7,13 @@ use floats::Value;
 ghost use mathlib.Core.Path.{_≡_};
 ghost use mathlib.Core.Bool.{not, _&&_, _||_, cond};
 ghost use mathlib.Core.List.{List, map, _++_};
-ghost use Prim.Native.Nat.{ℕ, _+_, _<_, _≤_};
+ghost use Prim.Native.Nat.{ℕ, _+_, _*_, _/_, _<_, _≤_};
 ghost use lib.ListN.{length, getD};
 ghost use lib.IntN.{pos};
 ghost use lib.Ieee.{ne};
-ghost use Rattle.words.specs.Words.{each, anyOf, countOf};
+ghost use Rattle.words.specs.Words.{each, anyOf, countOf, table};
 ghost use Rattle.floats.specs.Floats.{zeroF};
+ghost use Rattle.keys.specs.Keys.{keyAt};
 ghost use Rattle.catalogue.specs.Catalogue.{catalogueOf};
 ghost use Rattle.catalogue.specs.Lookups.{nameId};
 ghost use Rattle.catalogue.specs.Answers.{idOf};
@@ -28,6 +29,7 @@ ghost use Rattle.context.specs.Gathered.{pairCount, pairAt, pairsOf, contextOf,
 ghost use Rattle.item.specs.Item as Item;
 ghost use Rattle.item.specs.Item.{SHIP-TYPES, SHIP-GROUPS, STANDUP-FIGHTERS, GROUP-LIMITS, isStandup, isStructure, inGroup, ofType};
 ghost use Rattle.item.specs.AtPair.{idIn, IdsOf, listedUnder, listedIn, markedUnder, markedIn, ListingOf, isCapitalItem, rigSizeAt, shipRestrictedAt, capitalItemAt, standupAt, groupLimitAt, groupLimit, typeLimitAt, itemRules};
+ghost use Rattle.item.specs.Flags.{flagOf, Flagged, Kept, anyFlagged};
 
 // The attributes naming the ship types an item may go on.
 const SHIP_TYPES: [u32; 13] = [34, 35, 36, 37, 38, 39, 40, 41, 42, 43, 44, 45, 46];
@@ -240,6 +242,47 @@ pub fn rig_size(
     m
 }
 
+// Flags the ids in codes, by their lowest 13 bits. A code that stands for none flags place 0: a flag too many only costs searches.
+fn flag_ids(codes: &[u64], flags: &mut [bool])
+    requires { ⌜ length (now flags) ≡ 8192 ⌝ }
+    ensures { λ r. ⌜ (length (now (flags .exit)) ≡ 8192) × Flagged (now (codes .entry)) (now (flags .exit)) × Kept (now (flags .entry)) (now (flags .exit)) ⌝ }
+{
+    let mut k = 0;
+    while k < codes.len() {
+        flags[(codes[k] % 8192) as usize] = true;
+        k += 1;
+    }
+}
+
+fn flag_at(ids: &[u8], k: usize, flags: &[bool; 8192]) -> bool
+    requires { ⌜ 4 * k + 4 ≤ length (now ids) ⌝ }
+    ensures { λ r. ⌜ r ≡ flagOf (now (flags .entry)) (keyAt (now (ids .entry)) k) ⌝ }
+{
+    flags[(image::u32_at(ids, 4 * k) % 8192) as usize]
+}
+
+// Whether any id in a slice is flagged. The loop runs to its end, so that it has no branch to guess wrong.
+fn any_flagged(ids: &[u8], flags: &[bool; 8192]) -> bool
+    ensures { λ r. ⌜ r ≡ anyOf (flagOf (now (flags .entry))) (table (length (now (ids .entry)) / 4) (keyAt (now (ids .entry)))) ⌝ }
+{
+    let count = ids.len() / 4;
+    let mut any = false;
+    let mut k = 0;
+    while k < count {
+        any = either(any, flag_at(ids, k, flags));
+        k += 1;
+    }
+    any
+}
+
+// Whether a result may list ships: most list none, and need no search for each of the 33 ids.
+fn may_list(fit: &[u8], starts: &[u32; 259], j: usize, flags: &[bool; 8192]) -> bool
+    requires { ⌜ Fit.Sound (now fit) × Starts (now fit) (now starts) × (j < resultCount (now fit) + 2) ⌝ }
+    ensures { λ r. ⌜ r ≡ anyFlagged (now (flags .entry)) (resultOf (now (fit .entry)) j) ⌝ }
+{
+    any_flagged(fit::ids_of(fit, starts, j), flags)
+}
+
 fn listed_under(fit: &[u8], starts: &[u32; 259], j: usize, code: u64, id: i32) -> Listing
     requires { ⌜ Fit.Sound (now fit) × Starts (now fit) (now starts) × (j < resultCount (now fit) + 2) ⌝ }
     ensures { λ r. ⌜ ListingOf id (listedUnder (resultOf (now (fit .entry)) j) (idIn code)) r ⌝ }
@@ -300,6 +343,7 @@ fn ship_restricted_at(
     starts: &[u32; 259],
     types: &[u64; 13],
     groups: &[u64; 20],
+    flags: &[bool; 8192],
     ship: i32,
     group: i32,
     i: usize,
@@ -309,9 +353,13 @@ fn ship_restricted_at(
     requires { ⌜ Ready (now catalogue) (now fit) (now starts) × (i < pairCount (now fit)) × (n < 4294967296) ⌝ }
     requires { ⌜ IdsOf (catalogueOf (now catalogue) .names) SHIP-TYPES (now types) × IdsOf (catalogueOf (now catalogue) .names) SHIP-GROUPS (now groups) ⌝ }
     requires { ⌜ (ship ≡ contextOf (now catalogue) (now fit) .ship) × (group ≡ contextOf (now catalogue) (now fit) .group) ⌝ }
+    requires { ⌜ Flagged (now types) (now flags) × Flagged (now groups) (now flags) ⌝ }
     ensures { λ r. ⌜ Wrote (now (out .entry)) n (now (out .exit)) r (shipRestrictedAt (contextOf (now (catalogue .entry)) (now (fit .entry))) (pairAt (now (catalogue .entry)) (now (fit .entry)) i)) ⌝ }
 {
     if !is_fitted(fit, i) {
+        return n;
+    }
+    if !may_list(fit, starts, i + 2, flags) {
         return n;
     }
     let of_types = listed(fit, starts, i + 2, types, ship);
@@ -340,6 +388,9 @@ pub fn ship_restricted(
 {
     let types = type_ids(catalogue);
     let groups = group_ids(catalogue);
+    let mut flags = [false; 8192];
+    flag_ids(&types, &mut flags);
+    flag_ids(&groups, &mut flags);
     let ship = fit::ship(fit);
     let count = fit::pair_count(fit);
     let mut m = n;
@@ -351,6 +402,7 @@ pub fn ship_restricted(
             starts,
             &types,
             &groups,
+            &flags,
             ship,
             group,
             i,
