@@ -62,14 +62,6 @@ module _ (x : Context) (p : Pair) where
   unfolding shipRestrictedAt
   restricted-unfitted e = wrote-unless (on p ShipRestricted) (rw e)
 
-  pub restricted-unlisted : {b : List ℕ} {n : ℕ} → listed x p SHIP-TYPES ≡ [] → listed x p SHIP-GROUPS ≡ [] → Wrote b n b n (shipRestrictedAt x p)
-  unfolding shipRestrictedAt isEmpty
-  restricted-unlisted e q = wrote-unless (on p ShipRestricted) (rw (e, q) (go (isFitted p) (not (contains (x .ship) [])) (not (contains (x .group) []))))
-    where
-      go : (t u v : Bool) → t && false && u && v ≡ false
-      go true u v = refl
-      go false u v = refl
-
   pub restricted-fitted : {b a : List ℕ} {n k : ℕ} (u v : Listing) (t : Bool) → isFitted p ≡ true → ListingOf (x .ship) (listed x p SHIP-TYPES) u → ListingOf (x .group) (listed x p SHIP-GROUPS) v
       → t ≡ not (not (u .any) && not (v .any)) && not (u .has) && not (v .has) → Wrote b n a k (when t (on p ShipRestricted)) → Wrote b n a k (shipRestrictedAt x p)
   unfolding shipRestrictedAt
@@ -77,6 +69,14 @@ module _ (x : Context) (p : Pair) where
       let types = listed x p SHIP-TYPES in
       let groups = listed x p SHIP-GROUPS in
       wrote-same (ap (λ (c : Bool). when c (on p ShipRestricted)) (q ∙ rw (e, h .any, g .any, h .has, g .has, not-not (isEmpty types), not-not (isEmpty groups)))) w
+
+  pub restricted-unlisted : {b : List ℕ} {n : ℕ} → listed x p SHIP-TYPES ≡ [] → listed x p SHIP-GROUPS ≡ [] → Wrote b n b n (shipRestrictedAt x p)
+  unfolding shipRestrictedAt isEmpty
+  restricted-unlisted e q = wrote-unless (on p ShipRestricted) (rw (e, q) (go (isFitted p) (not (contains (x .ship) [])) (not (contains (x .group) []))))
+    where
+      go : (t u v : Bool) → t && false && u && v ≡ false
+      go true u v = refl
+      go false u v = refl
 
   pub restricted-few : length (shipRestrictedAt x p) ≤ 1
   unfolding shipRestrictedAt

@@ -180,7 +180,8 @@ fn hull_rules<'a>(
         out,
         a,
     );
-    item::validate(catalogue, fit, starts, groups, categories, out, b)
+    let c = item::validate(catalogue, fit, starts, categories, out, b);
+    limits::validate(catalogue, fit, starts, groups, out, c)
 }
 
 // The list of a fit whose ship is a hull.

@@ -12,10 +12,10 @@ use Rattle.item.proofs.any_flagged.Statement.{statement}
 use Rattle.item.proofs.any_flagged.Tie as tie
 
 abbrev Inv-loop : tie.InvT-loop
-Inv-loop ids flags count any₀ k₀ any k = (k ≤ count) × (any ≡ anyOf (flagOf flags) (table k (keyAt ids)))
+Inv-loop ids flags count found₀ k₀ found k = (k ≤ count) × (found ≡ anyOf (flagOf flags) (table k (keyAt ids)))
 
 abbrev μ-loop : tie.MeasureT-loop
-μ-loop ids flags count any₀ k₀ any k = count - k
+μ-loop ids flags count found₀ k₀ found k = count - k
 
 loop-holds : tie.Need-loop-holds Inv-loop μ-loop
 loop-holds c = (omega arith, sym (any-none _ _))
@@ -36,7 +36,7 @@ loop-again : tie.Need-loop-again Inv-loop μ-loop
 loop-again c =
     let l = c .before .before .before in
     let a = l .before .before .args in
-    (omega arith, any-turn (flagOf (a .flags .now)) (keyAt (a .ids .now)) (l .loop .k) (l .loop .any) (c .either .result) (c .before .flag-at .result) (l .loop .inv .1) (c .before .flag-at .ensures) (c .either .ensures))
+    (omega arith, any-turn (flagOf (a .flags .now)) (keyAt (a .ids .now)) (l .loop .k) (l .loop .found) (c .either .result) (c .before .flag-at .result) (l .loop .inv .1) (c .before .flag-at .ensures) (c .either .ensures))
 
 returns : tie.Need-returns Inv-loop μ-loop
 returns c =

@@ -1,5 +1,5 @@
 -- `item::may_list` meets its contract: the ids read are those of the result.
-use Prim.Native.Nat.{_+_, _*_, _/_, _≤_}
+use Prim.Native.Nat.{_*_, _/_}
 use native.Mathlib.Omega.{arith}
 use mathlib.Core.Path.{_≡_, ap, _∙_}
 use lib.ListN.{length}

@@ -16,23 +16,28 @@ validate-requires-2 c κs = search needs
 validate-requires-3 : tie.Need-validate-requires-3
 validate-requires-3 c κs = search needs
 
+validate-requires-4 : tie.Need-validate-requires-4
+validate-requires-4 c κs = search needs
+
 same-length : tie.Need-same-length
 same-length c = search needs
 
 returns : tie.Need-returns
 returns c =
-    let i = c .before .before in
+    let l = c .before .before in
+    let i = l .before .before .before .before in
     let s = i .before .before .before .before in
     let r = s .before .before .before .before in
     let a = r .before .before .before .before .before .args in
     let u = r .validate .ensures in
     let v = s .validate2 .ensures in
-    let w = i .validate3 .ensures in (
-      omega (arith, u .1, v .0, w .1),
-      wrote-same (files (contextOf (a .catalogue .now) (a .fit .now)) (pairsOf (a .catalogue .now) (a .fit .now))) (wrote-append (wrote-append (u .0) (v .1)) (w .0)),
+    let w = i .validate3 .ensures in
+    let t = l .validate4 .ensures in (
+      omega (arith, u .1, v .0, w .1, t .1),
+      wrote-same (files (contextOf (a .catalogue .now) (a .fit .now)) (pairsOf (a .catalogue .now) (a .fit .now))) (wrote-append (wrote-append (wrote-append (u .0) (v .1)) (w .0)) (t .0)),
     )
 
 pub hull-rules-spec : {M : Type 1} → statement M
 hull-rules-spec =
     tie.close
-    (tie.spec validate-requires validate-requires-2 validate-requires-3 same-length returns)
+    (tie.spec validate-requires validate-requires-2 validate-requires-3 validate-requires-4 same-length returns)

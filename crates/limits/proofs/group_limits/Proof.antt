@@ -1,4 +1,4 @@
--- `item::group_limits` meets its contract. The invariant: what the rows passed say was written, at most 256 entries each.
+-- `limits::group_limits` meets its contract. The invariant: what the rows passed say was written, at most 256 entries each.
 use Prim.Native.Nat.{_+_, _-_, _*_, _≤_}
 use native.Mathlib.Omega.{arith}
 use lib.ListN.{take}
@@ -7,11 +7,11 @@ use Rattle.words.specs.Words.{each}
 use Rattle.entry.specs.Wrote.{Wrote}
 use Rattle.entry.proofs.Wrote.{wrote-length}
 use Rattle.context.specs.Gathered.{contextOf, pairsOf}
 use Rattle.item.specs.Item.{GROUP-LIMITS}
 use Rattle.item.specs.AtPair.{groupLimit}
-use Rattle.item.proofs.Limits.{limits-none, limits-next, limits-all}
-use Rattle.item.proofs.group_limits.Statement.{statement}
-use Rattle.item.proofs.group_limits.Tie as tie
+use Rattle.limits.proofs.Limits.{limits-none, limits-next, limits-all}
+use Rattle.limits.proofs.group_limits.Statement.{statement}
+use Rattle.limits.proofs.group_limits.Tie as tie
 
 abbrev Inv-loop : tie.InvT-loop
 Inv-loop catalogue fit starts groups out₀ n m₀ k₀ out m k =

@@ -1,4 +1,4 @@
--- `item::group_limit` meets its contract, by whether the name is there.
+-- `limits::type_limit` meets its contract, by whether the name is there.
 use Prim.Native.Nat.{_-_}
 use native.Mathlib.Omega.{arith}
 use mathlib.Core.Path.{_≡_, sym, ap, _∙_}
@@ -13,21 +13,21 @@ use Rattle.catalogue.specs.Answers.{idOf}
 use Rattle.entry.proofs.Wrote.{wrote-length}
 use Rattle.context.specs.Context.{context}
 use Rattle.context.specs.Gathered.{contextOf, pairsOf}
 use Rattle.item.proofs.Loops.{Passed, passed-none, passed-more, passed-all}
-use Rattle.item.specs.AtPair.{groupLimitAt}
-use Rattle.item.proofs.Limits.{group-few, group-no-name, group-each}
-use Rattle.item.proofs.group_limit.Statement.{statement}
-use Rattle.item.proofs.group_limit.Tie as tie
+use Rattle.item.specs.AtPair.{typeLimitAt}
+use Rattle.limits.proofs.Limits.{type-few, type-no-name, type-each}
+use Rattle.limits.proofs.type_limit.Statement.{statement}
+use Rattle.limits.proofs.type_limit.Tie as tie
 
 abbrev Inv-loop : tie.InvT-loop
-Inv-loop catalogue fit starts groups limit name out₀ n id count m₀ i₀ out m i =
-    Passed catalogue fit (groupLimitAt limit (toZ w32 id) (pairsOf catalogue fit)) out₀ n out m i
+Inv-loop catalogue fit starts out₀ n id count m₀ i₀ out m i =
+    Passed catalogue fit (typeLimitAt (toZ w32 id) (pairsOf catalogue fit)) out₀ n out m i
 
 abbrev μ-loop : tie.MeasureT-loop
-μ-loop catalogue fit starts groups limit name out₀ n id count m₀ i₀ out m i = count - i
+μ-loop catalogue fit starts out₀ n id count m₀ i₀ out m i = count - i
 
 -- the id that was looked up, as the calls after it read it
-named : (h : tie.After-pair-count Inv-loop μ-loop) → let a = h .before .before .before .before .before .before .before .before .args in nameId (catalogueOf (a .catalogue .now) .names) (a .name) ≡ some (toZ w32 (ofZ w32 (h .before .before .answer .given .0 .0)))
+named : (h : tie.After-pair-count Inv-loop μ-loop) → let a = h .before .before .before .before .before .before .before .before .args in nameId (catalogueOf (a .catalogue .now) .names) 75 ≡ some (toZ w32 (ofZ w32 (h .before .before .answer .given .0 .0)))
 named h =
     let m = h .before .before in
     sym (m .before .before .attribute-id .ensures) ∙ ap idOf (m .answer .given .1)
@@ -47,7 +47,7 @@ unfolding contextOf context
 returns c =
     let f = c .before .before in
     let a = f .before .before .before .before .args in
-    (group-no-name (contextOf (a .catalogue .now) (a .fit .now)) (pairsOf (a .catalogue .now) (a .fit .now)) (a .limit) (a .name) (sym (f .attribute-id .ensures) ∙ ap idOf (c .enum-told .given .1)), omega arith)
+    (type-no-name (contextOf (a .catalogue .now) (a .fit .now)) (pairsOf (a .catalogue .now) (a .fit .now)) (sym (f .attribute-id .ensures) ∙ ap idOf (c .enum-told .given .1)), omega arith)
 
 pair-count-requires : tie.Need-pair-count-requires Inv-loop μ-loop
 pair-count-requires c κs = search needs
@@ -55,8 +55,8 @@ pair-count-requires c κs = search needs
 loop-holds : tie.Need-loop-holds Inv-loop μ-loop
 loop-holds c = passed-none _ _ _ _ _
 
-group-limit-at-requires : tie.Need-group-limit-at-requires Inv-loop μ-loop
-group-limit-at-requires c κs = search needs
+type-limit-at-requires : tie.Need-type-limit-at-requires Inv-loop μ-loop
+type-limit-at-requires c κs = search needs
 
 add-i : tie.Need-add-i Inv-loop μ-loop
 add-i c = search needs
@@ -67,7 +67,7 @@ loop-less c = search needs
 loop-again : tie.Need-loop-again Inv-loop μ-loop
 loop-again c =
     let l = c .before .before .before .before .before in
-    passed-more _ _ _ (group-few _ _ _) (omega arith) (l .loop .inv) (c .before .before .group-limit-at .ensures)
+    passed-more _ _ _ (type-few _ _) (omega arith) (l .loop .inv) (c .before .before .type-limit-at .ensures)
 
 same-length : tie.Need-same-length Inv-loop μ-loop
 same-length c = wrote-length (c .before .loop .inv .wrote)
@@ -79,10 +79,10 @@ returns-2 c =
     let h = l .before in
     let s = h .before .before .before .before .before .before .before .before in
     let w = passed-all (s .args .catalogue .now) (s .args .fit .now) _ (s .pre .0 .fit-sound) (omega arith) (l .loop .inv) in
-    (group-each (contextOf (s .args .catalogue .now) (s .args .fit .now)) (pairsOf (s .args .catalogue .now) (s .args .fit .now)) (s .args .limit) (s .args .name) _ (named h) (w .0), w .1)
+    (type-each (contextOf (s .args .catalogue .now) (s .args .fit .now)) (pairsOf (s .args .catalogue .now) (s .args .fit .now)) _ (named h) (w .0), w .1)
 
-pub group-limit-spec : {M : Type 1} → statement M
-group-limit-spec =
+pub type-limit-spec : {M : Type 1} → statement M
+type-limit-spec =
     tie.close
     (tie.spec
     Inv-loop
@@ -93,7 +93,7 @@ group-limit-spec =
     returns
     pair-count-requires
     loop-holds
-    group-limit-at-requires
+    type-limit-at-requires
     add-i
     loop-less
     loop-again

@@ -1,4 +1,4 @@
--- `item::in_group` meets its contract: three tests.
+-- `limits::in_group` meets its contract: three tests.
 use mathlib.Core.Path.{_≡_, ap, ap₂, _∙_}
 use mathlib.Core.Bool.{_&&_}
 use lib.Dec.{leb}
@@ -6,10 +6,10 @@ use mir.Syntax.{w32}
 use mir.ValLaws.{toZ-ofZ}
 use Rattle.words.specs.Words.{same}
 use Rattle.context.specs.Gathered.{pairAt}
 use Rattle.item.specs.Item.{inGroup}
 use borrow.Author.Needs.{needs}
-use Rattle.item.proofs.in_group.Statement.{statement}
-use Rattle.item.proofs.in_group.Tie as tie
+use Rattle.limits.proofs.in_group.Statement.{statement}
+use Rattle.limits.proofs.in_group.Tie as tie
 
 is-fitted-requires : tie.Need-is-fitted-requires
 is-fitted-requires c κs = search needs

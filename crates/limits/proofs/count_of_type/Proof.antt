@@ -1,4 +1,4 @@
--- `item::count_of_type` meets its contract: a loop that counts.
+-- `limits::count_of_type` meets its contract: a loop that counts.
 use Prim.Native.Nat.{ℕ, _-_}
 use native.Mathlib.Omega.{arith}
 use mathlib.Core.Path.{ap, _∙_}
@@ -10,10 +10,10 @@ use mir.ValLaws.{toZ-ofZ}
 use borrow.Author.Needs.{needs}
 use Rattle.words.specs.Words.{countOf}
 use Rattle.context.specs.Gathered.{pairsOf}
 use Rattle.item.specs.Item.{ofType}
-use Rattle.item.proofs.Counts.{Counted, counted-none, counted-more, counted-all}
-use Rattle.item.proofs.count_of_type.Statement.{statement}
-use Rattle.item.proofs.count_of_type.Tie as tie
+use Rattle.limits.proofs.Counts.{Counted, counted-none, counted-more, counted-all}
+use Rattle.limits.proofs.count_of_type.Statement.{statement}
+use Rattle.limits.proofs.count_of_type.Tie as tie
 
 abbrev Inv-loop : tie.InvT-loop
 Inv-loop fit id count used₀ i₀ used i = (k : List ℕ) → Counted k fit (ofType (toZ w32 id)) used i

@@ -1,4 +1,4 @@
--- `item::count_in_group` meets its contract: a loop that counts.
+-- `limits::count_in_group` meets its contract: a loop that counts.
 use Prim.Native.Nat.{_-_}
 use native.Mathlib.Omega.{arith}
 use mathlib.Core.Path.{ap, _∙_}
@@ -9,10 +9,10 @@ use mir.ValLaws.{toZ-ofZ}
 use borrow.Author.Needs.{needs}
 use Rattle.words.specs.Words.{countOf}
 use Rattle.context.specs.Gathered.{pairsOf}
 use Rattle.item.specs.Item.{inGroup}
-use Rattle.item.proofs.Counts.{Counted, counted-none, counted-more, counted-all}
-use Rattle.item.proofs.count_in_group.Statement.{statement}
-use Rattle.item.proofs.count_in_group.Tie as tie
+use Rattle.limits.proofs.Counts.{Counted, counted-none, counted-more, counted-all}
+use Rattle.limits.proofs.count_in_group.Statement.{statement}
+use Rattle.limits.proofs.count_in_group.Tie as tie
 
 abbrev Inv-loop : tie.InvT-loop
 Inv-loop catalogue fit groups group limit count used₀ i₀ used i = Counted catalogue fit (inGroup (toZ w32 group) limit) used i

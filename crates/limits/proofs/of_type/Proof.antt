@@ -1,13 +1,13 @@
--- `item::of_type` meets its contract: two tests.
+-- `limits::of_type` meets its contract: two tests.
 use mathlib.Core.Path.{ap₂, _∙_}
 use mathlib.Core.Bool.{_&&_}
 use mir.Syntax.{w32}
 use mir.ValLaws.{toZ-ofZ}
 use Rattle.words.specs.Words.{same}
 use Rattle.item.specs.Item.{ofType}
 use borrow.Author.Needs.{needs}
-use Rattle.item.proofs.of_type.Statement.{statement}
-use Rattle.item.proofs.of_type.Tie as tie
+use Rattle.limits.proofs.of_type.Statement.{statement}
+use Rattle.limits.proofs.of_type.Tie as tie
 
 is-fitted-requires : tie.Need-is-fitted-requires
 is-fitted-requires c κs = search needs

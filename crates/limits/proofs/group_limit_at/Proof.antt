@@ -1,4 +1,4 @@
--- `item::type_limit_at` meets its contract, by whether the item has the limit and is fitted.
+-- `limits::group_limit_at` meets its contract, by whether the item has the limit and is fitted.
 use Prim.Native.Nat.{_+_}
 use mathlib.Core.Path.{_≡_, sym, ap, _∙_}
 use lib.IntN.{ℤ}
@@ -11,11 +11,11 @@ use Rattle.floats.specs.Values.{valueOf}
 use Rattle.fit.specs.Fit.{resultOf}
 use Rattle.fit.specs.Lookups.{value}
 use Rattle.context.specs.Gathered.{pairAt, pairsOf}
-use Rattle.item.specs.Item.{ofType}
-use Rattle.item.proofs.Limits.{type-missing, type-unfitted, type-fitted}
+use Rattle.item.specs.Item.{inGroup}
+use Rattle.limits.proofs.Limits.{group-missing, group-unfitted, group-fitted}
 use borrow.Author.Needs.{needs}
-use Rattle.item.proofs.type_limit_at.Statement.{statement}
-use Rattle.item.proofs.type_limit_at.Tie as tie
+use Rattle.limits.proofs.group_limit_at.Statement.{statement}
+use Rattle.limits.proofs.group_limit_at.Tie as tie
 
 -- the value that was looked up, under the id itself
 told : (c : tie.After-value) → let a = c .before .before .before .before .args in valueOf (c .value .result) ≡ value (resultOf (a .fit .now) (a .i + 2)) (a .id)
@@ -39,7 +39,7 @@ returns : tie.Need-returns
 returns c =
     let v = c .before .before in
     let a = v .before .before .before .before .args in
-    type-missing (a .id) (pairsOf (a .catalogue .now) (a .fit .now)) (pairAt (a .catalogue .now) (a .fit .now) (a .i)) (sym (told v) ∙ ap valueOf (c .enum-told .given .1))
+    group-missing (a .limit) (a .id) (pairsOf (a .catalogue .now) (a .fit .now)) (pairAt (a .catalogue .now) (a .fit .now) (a .i)) (sym (told v) ∙ ap valueOf (c .enum-told .given .1))
 
 is-fitted-requires : tie.Need-is-fitted-requires
 is-fitted-requires c κs = search needs
@@ -50,20 +50,20 @@ returns-2 c =
     let m = f .before .before in
     let v = m .before .before in
     let a = v .before .before .before .before .args in
-    type-unfitted (a .id) (pairsOf (a .catalogue .now) (a .fit .now)) (pairAt (a .catalogue .now) (a .fit .now) (a .i)) (sym (told v) ∙ ap valueOf (m .answer .given .1))
+    group-unfitted (a .limit) (a .id) (pairsOf (a .catalogue .now) (a .fit .now)) (pairAt (a .catalogue .now) (a .fit .now) (a .i)) (sym (told v) ∙ ap valueOf (m .answer .given .1))
     (sym (f .is-fitted .ensures (a .catalogue .now)) ∙ not-true _ (c .if1 .taken))
 
-item-type-requires : tie.Need-item-type-requires
-item-type-requires c κs = search needs
+id-at-requires : tie.Need-id-at-requires
+id-at-requires c κs = search needs
 
-count-of-type-requires : tie.Need-count-of-type-requires
-count-of-type-requires c κs = search needs
+count-in-group-requires : tie.Need-count-in-group-requires
+count-in-group-requires c κs = search needs
 
 to-u32-requires : tie.Need-to-u32-requires
 to-u32-requires c κs = search needs
 
-cast-t18 : tie.Need-cast-t18
-cast-t18 c = search needs
+cast-t20 : tie.Need-cast-t20
+cast-t20 c = search needs
 
 emit-when-requires : tie.Need-emit-when-requires
 emit-when-requires c κs = search needs
@@ -75,22 +75,22 @@ returns-3 : tie.Need-returns-3
 returns-3 c =
     let w = c .before .before in
     let u = w .before .before in
-    let t = u .before .before in
-    let f = t .before .before in
+    let g = u .before .before in
+    let f = g .before .before in
     let m = f .before .before in
     let v = m .before .before in
     let s = v .before .before .before .before in
     let a = s .args in
     let ps = pairsOf (a .catalogue .now) (a .fit .now) in
     let p = pairAt (a .catalogue .now) (a .fit .now) (a .i) in
-    let z : toZ w32 (ofZ w32 (t .item-type .result)) ≡ p .type =
-    toZ-ofZ w32 (t .item-type .result) (record { sfits = t .item-type .ok }) ∙ t .item-type .ensures in
-    type-fitted (a .id) ps p (sym (told v) ∙ ap valueOf (m .answer .given .1))
-    (sym (f .is-fitted .ensures (a .catalogue .now)) ∙ not-false _ (t .before .if1 .left))
-    z (u .before .count-of-type .ensures (a .catalogue .now) ∙ ap (λ (y : ℤ). countOf (ofType y) ps) z) (u .to-u32 .ensures) (w .emit-when .ensures)
+    let z : toZ w32 (ofZ w32 (g .id-at .result)) ≡ p .group =
+    toZ-ofZ w32 (g .id-at .result) (record { sfits = g .id-at .ok }) ∙ g .id-at .ensures ∙ s .pre .3 (a .i) (s .pre .1) in
+    group-fitted (a .limit) (a .id) ps p (sym (told v) ∙ ap valueOf (m .answer .given .1))
+    (sym (f .is-fitted .ensures (a .catalogue .now)) ∙ not-false _ (g .before .if1 .left))
+    z (u .before .count-in-group .ensures ∙ ap (λ (y : ℤ). countOf (inGroup y (a .limit)) ps) z) (u .to-u32 .ensures) (w .emit-when .ensures)
 
-pub type-limit-at-spec : {M : Type 1} → statement M
-type-limit-at-spec =
+pub group-limit-at-spec : {M : Type 1} → statement M
+group-limit-at-spec =
     tie.close
     (tie.spec
     add-value
@@ -100,10 +100,10 @@ type-limit-at-spec =
     returns
     is-fitted-requires
     returns-2
-    item-type-requires
-    count-of-type-requires
+    id-at-requires
+    count-in-group-requires
     to-u32-requires
-    cast-t18
+    cast-t20
     emit-when-requires
     same-length
     returns-3)
