@@ -2,7 +2,6 @@
 pub mod Codes
 pub mod Listings
 pub mod Loops
-pub mod Counts
-pub mod Limits
 pub mod Marks
+pub mod Flags
 pub mod Rules

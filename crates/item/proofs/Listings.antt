@@ -80,7 +80,7 @@ unfolding each
 each-map f g [] = refl
 each-map {A} {B} {C} f g (x ∷ l) = ap (λ (r : List C). g (f x) ++ r) (each-map f g l)
 
-listed-codes : (x : Context) (p : Pair) (rows codes : List ℕ) → IdsOf (x .names) rows codes → listedIn (p .result) codes ≡ listed x p rows
+pub listed-codes : (x : Context) (p : Pair) (rows codes : List ℕ) → IdsOf (x .names) rows codes → listedIn (p .result) codes ≡ listed x p rows
 unfolding listed listedUnder
 listed-codes x p rows codes e =
     sym (each-map idIn (listedUnder (p .result)) codes) ∙ ap (λ (l : List (Option Id)). each l (listedUnder (p .result))) e

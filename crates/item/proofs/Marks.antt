@@ -41,7 +41,7 @@ module _ {A : Type 0} (t : A → Bool) (l : List A) where
   any-end k h e = sym (e ∙ ap (anyOf t) (drop-of-length-le l h))
 
 -- ---- the ids of a table's names
-any-map : {A B : Type 0} (f : A → B) (t : B → Bool) (l : List A) → anyOf t (map f l) ≡ anyOf (λ x. t (f x)) l
+pub any-map : {A B : Type 0} (f : A → B) (t : B → Bool) (l : List A) → anyOf t (map f l) ≡ anyOf (λ x. t (f x)) l
 unfolding anyOf
 any-map f t [] = refl
 any-map f t (x ∷ l) = ap (λ (b : Bool). t (f x) || b) (any-map f t l)

@@ -70,6 +70,14 @@ module _ (x : Context) (p : Pair) where
       let groups = listed x p SHIP-GROUPS in
       wrote-same (ap (λ (c : Bool). when c (on p ShipRestricted)) (q ∙ rw (e, h .any, g .any, h .has, g .has, not-not (isEmpty types), not-not (isEmpty groups)))) w
 
+  pub restricted-unlisted : {b : List ℕ} {n : ℕ} → listed x p SHIP-TYPES ≡ [] → listed x p SHIP-GROUPS ≡ [] → Wrote b n b n (shipRestrictedAt x p)
+  unfolding shipRestrictedAt isEmpty
+  restricted-unlisted e q = wrote-unless (on p ShipRestricted) (rw (e, q) (go (isFitted p) (not (contains (x .ship) [])) (not (contains (x .group) []))))
+    where
+      go : (t u v : Bool) → t && false && u && v ≡ false
+      go true u v = refl
+      go false u v = refl
+
   pub restricted-few : length (shipRestrictedAt x p) ≤ 1
   unfolding shipRestrictedAt
   restricted-few = few-when _ _

@@ -99,6 +99,9 @@ typeLimitAt id ps p = do
   whenAbove (isFitted p) (toU 32 allowed) (countOf (ofType (p .type)) ps) λ used.
       on p (MaxType (p .type) used (toU 32 allowed))
 
--- all of item.rs, in its order
+-- all of item.rs, in its order: which items go on which ship, then how many of a kind
 abbrev pub itemRules : Context → List Pair → List Entry
-itemRules x ps = rigSize x ps ++ shipRestricted x ps ++ capitalItem x ps ++ standup x ps ++ groupLimits x ps ++ typeLimit x ps
+itemRules x ps = rigSize x ps ++ shipRestricted x ps ++ capitalItem x ps ++ standup x ps
+
+abbrev pub limitRules : Context → List Pair → List Entry
+limitRules x ps = groupLimits x ps ++ typeLimit x ps

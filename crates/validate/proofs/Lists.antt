@@ -15,7 +15,7 @@ use Rattle.resource.specs.Rows.{resources}
 use Rattle.words.specs.Words.{each}
 use Rattle.slot.specs.Slot.{racks, hardpoints, slotChecks}
 use Rattle.item.specs.Item.{rigSize, shipRestricted, capitalItem, standup, groupLimits}
-use Rattle.item.specs.AtPair.{itemRules}
+use Rattle.item.specs.AtPair.{itemRules, limitRules}
 use Rattle.validate.specs.Kind.{isHull, notAMode, notASkill}
 use Rattle.validate.specs.Validate.{hullRules, listWith, listOf}
 
@@ -23,23 +23,22 @@ abbrev Rules : Type 0
 Rules = List Entry
 
 -- some rules, and more of them behind
-six : (p a b c d e f : Rules) → p ++ (a ++ b ++ c ++ d ++ e ++ f) ≡ p ++ a ++ b ++ c ++ d ++ e ++ f
+six : (p a b c d e f : Rules) → p ++ (a ++ b ++ c ++ d) ++ (e ++ f) ≡ p ++ a ++ b ++ c ++ d ++ e ++ f
 six p a b c d e f =
-    sym (append-assoc p (a ++ b ++ c ++ d ++ e) f)
-    ∙ ap (λ (l : Rules). l ++ f) (sym (append-assoc p (a ++ b ++ c ++ d) e)
-    ∙ ap (λ (l : Rules). l ++ e) (sym (append-assoc p (a ++ b ++ c) d)
+    sym (append-assoc (p ++ (a ++ b ++ c ++ d)) e f)
+    ∙ ap (λ (l : Rules). l ++ e ++ f) (sym (append-assoc p (a ++ b ++ c) d)
     ∙ ap (λ (l : Rules). l ++ d) (sym (append-assoc p (a ++ b) c)
-    ∙ ap (λ (l : Rules). l ++ c) (sym (append-assoc p a b)))))
+    ∙ ap (λ (l : Rules). l ++ c) (sym (append-assoc p a b))))
 
-pub files : (x : Context) (ps : List Pair) → resources x ps ++ (racks x ps ++ hardpoints x ps) ++ each ps (slotChecks x ps) ++ itemRules x ps ≡ hullRules x ps
+pub files : (x : Context) (ps : List Pair) → resources x ps ++ (racks x ps ++ hardpoints x ps) ++ each ps (slotChecks x ps) ++ itemRules x ps ++ limitRules x ps ≡ hullRules x ps
 unfolding hullRules
 files x ps =
     let l = loads x in
     let d = launchedDrones x ps in
     let c = cargo x ps in
     let checks = each ps (slotChecks x ps) in
-    ap (λ (p : Rules). p ++ checks ++ itemRules x ps) (sym (append-assoc (resources x ps) (racks x ps) (hardpoints x ps)))
-    ∙ ap (λ (p : Rules). p ++ racks x ps ++ hardpoints x ps ++ checks ++ itemRules x ps) (sym (append-assoc l d c))
+    ap (λ (p : Rules). p ++ checks ++ itemRules x ps ++ limitRules x ps) (sym (append-assoc (resources x ps) (racks x ps) (hardpoints x ps)))
+    ∙ ap (λ (p : Rules). p ++ racks x ps ++ hardpoints x ps ++ checks ++ itemRules x ps ++ limitRules x ps) (sym (append-assoc l d c))
     ∙ six (l ++ d ++ c ++ racks x ps ++ hardpoints x ps ++ checks) (rigSize x ps) (shipRestricted x ps) (capitalItem x ps) (standup x ps) (groupLimits x ps) _
 
 -- the list, on a hull and without one

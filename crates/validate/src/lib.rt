@@ -198,7 +198,8 @@ fn hull_rules<'a>(
     let a = resource::validate(catalogue, fit, starts, volumes, out, n);
     let b = racks::validate(catalogue, fit, starts, hardpoints, out, a);
     let c = slot::validate(catalogue, fit, starts, categories, racks, out, b);
-    item::validate(catalogue, fit, starts, groups, categories, out, c)
+    let d = item::validate(catalogue, fit, starts, categories, out, c);
+    limits::validate(catalogue, fit, starts, groups, out, d)
 }
 
 // The list of a fit whose ship is a hull. `hints` are those of `catalogue::type_of`.

@@ -10,22 +10,41 @@ use Rattle.context.specs.Context.{context}
 use Rattle.context.specs.Gathered.{contextOf, pairsOf}
 use Rattle.item.specs.AtPair.{shipRestrictedAt}
 use Rattle.item.proofs.Loops.{Passed, passed-none, passed-more, passed-all}
+use Rattle.item.proofs.Flags.{flagged-still}
 use Rattle.item.proofs.Rules.{restricted-few, restricted-each}
 use Rattle.item.proofs.ship_restricted.Statement.{statement}
 use Rattle.item.proofs.ship_restricted.Tie as tie
 
 abbrev Inv-loop : tie.InvT-loop
-Inv-loop catalogue fit starts group out₀ n types groups ship count m₀ i₀ out m i =
+Inv-loop catalogue fit starts group out₀ n types groups flags ship count m₀ i₀ out m i =
     Passed catalogue fit (shipRestrictedAt (contextOf catalogue fit)) out₀ n out m i
 
 abbrev μ-loop : tie.MeasureT-loop
-μ-loop catalogue fit starts group out₀ n types groups ship count m₀ i₀ out m i = count - i
+μ-loop catalogue fit starts group out₀ n types groups flags ship count m₀ i₀ out m i = count - i
 
 type-ids-requires : tie.Need-type-ids-requires Inv-loop μ-loop
 type-ids-requires c κs = search needs
 
 group-ids-requires : tie.Need-group-ids-requires Inv-loop μ-loop
 group-ids-requires c κs = search needs
+
+slice-aggregate-flag-ids : tie.Need-slice-aggregate-flag-ids Inv-loop μ-loop
+slice-aggregate-flag-ids c = search needs
+
+slice-aggregate-flag-ids-2 : tie.Need-slice-aggregate-flag-ids-2 Inv-loop μ-loop
+slice-aggregate-flag-ids-2 c = search needs
+
+flag-ids-requires : tie.Need-flag-ids-requires Inv-loop μ-loop
+flag-ids-requires c κs = search needs
+
+slice-aggregate-flag-ids-3 : tie.Need-slice-aggregate-flag-ids-3 Inv-loop μ-loop
+slice-aggregate-flag-ids-3 c = search needs
+
+slice-aggregate-flag-ids-4 : tie.Need-slice-aggregate-flag-ids-4 Inv-loop μ-loop
+slice-aggregate-flag-ids-4 c = search needs
+
+flag-ids-requires-2 : tie.Need-flag-ids-requires-2 Inv-loop μ-loop
+flag-ids-requires-2 c κs = search needs
 
 ship-requires : tie.Need-ship-requires Inv-loop μ-loop
 ship-requires c κs = search needs
@@ -39,15 +58,24 @@ loop-holds c = passed-none _ _ _ _ _
 ship-restricted-at-requires : tie.Need-ship-restricted-at-requires Inv-loop μ-loop
 unfolding contextOf context
 ship-restricted-at-requires c κs =
-    let l = c .before .before .before .before in
+    let l = c .before .before .before .before .before in
     let h = l .before .before in
-    let s = h .before .before .before .before .before .before in (
-      (s .pre .0, omega arith, omega arith),
+    let g = h .before .before in
+    let f = g .before .before .before .before in
+    let t = f .before .before .before in
+    let s = t .before .before .before .before .before in (
+      (s .pre .0, omega (arith, c .before .before .before .before .loop-test .taken, l .before .pair-count .ensures), omega (arith, l .loop .inv .few, l .loop .inv .within, s .pre .1, s .pre .0 .fit-sound .items)),
       (
-        (h .before .before .type-ids .ensures, h .before .group-ids .ensures),
+        (t .before .type-ids .ensures, t .group-ids .ensures),
         (
-          toZ-ofZ w32 (h .ship .result) (record { sfits = h .ship .ok }) ∙ h .ship .ensures,
-          toZ-ofZ w32 (s .args .group) (s .fits .group) ∙ s .pre .2,
+          (
+            toZ-ofZ w32 (h .ship .result) (record { sfits = h .ship .ok }) ∙ h .ship .ensures,
+            toZ-ofZ w32 (s .args .group) (s .fits .group) ∙ s .pre .2,
+          ),
+          (
+            flagged-still (t .before .type-ids .result) _ _ (f .flag-ids .ensures .1) (g .flag-ids2 .ensures .2),
+            g .flag-ids2 .ensures .1,
+          ),
         ),
       ),
     )
@@ -60,7 +88,7 @@ loop-less c = search needs
 
 loop-again : tie.Need-loop-again Inv-loop μ-loop
 loop-again c =
-    let l = c .before .before .before .before .before .before .before in
+    let l = c .before .before .before .before .before .before .before .before in
     passed-more _ _ _ (restricted-few _) (omega arith) (l .loop .inv) (c .before .before .ship-restricted-at .ensures)
 
 same-length : tie.Need-same-length Inv-loop μ-loop
@@ -69,7 +97,7 @@ same-length c = wrote-length (c .before .loop .inv .wrote)
 returns : tie.Need-returns Inv-loop μ-loop
 returns c =
     let l = c .before in
-    let s = l .before .before .before .before .before .before .before .before in
+    let s = l .before .before .before .before .before .before .before .before .before .before .before .before .before .before .before .before in
     let w = passed-all (s .args .catalogue .now) (s .args .fit .now) _ (s .pre .0 .fit-sound) (omega arith) (l .loop .inv) in
     (restricted-each (contextOf (s .args .catalogue .now) (s .args .fit .now)) (pairsOf (s .args .catalogue .now) (s .args .fit .now)) (w .0), w .1)
 
@@ -81,6 +109,12 @@ ship-restricted-spec =
     μ-loop
     type-ids-requires
     group-ids-requires
+    slice-aggregate-flag-ids
+    slice-aggregate-flag-ids-2
+    flag-ids-requires
+    slice-aggregate-flag-ids-3
+    slice-aggregate-flag-ids-4
+    flag-ids-requires-2
     ship-requires
     pair-count-requires
     loop-holds

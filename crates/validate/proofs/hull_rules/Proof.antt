@@ -1,4 +1,4 @@
--- `validate::hull_rules` meets its contract: resource.rs, slot.rs (racks, then checks), item.rs, one after the other.
+-- `validate::hull_rules` meets its contract: resource.rs, slot.rs (racks, then checks), item.rs (limits last), one after the other.
 use native.Mathlib.Omega.{arith}
 use Rattle.entry.proofs.Wrote.{wrote-append, wrote-same}
 use Rattle.context.specs.Gathered.{contextOf, pairsOf}
@@ -19,12 +19,16 @@ validate-requires-3 c κs = search needs
 validate-requires-4 : tie.Need-validate-requires-4
 validate-requires-4 c κs = search needs
 
+validate-requires-5 : tie.Need-validate-requires-5
+validate-requires-5 c κs = search needs
+
 same-length : tie.Need-same-length
 same-length c = search needs
 
 returns : tie.Need-returns
 returns c =
-    let i = c .before .before in
+    let l = c .before .before in
+    let i = l .before .before .before .before in
     let s = i .before .before .before .before in
     let k = s .before .before .before .before in
     let r = k .before .before .before .before in
@@ -32,12 +36,13 @@ returns c =
     let u = r .validate .ensures in
     let v = k .validate2 .ensures in
     let w = s .validate3 .ensures in
-    let z = i .validate4 .ensures in (
-      omega (arith, u .1, v .0, w .0, z .1),
-      wrote-same (files (contextOf (a .catalogue .now) (a .fit .now)) (pairsOf (a .catalogue .now) (a .fit .now))) (wrote-append (wrote-append (wrote-append (u .0) (v .1)) (w .1)) (z .0)),
+    let z = i .validate4 .ensures in
+    let t = l .validate5 .ensures in (
+      omega (arith, u .1, v .0, w .0, z .1, t .1),
+      wrote-same (files (contextOf (a .catalogue .now) (a .fit .now)) (pairsOf (a .catalogue .now) (a .fit .now))) (wrote-append (wrote-append (wrote-append (wrote-append (u .0) (v .1)) (w .1)) (z .0)) (t .0)),
     )
 
 pub hull-rules-spec : {M : Type 1} → statement M
 hull-rules-spec =
     tie.close
-    (tie.spec validate-requires validate-requires-2 validate-requires-3 validate-requires-4 same-length returns)
+    (tie.spec validate-requires validate-requires-2 validate-requires-3 validate-requires-4 validate-requires-5 same-length returns)

@@ -1,0 +1,3 @@
+-- Laws of the rules on how many of a kind there may be.
+pub mod Counts
+pub mod Limits

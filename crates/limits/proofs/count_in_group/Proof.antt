@@ -1,0 +1,70 @@
+-- `limits::count_in_group` meets its contract: a loop that counts.
+use Prim.Native.Nat.{_-_}
+use native.Mathlib.Omega.{arith}
+use mathlib.Core.Path.{ap, _∙_}
+use lib.IntN.{ℤ}
+use mir.Syntax.{w32}
+use mir.Val.{toZ}
+use mir.ValLaws.{toZ-ofZ}
+use borrow.Author.Needs.{needs}
+use Rattle.words.specs.Words.{countOf}
+use Rattle.context.specs.Gathered.{pairsOf}
+use Rattle.item.specs.Item.{inGroup}
+use Rattle.limits.proofs.Counts.{Counted, counted-none, counted-more, counted-all}
+use Rattle.limits.proofs.count_in_group.Statement.{statement}
+use Rattle.limits.proofs.count_in_group.Tie as tie
+
+abbrev Inv-loop : tie.InvT-loop
+Inv-loop catalogue fit groups group limit count used₀ i₀ used i = Counted catalogue fit (inGroup (toZ w32 group) limit) used i
+
+abbrev μ-loop : tie.MeasureT-loop
+μ-loop catalogue fit groups group limit count used₀ i₀ used i = count - i
+
+pair-count-requires : tie.Need-pair-count-requires Inv-loop μ-loop
+pair-count-requires c κs = search needs
+
+loop-holds : tie.Need-loop-holds Inv-loop μ-loop
+loop-holds c = counted-none _ _ _
+
+in-group-requires : tie.Need-in-group-requires Inv-loop μ-loop
+in-group-requires c κs = search needs
+
+one-if-requires : tie.Need-one-if-requires Inv-loop μ-loop
+one-if-requires c κs = tt
+
+add-used : tie.Need-add-used Inv-loop μ-loop
+add-used c = search needs
+
+add-i : tie.Need-add-i Inv-loop μ-loop
+add-i c = search needs
+
+loop-less : tie.Need-loop-less Inv-loop μ-loop
+loop-less c = search needs
+
+loop-again : tie.Need-loop-again Inv-loop μ-loop
+loop-again c =
+    let l = c .before .before .before in
+    counted-more _ _ _ (l .loop .used) (l .loop .i) (c .one-if .result) (c .before .in-group .result) (omega arith) (l .loop .inv) (c .before .in-group .ensures) (c .one-if .ensures)
+
+returns : tie.Need-returns Inv-loop μ-loop
+returns c =
+    let l = c .before in
+    let s = l .before .before .before .before in
+    counted-all _ _ _ (l .loop .used) (l .loop .i) (omega arith) (l .loop .inv)
+    ∙ ap (λ (z : ℤ). countOf (inGroup z (s .args .limit)) (pairsOf (s .args .catalogue .now) (s .args .fit .now))) (toZ-ofZ w32 (s .args .group) (s .fits .group))
+
+pub count-in-group-spec : {M : Type 1} → statement M
+count-in-group-spec =
+    tie.close
+    (tie.spec
+    Inv-loop
+    μ-loop
+    pair-count-requires
+    loop-holds
+    in-group-requires
+    one-if-requires
+    add-used
+    add-i
+    loop-less
+    loop-again
+    returns)

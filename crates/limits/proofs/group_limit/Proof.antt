@@ -1,0 +1,101 @@
+-- `limits::group_limit` meets its contract, by whether the name is there.
+use Prim.Native.Nat.{_-_}
+use native.Mathlib.Omega.{arith}
+use mathlib.Core.Path.{_≡_, sym, ap, _∙_}
+use mathlib.Core.Option.{some}
+use mir.Syntax.{w32}
+use mir.Val.{toZ, ofZ}
+use mir.ValLaws.{toZ-ofZ}
+use borrow.Author.Needs.{needs}
+use Rattle.catalogue.specs.Catalogue.{catalogueOf}
+use Rattle.catalogue.specs.Lookups.{nameId}
+use Rattle.catalogue.specs.Answers.{idOf}
+use Rattle.entry.proofs.Wrote.{wrote-length}
+use Rattle.context.specs.Context.{context}
+use Rattle.context.specs.Gathered.{contextOf, pairsOf}
+use Rattle.item.proofs.Loops.{Passed, passed-none, passed-more, passed-all}
+use Rattle.item.specs.AtPair.{groupLimitAt}
+use Rattle.limits.proofs.Limits.{group-few, group-no-name, group-each}
+use Rattle.limits.proofs.group_limit.Statement.{statement}
+use Rattle.limits.proofs.group_limit.Tie as tie
+
+abbrev Inv-loop : tie.InvT-loop
+Inv-loop catalogue fit starts groups limit name out₀ n id count m₀ i₀ out m i =
+    Passed catalogue fit (groupLimitAt limit (toZ w32 id) (pairsOf catalogue fit)) out₀ n out m i
+
+abbrev μ-loop : tie.MeasureT-loop
+μ-loop catalogue fit starts groups limit name out₀ n id count m₀ i₀ out m i = count - i
+
+-- the id that was looked up, as the calls after it read it
+named : (h : tie.After-pair-count Inv-loop μ-loop) → let a = h .before .before .before .before .before .before .before .before .args in nameId (catalogueOf (a .catalogue .now) .names) (a .name) ≡ some (toZ w32 (ofZ w32 (h .before .before .answer .given .0 .0)))
+named h =
+    let m = h .before .before in
+    sym (m .before .before .attribute-id .ensures) ∙ ap idOf (m .answer .given .1)
+    ∙ ap some (sym (toZ-ofZ w32 (m .answer .given .0 .0) (record { sfits = h .before .known-told .given .0 .1 })))
+
+attribute-id-requires : tie.Need-attribute-id-requires Inv-loop μ-loop
+attribute-id-requires c κs = search needs
+
+enum-known-answer : tie.Need-enum-known-answer Inv-loop μ-loop
+enum-known-answer c = search needs
+
+enum-told : tie.Need-enum-told Inv-loop μ-loop
+enum-told c = search needs
+
+returns : tie.Need-returns Inv-loop μ-loop
+unfolding contextOf context
+returns c =
+    let f = c .before .before in
+    let a = f .before .before .before .before .args in
+    (group-no-name (contextOf (a .catalogue .now) (a .fit .now)) (pairsOf (a .catalogue .now) (a .fit .now)) (a .limit) (a .name) (sym (f .attribute-id .ensures) ∙ ap idOf (c .enum-told .given .1)), omega arith)
+
+pair-count-requires : tie.Need-pair-count-requires Inv-loop μ-loop
+pair-count-requires c κs = search needs
+
+loop-holds : tie.Need-loop-holds Inv-loop μ-loop
+loop-holds c = passed-none _ _ _ _ _
+
+group-limit-at-requires : tie.Need-group-limit-at-requires Inv-loop μ-loop
+group-limit-at-requires c κs = search needs
+
+add-i : tie.Need-add-i Inv-loop μ-loop
+add-i c = search needs
+
+loop-less : tie.Need-loop-less Inv-loop μ-loop
+loop-less c = search needs
+
+loop-again : tie.Need-loop-again Inv-loop μ-loop
+loop-again c =
+    let l = c .before .before .before .before .before in
+    passed-more _ _ _ (group-few _ _ _) (omega arith) (l .loop .inv) (c .before .before .group-limit-at .ensures)
+
+same-length : tie.Need-same-length Inv-loop μ-loop
+same-length c = wrote-length (c .before .loop .inv .wrote)
+
+returns-2 : tie.Need-returns-2 Inv-loop μ-loop
+unfolding contextOf context
+returns-2 c =
+    let l = c .before in
+    let h = l .before in
+    let s = h .before .before .before .before .before .before .before .before in
+    let w = passed-all (s .args .catalogue .now) (s .args .fit .now) _ (s .pre .0 .fit-sound) (omega arith) (l .loop .inv) in
+    (group-each (contextOf (s .args .catalogue .now) (s .args .fit .now)) (pairsOf (s .args .catalogue .now) (s .args .fit .now)) (s .args .limit) (s .args .name) _ (named h) (w .0), w .1)
+
+pub group-limit-spec : {M : Type 1} → statement M
+group-limit-spec =
+    tie.close
+    (tie.spec
+    Inv-loop
+    μ-loop
+    attribute-id-requires
+    enum-known-answer
+    enum-told
+    returns
+    pair-count-requires
+    loop-holds
+    group-limit-at-requires
+    add-i
+    loop-less
+    loop-again
+    same-length
+    returns-2)

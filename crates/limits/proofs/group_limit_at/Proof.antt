@@ -1,0 +1,109 @@
+-- `limits::group_limit_at` meets its contract, by whether the item has the limit and is fitted.
+use Prim.Native.Nat.{_+_}
+use mathlib.Core.Path.{_≡_, sym, ap, _∙_}
+use lib.IntN.{ℤ}
+use mir.Syntax.{w32}
+use mir.Val.{toZ, ofZ}
+use mir.ValLaws.{toZ-ofZ}
+use borrow.Author.Tests.{not-true, not-false}
+use Rattle.words.specs.Words.{countOf}
+use Rattle.floats.specs.Values.{valueOf}
+use Rattle.fit.specs.Fit.{resultOf}
+use Rattle.fit.specs.Lookups.{value}
+use Rattle.context.specs.Gathered.{pairAt, pairsOf}
+use Rattle.item.specs.Item.{inGroup}
+use Rattle.limits.proofs.Limits.{group-missing, group-unfitted, group-fitted}
+use borrow.Author.Needs.{needs}
+use Rattle.limits.proofs.group_limit_at.Statement.{statement}
+use Rattle.limits.proofs.group_limit_at.Tie as tie
+
+-- the value that was looked up, under the id itself
+told : (c : tie.After-value) → let a = c .before .before .before .before .args in valueOf (c .value .result) ≡ value (resultOf (a .fit .now) (a .i + 2)) (a .id)
+told c =
+    let s = c .before .before .before .before in
+    c .value .ensures ∙ ap (value (resultOf (s .args .fit .now) (s .args .i + 2))) (toZ-ofZ w32 (s .args .id) (s .fits .id))
+
+add-value : tie.Need-add-value
+add-value c = search needs
+
+value-requires : tie.Need-value-requires
+value-requires c κs = search needs
+
+enum-known-answer : tie.Need-enum-known-answer
+enum-known-answer c = search needs
+
+enum-told : tie.Need-enum-told
+enum-told c = search needs
+
+returns : tie.Need-returns
+returns c =
+    let v = c .before .before in
+    let a = v .before .before .before .before .args in
+    group-missing (a .limit) (a .id) (pairsOf (a .catalogue .now) (a .fit .now)) (pairAt (a .catalogue .now) (a .fit .now) (a .i)) (sym (told v) ∙ ap valueOf (c .enum-told .given .1))
+
+is-fitted-requires : tie.Need-is-fitted-requires
+is-fitted-requires c κs = search needs
+
+returns-2 : tie.Need-returns-2
+returns-2 c =
+    let f = c .before in
+    let m = f .before .before in
+    let v = m .before .before in
+    let a = v .before .before .before .before .args in
+    group-unfitted (a .limit) (a .id) (pairsOf (a .catalogue .now) (a .fit .now)) (pairAt (a .catalogue .now) (a .fit .now) (a .i)) (sym (told v) ∙ ap valueOf (m .answer .given .1))
+    (sym (f .is-fitted .ensures (a .catalogue .now)) ∙ not-true _ (c .if1 .taken))
+
+id-at-requires : tie.Need-id-at-requires
+id-at-requires c κs = search needs
+
+count-in-group-requires : tie.Need-count-in-group-requires
+count-in-group-requires c κs = search needs
+
+to-u32-requires : tie.Need-to-u32-requires
+to-u32-requires c κs = search needs
+
+cast-t20 : tie.Need-cast-t20
+cast-t20 c = search needs
+
+emit-when-requires : tie.Need-emit-when-requires
+emit-when-requires c κs = search needs
+
+same-length : tie.Need-same-length
+same-length c = search needs
+
+returns-3 : tie.Need-returns-3
+returns-3 c =
+    let w = c .before .before in
+    let u = w .before .before in
+    let g = u .before .before in
+    let f = g .before .before in
+    let m = f .before .before in
+    let v = m .before .before in
+    let s = v .before .before .before .before in
+    let a = s .args in
+    let ps = pairsOf (a .catalogue .now) (a .fit .now) in
+    let p = pairAt (a .catalogue .now) (a .fit .now) (a .i) in
+    let z : toZ w32 (ofZ w32 (g .id-at .result)) ≡ p .group =
+    toZ-ofZ w32 (g .id-at .result) (record { sfits = g .id-at .ok }) ∙ g .id-at .ensures ∙ s .pre .3 (a .i) (s .pre .1) in
+    group-fitted (a .limit) (a .id) ps p (sym (told v) ∙ ap valueOf (m .answer .given .1))
+    (sym (f .is-fitted .ensures (a .catalogue .now)) ∙ not-false _ (g .before .if1 .left))
+    z (u .before .count-in-group .ensures ∙ ap (λ (y : ℤ). countOf (inGroup y (a .limit)) ps) z) (u .to-u32 .ensures) (w .emit-when .ensures)
+
+pub group-limit-at-spec : {M : Type 1} → statement M
+group-limit-at-spec =
+    tie.close
+    (tie.spec
+    add-value
+    value-requires
+    enum-known-answer
+    enum-told
+    returns
+    is-fitted-requires
+    returns-2
+    id-at-requires
+    count-in-group-requires
+    to-u32-requires
+    cast-t20
+    emit-when-requires
+    same-length
+    returns-3)

@@ -1,0 +1,79 @@
+-- `limits::group_limits` meets its contract. The invariant: what the rows passed say was written, at most 256 entries each.
+use Prim.Native.Nat.{_+_, _-_, _*_, _≤_}
+use native.Mathlib.Omega.{arith}
+use lib.ListN.{take}
+use borrow.Author.Needs.{needs}
+use Rattle.words.specs.Words.{each}
+use Rattle.entry.specs.Wrote.{Wrote}
+use Rattle.entry.proofs.Wrote.{wrote-length}
+use Rattle.context.specs.Gathered.{contextOf, pairsOf}
+use Rattle.item.specs.Item.{GROUP-LIMITS}
+use Rattle.item.specs.AtPair.{groupLimit}
+use Rattle.limits.proofs.Limits.{limits-none, limits-next, limits-all}
+use Rattle.limits.proofs.group_limits.Statement.{statement}
+use Rattle.limits.proofs.group_limits.Tie as tie
+
+abbrev Inv-loop : tie.InvT-loop
+Inv-loop catalogue fit starts groups out₀ n m₀ k₀ out m k =
+    (k ≤ 3) × (m ≤ n + 256 * k) × Wrote out₀ n out m (each (take k GROUP-LIMITS) (groupLimit (contextOf catalogue fit) (pairsOf catalogue fit)))
+
+abbrev μ-loop : tie.MeasureT-loop
+μ-loop catalogue fit starts groups out₀ n m₀ k₀ out m k = 3 - k
+
+loop-holds : tie.Need-loop-holds Inv-loop μ-loop
+loop-holds c = (omega arith, omega arith, limits-none _ _ _ _)
+
+mul-limit : tie.Need-mul-limit Inv-loop μ-loop
+mul-limit c = search needs
+
+array-read-limit : tie.Need-array-read-limit Inv-loop μ-loop
+array-read-limit c = search needs
+
+mul-name : tie.Need-mul-name Inv-loop μ-loop
+mul-name c = search needs
+
+add-name : tie.Need-add-name Inv-loop μ-loop
+add-name c = search needs
+
+array-read-name : tie.Need-array-read-name Inv-loop μ-loop
+array-read-name c = search needs
+
+group-limit-requires : tie.Need-group-limit-requires Inv-loop μ-loop
+group-limit-requires c κs = search needs
+
+add-k : tie.Need-add-k Inv-loop μ-loop
+add-k c = search needs
+
+loop-less : tie.Need-loop-less Inv-loop μ-loop
+loop-less c = search needs
+
+loop-again : tie.Need-loop-again Inv-loop μ-loop
+loop-again c =
+    let l = c .before .before .before .before .before in
+    let w = c .before .before .group-limit .ensures in
+    (omega arith, omega (arith, w .1, l .loop .inv .1), limits-next _ _ (l .loop .k) (omega arith) (l .loop .inv .2) (w .0))
+
+same-length : tie.Need-same-length Inv-loop μ-loop
+same-length c = wrote-length (c .before .loop .inv .2)
+
+returns : tie.Need-returns Inv-loop μ-loop
+returns c = (limits-all _ _ (c .loop-test .left) (c .before .loop .inv .2), omega (arith, c .before .loop .inv .0, c .before .loop .inv .1))
+
+pub group-limits-spec : {M : Type 1} → statement M
+group-limits-spec =
+    tie.close
+    (tie.spec
+    Inv-loop
+    μ-loop
+    loop-holds
+    mul-limit
+    array-read-limit
+    mul-name
+    add-name
+    array-read-name
+    group-limit-requires
+    add-k
+    loop-less
+    loop-again
+    same-length
+    returns)

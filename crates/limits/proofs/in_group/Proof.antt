@@ -1,0 +1,59 @@
+-- `limits::in_group` meets its contract: three tests.
+use mathlib.Core.Path.{_≡_, ap, ap₂, _∙_}
+use mathlib.Core.Bool.{_&&_}
+use lib.Dec.{leb}
+use mir.Syntax.{w32}
+use mir.ValLaws.{toZ-ofZ}
+use Rattle.words.specs.Words.{same}
+use Rattle.context.specs.Gathered.{pairAt}
+use Rattle.item.specs.Item.{inGroup}
+use borrow.Author.Needs.{needs}
+use Rattle.limits.proofs.in_group.Statement.{statement}
+use Rattle.limits.proofs.in_group.Tie as tie
+
+is-fitted-requires : tie.Need-is-fitted-requires
+is-fitted-requires c κs = search needs
+
+id-at-requires : tie.Need-id-at-requires
+id-at-requires c κs = search needs
+
+same-id-requires : tie.Need-same-id-requires
+same-id-requires c κs = search needs
+
+add-result-state : tie.Need-add-result-state
+add-result-state c = search needs
+
+result-state-requires : tie.Need-result-state-requires
+result-state-requires c κs = search needs
+
+both-requires : tie.Need-both-requires
+both-requires c κs = search needs
+
+both-requires-2 : tie.Need-both-requires-2
+both-requires-2 c κs = search needs
+
+returns : tie.Need-returns
+unfolding inGroup
+returns c =
+    let t = c .before .before .before in
+    let s = t .before .before .before .before .before in
+    let a = s .args in
+    let p = pairAt (a .catalogue .now) (a .fit .now) (a .i) in
+    let alike : t .same-id .result ≡ same (p .group) (a .group) =
+    t .same-id .ensures
+    ∙ ap₂ same (toZ-ofZ w32 (t .before .id-at .result) (record { sfits = t .before .id-at .ok }) ∙ t .before .id-at .ensures ∙ s .pre .2 (a .i) (s .pre .1)) (toZ-ofZ w32 (a .group) (s .fits .group)) in
+    c .both2 .ensures
+    ∙ ap₂ _&&_ (c .before .both .ensures ∙ ap₂ _&&_ (t .before .before .is-fitted .ensures (a .catalogue .now)) alike) (ap (leb (a .limit)) (c .before .before .result-state .ensures))
+
+pub in-group-spec : {M : Type 1} → statement M
+in-group-spec =
+    tie.close
+    (tie.spec
+    is-fitted-requires
+    id-at-requires
+    same-id-requires
+    add-result-state
+    result-state-requires
+    both-requires
+    both-requires-2
+    returns)
