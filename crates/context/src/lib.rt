@@ -3,7 +3,6 @@ use catalogue::SlotAnswer;
 use catalogue::TypeAnswer;
 use catalogue::TypeInfo;
 ghost use mathlib.Core.Path.{_≡_};
-ghost use mathlib.Core.Bool.{_&&_, _||_, cond};
 ghost use mathlib.Core.List.{List};
 ghost use Prim.Native.Nat.{ℕ, _+_, _<_, _≤_};
 ghost use lib.Dec.{leb};
@@ -155,31 +154,6 @@ pub fn is_module_category(category: i32) -> bool
         return true;
     }
     same_id(category, 66)
-}
-
-pub fn both(a: bool, b: bool) -> bool
-    ensures { λ r. ⌜ r ≡ (a && b) ⌝ }
-{
-    if a { b } else { false }
-}
-
-pub fn either(a: bool, b: bool) -> bool
-    ensures { λ r. ⌜ r ≡ (a || b) ⌝ }
-{
-    if a { true } else { b }
-}
-
-// What a test adds to a count.
-pub fn one_if(b: bool) -> u32
-    ensures { λ r. ⌜ (r ≡ cond b 1 0) × (r ≤ 1) ⌝ }
-{
-    b as u32
-}
-
-pub fn wide(n: u8) -> u32
-    ensures { λ r. ⌜ r ≡ n ⌝ }
-{
-    n as u32
 }
 
 pub fn slot_at(slots: &[u8; 256], i: usize) -> u8

@@ -70,18 +70,6 @@ pub struct Listing {
     pub has: bool,
 }
 
-fn either(a: bool, b: bool) -> bool
-    ensures { λ r. ⌜ r ≡ (a || b) ⌝ }
-{
-    if a { true } else { b }
-}
-
-pub fn both(a: bool, b: bool) -> bool
-    ensures { λ r. ⌜ r ≡ (a && b) ⌝ }
-{
-    if a { b } else { false }
-}
-
 // The group or the category of pair i, from where they were gathered.
 pub fn id_at(ids: &[i32; 256], i: usize) -> i32
     requires { ⌜ i < 256 ⌝ }
@@ -203,7 +191,7 @@ fn rig_size_at(
     entry::emit_when(
         out,
         n,
-        both(is_in_rig(fit, i), size != ship),
+        image::both(is_in_rig(fit, i), size != ship),
         Entry {
             target: Target::Item(i as u32),
             rule: Rule::RigSize(floats::to_u8(ship), floats::to_u8(size)),
@@ -266,7 +254,7 @@ fn any_flagged(ids: &[u8], flags: &[bool; 8192]) -> bool
     let mut found = false;
     let mut k = 0;
     while k < count {
-        found = either(found, flag_at(ids, k, flags));
+        found = image::either(found, flag_at(ids, k, flags));
         k += 1;
     }
     found
@@ -314,8 +302,8 @@ fn listed(fit: &[u8], starts: &[u32; 259], j: usize, codes: &[u64], id: i32) -> 
     let mut k = 0;
     while k < codes.len() {
         let one = listed_under(fit, starts, j, codes[k], id);
-        any = either(any, one.any);
-        has = either(has, one.has);
+        any = image::either(any, one.any);
+        has = image::either(has, one.has);
         k += 1;
     }
     Listing { any, has }
@@ -331,7 +319,7 @@ fn is_restricted(types: Listing, groups: Listing) -> bool
     if groups.has {
         return false;
     }
-    either(types.any, groups.any)
+    image::either(types.any, groups.any)
 }
 
 fn ship_restricted_at(

@@ -37,12 +37,6 @@ fn stand(x: u32, y: u32, strict: bool) -> bool
     if strict { x < y } else { x <= y }
 }
 
-fn both(a: bool, b: bool) -> bool
-    ensures { λ r. ⌜ r ≡ (a && b) ⌝ }
-{
-    if a { b } else { false }
-}
-
 // Whether each of the n keys and the next stand in order. The verdict is gathered and the loop runs to its end, so that the
 // compiler can take many keys at once.
 fn ordered(keys: &[u8], n: usize, bias: u32, strict: bool) -> bool
@@ -54,7 +48,7 @@ fn ordered(keys: &[u8], n: usize, bias: u32, strict: bool) -> bool
     while i < n {
         let x = biased_at(keys, i - 1, bias);
         let y = biased_at(keys, i, bias);
-        ok = both(ok, stand(x, y, strict));
+        ok = image::both(ok, stand(x, y, strict));
         i += 1;
     }
     ok

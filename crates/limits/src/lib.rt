@@ -19,12 +19,6 @@ ghost use Rattle.item.specs.AtPair.{groupLimitAt, groupLimit, typeLimitAt, limi
 // A group limit, which is the least state that it counts, and its attribute.
 const GROUP_LIMITS: [u8; 6] = [0, 72, 1, 73, 2, 74];
 
-fn one_if(test: bool) -> u32
-    ensures { λ r. ⌜ (r ≡ cond test 1 0) × (r ≤ 1) ⌝ }
-{
-    if test { 1 } else { 0 }
-}
-
 // Whether a fitted pair of the group is in a state that the limit looks at. All is read before it is tested, so that the
 // compiler can take many pairs at once.
 fn in_group(
@@ -41,7 +35,7 @@ fn in_group(
     let fitted = item::is_fitted(fit, i);
     let alike = context::same_id(item::id_at(groups, i), group);
     let state = fit::result_state(fit, i + 2);
-    item::both(item::both(fitted, alike), limit <= state)
+    image::both(image::both(fitted, alike), limit <= state)
 }
 
 fn count_in_group(catalogue: &[u8], fit: &[u8], groups: &[i32; 256], group: i32, limit: u8) -> u32
@@ -52,7 +46,7 @@ fn count_in_group(catalogue: &[u8], fit: &[u8], groups: &[i32; 256], group: i32,
     let mut used: u32 = 0;
     let mut i = 0;
     while i < count {
-        used += one_if(in_group(catalogue, fit, groups, group, limit, i));
+        used += image::one_if(in_group(catalogue, fit, groups, group, limit, i));
         i += 1;
     }
     used
@@ -148,7 +142,7 @@ fn of_type(fit: &[u8], id: i32, i: usize) -> bool
 {
     let fitted = item::is_fitted(fit, i);
     let alike = context::same_id(fit::item_type(fit, i), id);
-    item::both(fitted, alike)
+    image::both(fitted, alike)
 }
 
 fn count_of_type(fit: &[u8], id: i32) -> u32
@@ -159,7 +153,7 @@ fn count_of_type(fit: &[u8], id: i32) -> u32
     let mut used: u32 = 0;
     let mut i = 0;
     while i < count {
-        used += one_if(of_type(fit, id, i));
+        used += image::one_if(of_type(fit, id, i));
         i += 1;
     }
     used

@@ -184,12 +184,6 @@ fn load_row(
     }
 }
 
-fn wide(x: u8) -> u32
-    ensures { λ r. ⌜ r ≡ x ⌝ }
-{
-    x as u32
-}
-
 fn load_at(
     catalogue: &[u8],
     fit: &[u8],
@@ -202,8 +196,8 @@ fn load_at(
     ensures { λ r. ⌜ Wrote (now (out .entry)) n (now (out .exit)) r (loadOf (contextOf (now (catalogue .entry)) (now (fit .entry))) (getD Resource.LOADS i (0, 0, 0))) ⌝ }
 {
     let kind = LOADS[3 * i];
-    let load = wide(LOADS[3 * i + 1]);
-    let output = wide(LOADS[3 * i + 2]);
+    let load = image::wide32(LOADS[3 * i + 1]);
+    let output = image::wide32(LOADS[3 * i + 2]);
     load_row(catalogue, fit, starts, kind, load, output, out, n)
 }
 

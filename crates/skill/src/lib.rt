@@ -58,12 +58,6 @@ impl Walk {
     }
 }
 
-fn either(a: bool, b: bool) -> bool
-    ensures { λ r. ⌜ r ≡ (a || b) ⌝ }
-{
-    if a { true } else { b }
-}
-
 // Whether an id is among the first len. The loop runs to its end, so that the compiler can take many ids at once.
 fn is_among(ids: &[i32; 512], len: usize, id: i32) -> bool
     requires { ⌜ len ≤ 512 ⌝ }
@@ -73,7 +67,7 @@ fn is_among(ids: &[i32; 512], len: usize, id: i32) -> bool
     let mut i: usize = 0;
     while i < len {
         let x = ids[i];
-        found = either(found, context::same_id(x, id));
+        found = image::either(found, context::same_id(x, id));
         i += 1;
     }
     found

@@ -111,7 +111,7 @@ fn push_unless(
     requires { ⌜ n < 4294967296 ⌝ }
     ensures { λ r. ⌜ (r ≤ n + 1) × Wrote (now (out .entry)) n (now (out .exit)) r (when (there && not (same (item .category) category)) (onItem (item .at) rule)) ⌝ }
 {
-    let test = context::both(there, !context::same_id(item.category, category));
+    let test = image::both(there, !context::same_id(item.category, category));
     push_when(item, test, rule, out, n)
 }
 
@@ -120,10 +120,10 @@ fn wrong_slot(item: Item, out: &mut [u8], n: usize) -> usize
     ensures { λ r. ⌜ Checked item Slot.wrongSlot (now (out .entry)) n (now (out .exit)) r ⌝ }
 {
     let rack = item.rack;
-    let misplaced = context::both(context::is_fitted(item.slot), item.slot != rack);
+    let misplaced = image::both(context::is_fitted(item.slot), item.slot != rack);
     push_when(
         item,
-        context::both(rack < 8, misplaced),
+        image::both(rack < 8, misplaced),
         Rule::WrongSlot(rack),
         out,
         n,
@@ -134,7 +134,7 @@ fn not_a_module(item: Item, out: &mut [u8], n: usize) -> usize
     requires { ⌜ n < 4294967296 ⌝ }
     ensures { λ r. ⌜ Checked item Slot.notAModule (now (out .entry)) n (now (out .exit)) r ⌝ }
 {
-    let test = context::both(
+    let test = image::both(
         context::is_fitted(item.slot),
         !context::is_module_category(item.category),
     );
@@ -153,7 +153,7 @@ fn not_a_fighter(item: Item, out: &mut [u8], n: usize) -> usize
     requires { ⌜ n < 4294967296 ⌝ }
     ensures { λ r. ⌜ Checked item Slot.notAFighter (now (out .entry)) n (now (out .exit)) r ⌝ }
 {
-    let there = context::either(item.slot == FIGHTER_TUBE, item.slot == FIGHTER_BAY);
+    let there = image::either(item.slot == FIGHTER_TUBE, item.slot == FIGHTER_BAY);
     push_unless(item, there, CATEGORY_FIGHTER, Rule::NotAFighter, out, n)
 }
 
@@ -161,7 +161,7 @@ fn not_an_implant(item: Item, out: &mut [u8], n: usize) -> usize
     requires { ⌜ n < 4294967296 ⌝ }
     ensures { λ r. ⌜ Checked item Slot.notAnImplant (now (out .entry)) n (now (out .exit)) r ⌝ }
 {
-    let there = context::either(item.slot == IMPLANT, item.slot == BOOSTER);
+    let there = image::either(item.slot == IMPLANT, item.slot == BOOSTER);
     push_unless(item, there, CATEGORY_IMPLANT, Rule::NotAnImplant, out, n)
 }
 
@@ -169,8 +169,8 @@ fn not_an_implant(item: Item, out: &mut [u8], n: usize) -> usize
 fn holds_one(slot: u8) -> bool
     ensures { λ r. ⌜ ((p : Pair) → slot ≡ p .slot → r ≡ Slot.holdsOne p) ⌝ }
 {
-    let bay = context::either(slot == DRONE_BAY, slot == FIGHTER_BAY);
-    !context::either(bay, slot == CARGO)
+    let bay = image::either(slot == DRONE_BAY, slot == FIGHTER_BAY);
+    !image::either(bay, slot == CARGO)
 }
 
 fn position(item: Item) -> usize
@@ -212,7 +212,7 @@ fn shares_slot(fit: &[u8], places: &[u32; 256], item: Item) -> bool
     let mut there: u32 = 0;
     let mut j: usize = 0;
     while j < pairs {
-        there += context::one_if(places[j] == place);
+        there += image::one_if(places[j] == place);
         j += 1;
     }
     1 < there
@@ -329,7 +329,7 @@ fn shares_part(fit: &[u8], starts: &[u32; 259], item: Item, id: i32, part: f64) 
     let mut found = false;
     let mut j = 0;
     while j < count {
-        found = context::either(found, same_part(fit, starts, item, id, part, j));
+        found = image::either(found, same_part(fit, starts, item, id, part, j));
         j += 1;
     }
     found

@@ -12,20 +12,13 @@ pub struct Words {
     pub new: u64,
 }
 
-// A byte is below 256.
-fn wide(x: u8) -> u32
-    ensures { λ r. ⌜ (r ≡ x) × (r < 256) ⌝ }
-{
-    x as u32
-}
-
 // What a slice holds are bytes; each is looked at, so that this is proved of it. How many there are.
 fn bytes(b: &[u8]) -> usize
     ensures { λ r. ⌜ Bytes (now (b .entry)) ⌝ }
 {
     let mut i: usize = 0;
     while i < b.len() {
-        let _ = wide(b[i]);
+        let _ = image::wide32(b[i]);
         i += 1;
     }
     i

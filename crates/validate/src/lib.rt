@@ -31,12 +31,6 @@ const GROUP_CONTAINERS: [i32; 4] = [12, 340, 448, 649];
 
 const GROUP_SHIP_MODIFIERS: i32 = 1306;
 
-fn either(a: bool, b: bool) -> bool
-    ensures { λ r. ⌜ r ≡ (a || b) ⌝ }
-{
-    if a { true } else { b }
-}
-
 fn is_container(group: i32) -> bool
     ensures { λ r. ⌜ r ≡ contains group (pos 12 ∷ pos 340 ∷ pos 448 ∷ pos 649 ∷ []) ⌝ }
 {
@@ -44,7 +38,7 @@ fn is_container(group: i32) -> bool
     let b = context::same_id(group, GROUP_CONTAINERS[1]);
     let c = context::same_id(group, GROUP_CONTAINERS[2]);
     let d = context::same_id(group, GROUP_CONTAINERS[3]);
-    either(either(a, b), either(c, d))
+    image::either(image::either(a, b), image::either(c, d))
 }
 
 // A category of ships or structures, or a group of containers.

@@ -12,7 +12,6 @@ use Rattle.keys.proofs.ordered.Tie as tie
 use Rattle.keys.proofs.ordered.Reads as reads
 use Rattle.keys.proofs.ordered.Lts as lts
 use Rattle.keys.proofs.biased_at.Reads as biased-at-reads
-use Rattle.keys.proofs.both.Reads as both-reads
 use Rattle.keys.proofs.stand.Reads as stand-reads
 
 abbrev Inv-loop : tie.InvT-loop

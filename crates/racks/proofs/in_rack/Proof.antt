@@ -15,7 +15,6 @@ use Rattle.racks.proofs.in_rack.Reads as reads
 use Rattle.racks.proofs.in_rack.Lts as lts
 use Rattle.fit.proofs.pair_count.Reads as pair-count-reads
 use Rattle.context.proofs.is_in.Reads as is-in-reads
-use Rattle.context.proofs.one_if.Reads as one-if-reads
 
 abbrev Inv-loop : tie.InvT-loop
 Inv-loop fit slot count used₀ i₀ used i = (i ≤ count) × ((used ≤ i) × ((catalogue : List ℕ) → used ≡ countOf (isIn slot) (table i (pairAt catalogue fit))))

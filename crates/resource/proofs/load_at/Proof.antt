@@ -17,29 +17,29 @@ mul-kind c = search needs
 array-read-kind : tie.Need-array-read-kind
 array-read-kind c = search needs
 
-mul-wide : tie.Need-mul-wide
-mul-wide c = search needs
+mul-wide32 : tie.Need-mul-wide32
+mul-wide32 c = search needs
 
-add-wide : tie.Need-add-wide
-add-wide c = search needs
+add-wide32 : tie.Need-add-wide32
+add-wide32 c = search needs
 
-array-read-wide : tie.Need-array-read-wide
-array-read-wide c = search needs
+array-read-wide32 : tie.Need-array-read-wide32
+array-read-wide32 c = search needs
 
-wide-requires : tie.Need-wide-requires
-wide-requires c κs = search needs
+wide32-requires : tie.Need-wide32-requires
+wide32-requires c κs = search needs
 
-mul-wide-2 : tie.Need-mul-wide-2
-mul-wide-2 c = search needs
+mul-wide32-2 : tie.Need-mul-wide32-2
+mul-wide32-2 c = search needs
 
-add-wide-2 : tie.Need-add-wide-2
-add-wide-2 c = search needs
+add-wide32-2 : tie.Need-add-wide32-2
+add-wide32-2 c = search needs
 
-array-read-wide-2 : tie.Need-array-read-wide-2
-array-read-wide-2 c = search needs
+array-read-wide32-2 : tie.Need-array-read-wide32-2
+array-read-wide32-2 c = search needs
 
-wide-requires-2 : tie.Need-wide-requires-2
-wide-requires-2 c κs = search needs
+wide32-requires-2 : tie.Need-wide32-requires-2
+wide32-requires-2 c κs = search needs
 
 load-row-requires : tie.Need-load-row-requires
 load-row-requires c κs = search needs
@@ -53,7 +53,7 @@ returns c =
     let i = s .args .i in
     let x = contextOf (s .args .catalogue .now) (s .args .fit .now) in
     let h : i < 10 = s .pre .1 in
-    let e : (getD rows (3 * i) 0, c .before .before .before .before .before .wide .result, c .before .before .before .before .wide2 .result) ≡ getD LOADS i (0, 0, 0) = row-same (row-kind i h) (c .before .before .before .before .before .wide .ensures ∙ row-load i h) (c .before .before .before .before .wide2 .ensures ∙ row-output i h) in
+    let e : (getD rows (3 * i) 0, c .before .before .before .before .before .wide32 .result, c .before .before .before .before .wide322 .result) ≡ getD LOADS i (0, 0, 0) = row-same (row-kind i h) (c .before .before .before .before .before .wide32 .ensures .0 ∙ row-load i h) (c .before .before .before .before .wide322 .ensures .0 ∙ row-output i h) in
     wrote-same (ap (loadOf x) e) (c .before .before .load-row .ensures)
 
 pub load-at-spec : {M : Type 1} → statement M
@@ -62,14 +62,14 @@ load-at-spec =
     (tie.spec
     mul-kind
     array-read-kind
-    mul-wide
-    add-wide
-    array-read-wide
-    wide-requires
-    mul-wide-2
-    add-wide-2
-    array-read-wide-2
-    wide-requires-2
+    mul-wide32
+    add-wide32
+    array-read-wide32
+    wide32-requires
+    mul-wide32-2
+    add-wide32-2
+    array-read-wide32-2
+    wide32-requires-2
     load-row-requires
     same-length
     returns)

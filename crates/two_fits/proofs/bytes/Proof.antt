@@ -16,11 +16,11 @@ abbrev μ-loop : tie.MeasureT-loop
 loop-holds : tie.Need-loop-holds Inv-loop μ-loop
 loop-holds c = (omega arith, λ k h. absurd (omega (arith, h)))
 
-shared-slice-read-wide : tie.Need-shared-slice-read-wide Inv-loop μ-loop
-shared-slice-read-wide c = search needs
+shared-slice-read-wide32 : tie.Need-shared-slice-read-wide32 Inv-loop μ-loop
+shared-slice-read-wide32 c = search needs
 
-wide-requires : tie.Need-wide-requires Inv-loop μ-loop
-wide-requires c κs = search needs
+wide32-requires : tie.Need-wide32-requires Inv-loop μ-loop
+wide32-requires c κs = search needs
 
 add-i : tie.Need-add-i Inv-loop μ-loop
 add-i c = search needs
@@ -32,7 +32,7 @@ loop-again : tie.Need-loop-again Inv-loop μ-loop
 loop-again c =
     let l = c .before .before .before in
     let b = l .before .before .args .b .now in
-    let w = c .wide .ensures in
+    let w = c .wide32 .ensures in
     (omega arith, byte-next b (l .loop .i) (l .loop .inv .1) (omega (arith, w .0, w .1)))
 
 returns : tie.Need-returns Inv-loop μ-loop
@@ -41,4 +41,4 @@ returns c = byte-all (c .before .before .before .args .b .now) (c .before .loop 
 pub bytes-spec : {M : Type 1} → statement M
 bytes-spec =
     tie.close
-    (tie.spec Inv-loop μ-loop loop-holds shared-slice-read-wide wide-requires add-i loop-less loop-again returns)
+    (tie.spec Inv-loop μ-loop loop-holds shared-slice-read-wide32 wide32-requires add-i loop-less loop-again returns)
