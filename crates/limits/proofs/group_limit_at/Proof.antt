@@ -12,6 +12,7 @@ use Rattle.fit.specs.Fit.{resultOf}
 use Rattle.fit.specs.Lookups.{value}
 use Rattle.context.specs.Gathered.{pairAt, pairsOf}
 use Rattle.item.specs.Item.{inGroup}
+use Rattle.item.specs.AtPair.{groupLimitAt}
 use Rattle.limits.proofs.Limits.{group-missing, group-unfitted, group-fitted}
 use borrow.Author.Needs.{needs}
 use Rattle.limits.proofs.group_limit_at.Statement.{statement}
@@ -36,6 +37,7 @@ enum-told : tie.Need-enum-told
 enum-told c = search needs
 
 returns : tie.Need-returns
+unfolding groupLimitAt
 returns c =
     let v = c .before .before in
     let a = v .before .before .before .before .args in
@@ -45,6 +47,7 @@ is-fitted-requires : tie.Need-is-fitted-requires
 is-fitted-requires c κs = search needs
 
 returns-2 : tie.Need-returns-2
+unfolding groupLimitAt
 returns-2 c =
     let f = c .before in
     let m = f .before .before in
@@ -72,6 +75,7 @@ same-length : tie.Need-same-length
 same-length c = search needs
 
 returns-3 : tie.Need-returns-3
+unfolding groupLimitAt
 returns-3 c =
     let w = c .before .before in
     let u = w .before .before in

@@ -7,8 +7,8 @@ use Rattle.words.specs.Words.{each}
 use Rattle.entry.specs.Wrote.{Wrote}
 use Rattle.entry.proofs.Wrote.{wrote-length}
 use Rattle.context.specs.Gathered.{contextOf, pairsOf}
-use Rattle.item.specs.Item.{GROUP-LIMITS}
-use Rattle.item.specs.AtPair.{groupLimit}
+use Rattle.item.specs.Item.{GROUP-LIMITS, groupLimits}
+use Rattle.item.specs.AtPair.{groupLimit, groupLimitAt}
 use Rattle.limits.proofs.Limits.{limits-none, limits-next, limits-all}
 use Rattle.limits.proofs.group_limits.Statement.{statement}
 use Rattle.limits.proofs.group_limits.Tie as tie
@@ -57,7 +57,11 @@ same-length : tie.Need-same-length Inv-loop μ-loop
 same-length c = wrote-length (c .before .loop .inv .2)
 
 returns : tie.Need-returns Inv-loop μ-loop
-returns c = (limits-all _ _ (c .loop-test .left) (c .before .loop .inv .2), omega (arith, c .before .loop .inv .0, c .before .loop .inv .1))
+unfolding groupLimits groupLimit groupLimitAt
+returns c =
+    let l = c .before .loop in
+    let a = c .before .before .before .before .before .args in
+    (limits-all (contextOf (a .catalogue .now) (a .fit .now)) (pairsOf (a .catalogue .now) (a .fit .now)) (c .loop-test .left) (l .inv .2), omega (arith, l .inv .0, l .inv .1))
 
 pub group-limits-spec : {M : Type 1} → statement M
 group-limits-spec =
