@@ -181,9 +181,9 @@ fn first_key(catalogue: &[u8], b: Block, id: i32, hints: &mut [u32]) -> usize
 
 // Looks for four ids at once, and leaves hints.
 fn seek(catalogue: &[u8], b: Block, i: i32, j: i32, k: i32, l: i32, hints: &mut [u32])
-    requires { ⌜ b .at + 4 * b .n ≤ length (now catalogue) ⌝ }
+    requires { ⌜ (b .at + 4 * b .n ≤ length (now catalogue)) × Sorted (take (4 * b .n) (drop (b .at) (now catalogue))) (b .n) ⌝ }
 {
-    let found = keys::four_near(keys_of(catalogue, b), b.n, i, j, k, l);
+    let found = keys::four_from(keys_of(catalogue, b), b.n, i, j, k, l);
     keep(hints, hint_of(b, i, hints.len()), found.a);
     keep(hints, hint_of(b, j, hints.len()), found.b);
     keep(hints, hint_of(b, k, hints.len()), found.c);

@@ -4,9 +4,10 @@ use native.Mathlib.Omega.{arith}
 use mathlib.Core.Path.{_≡_, refl}
 use mathlib.Core.Bool.{Bool, true, false, cond, _||_}
 use mathlib.Core.List.{List}
+use lib.IntN.{ℤ}
 use lib.Dec.{eqb, ltb, leb}
 use borrow.Author.Tests.{eqb-true, ltb-true, ltb-false, leb-true}
-use Rattle.keys.specs.Keys.{keyAt, rankOf, Sorted}
+use Rattle.keys.specs.Keys.{keyAt, rankOf, Sorted, Parts}
 
 -- a quotient is 3 where x is under y, else 2
 pub under-is : (x y : ℕ) → x < 4294967296 → y < 4294967296 → (12884901887 + y - x) / 4294967296 ≡ cond (ltb x y) 3 2
@@ -74,6 +75,10 @@ module _ (keys : List ℕ) (n key r : ℕ) (sorted : Sorted keys n) where
       go true q f = absurd (omega (arith, leb-true n r q, h, g))
       go false q f = omega (arith, sorted r k h g, leb-true key (rankOf (keyAt keys r)) f)
 
--- a step leaves what is left within the keys
-pub kept : (keys : List ℕ) (n key base left half : ℕ) {r : ℕ} → base + left ≤ n → half ≤ left → r ≡ base + cond (ltb (rankOf (keyAt keys (base + half - 1))) key) half 0 → r + (left - half) ≤ n
-kept keys n key base left half h g e = let m = at-most-half half (ltb (rankOf (keyAt keys (base + half - 1))) key) in omega (arith, e, h, g, m)
+-- a search that has nothing left
+pub parted : (keys : List ℕ) (n : ℕ) (id : ℤ) {key base end : ℕ} → key ≡ rankOf id → Searched keys n key base end → end ≤ base → Parts keys n id base
+parted keys n id e s h = record {
+  within = omega (arith, s .within, s .ordered);
+  under = λ k g. omega (arith, s .under k g, e);
+  over = λ k g m. omega (arith, s .over k (omega (arith, g, h)) m, e);
+}

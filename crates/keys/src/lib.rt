@@ -128,10 +128,10 @@ pub fn first_from(keys: &[u8], n: usize, id: i32) -> usize
     skip(keys, base, 1, key)
 }
 
-// A guess at `first_from` of four ids, by its own steps: those of the four do not wait for one another. A guess is all that is
-// asked of it, so that it ensures nothing; `first_near` tests it.
-pub fn four_near(keys: &[u8], n: usize, i: i32, j: i32, k: i32, l: i32) -> Four
-    requires { ⌜ 4 * n ≤ length (now keys) ⌝ }
+// `first_from` of four ids, whose steps do not wait for one another.
+pub fn four_from(keys: &[u8], n: usize, i: i32, j: i32, k: i32, l: i32) -> Four
+    requires { ⌜ (4 * n ≤ length (now keys)) × Sorted (now keys) n ⌝ }
+    ensures { λ r. ⌜ Parts (now (keys .entry)) n i (r .a) × Parts (now (keys .entry)) n j (r .b) × Parts (now (keys .entry)) n k (r .c) × Parts (now (keys .entry)) n l (r .d) ⌝ }
 {
     let p = rank(i);
     let q = rank(j);

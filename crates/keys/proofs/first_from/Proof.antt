@@ -6,7 +6,7 @@ use mir.Syntax.{w32}
 use mir.ValLaws.{toZ-ofZ}
 use mathlib.Core.Path.{_≡_}
 use Rattle.keys.specs.Keys.{rankOf}
-use Rattle.keys.proofs.Skips.{Searched, skipped}
+use Rattle.keys.proofs.Skips.{Searched, skipped, parted}
 use borrow.Author.Needs.{needs}
 use Rattle.keys.proofs.first_from.Statement.{statement}
 use Rattle.keys.proofs.first_from.Tie as tie
@@ -50,12 +50,7 @@ returns : tie.Need-returns Inv-loop μ-loop
 returns c =
     let l = c .before .before .loop in
     let z = c .before .before .before .before .before in
-    let e = c .before .before .before .rank .ensures ∙ ap rankOf (toZ-ofZ w32 (z .args .id) (z .fits .id)) in
-    record {
-      within = omega (arith, l .inv .within);
-      under = λ k h. omega (arith, l .inv .under k h, e);
-      over = λ k h g. omega (arith, l .inv .over k (omega (arith, h, c .if1 .taken)) g, e);
-    }
+    parted (z .args .keys .now) (z .args .n) (z .args .id) (c .before .before .before .rank .ensures ∙ ap rankOf (toZ-ofZ w32 (z .args .id) (z .fits .id))) (l .inv) (omega (arith, c .if1 .taken))
 
 skip-requires-2 : tie.Need-skip-requires-2 Inv-loop μ-loop
 skip-requires-2 c κs =
@@ -66,14 +61,9 @@ returns-2 : tie.Need-returns-2 Inv-loop μ-loop
 returns-2 c =
     let l = c .before .before .before in
     let z = l .before .before .before in
-    let e = l .before .rank .ensures ∙ ap rankOf (toZ-ofZ w32 (z .args .id) (z .fits .id)) in
     let one : l .loop .left ≡ 1 = omega (arith, c .before .if1 .left, c .before .before .loop-test .left) in
     let s = skipped (z .args .keys .now) (z .args .n) _ (l .loop .base) (l .loop .left) 1 (z .pre .1) (l .loop .inv) (omega arith) (omega (arith, one)) (omega (arith, one)) (c .skip2 .ensures) in
-    record {
-      within = omega (arith, s .within);
-      under = λ k h. omega (arith, s .under k h, e);
-      over = λ k h g. omega (arith, s .over k (omega (arith, h, one)) g, e);
-    }
+    parted (z .args .keys .now) (z .args .n) (z .args .id) (l .before .rank .ensures ∙ ap rankOf (toZ-ofZ w32 (z .args .id) (z .fits .id))) s (omega (arith, one))
 
 pub first-from-spec : {M : Type 1} → statement M
 first-from-spec =
