@@ -144,9 +144,11 @@ fn skills(small: &Catalogue, full: &Catalogue) {
 
 fn hall(small: &Catalogue, full: &Catalogue) {
     println!("## (d) A hall of 64, full-size catalogue\n");
-    let fits = of_shape(fits::REALISTIC, HALL);
-    report::hall_table(fits.len(), &subject::hall(full, small, &fits));
-    println!();
+    for (kind, shape) in [("realistic", fits::REALISTIC), ("small", fits::SMALL)] {
+        let fits = of_shape(shape, HALL);
+        report::hall_table(kind, fits.len(), &subject::hall(full, small, &fits));
+        println!();
+    }
 }
 
 fn grown_pairs(small: &Catalogue) -> Vec<List> {

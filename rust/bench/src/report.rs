@@ -76,12 +76,13 @@ pub fn skill_row(title: &str, fits: usize, row: &Skill, scanned: bool) {
     );
 }
 
-pub fn hall_table(fits: usize, row: &Hall) {
+pub fn hall_table(kind: &str, fits: usize, row: &Hall) {
     let scan = row.scans / fits as f64;
     let beyond = row.lists - row.scans;
     println!("| | µs | hall ÷ this |");
     println!("|---|---|---|");
-    let title = format!("(d) hall of {fits}, of which {} faulted", row.faulted);
+    let faulted = row.faulted;
+    let title = format!("(d) hall of {fits} {kind} fits, of which {faulted} faulted");
     println!("| {title} | {} | |", micros(row.hall));
     let small = scan + row.small_lists;
     let what = "one scan of the catalogue, and list calls on the small catalogue";
