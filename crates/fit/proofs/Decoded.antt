@@ -8,8 +8,8 @@ use mathlib.Core.List.{List, map}
 use mathlib.Core.Option.{none, some}
 use lib.ListN.{length, getD, getElem?}
 use Rattle.words.specs.Words.{table, sumOf}
-use Rattle.words.proofs.Tables.{length-table, getD-table, map-table, table-same}
-use Rattle.words.proofs.Elements.{sum-more, sum-none, table-two, elem-table, past-table}
+use Rattle.words.proofs.Tables.{length-table, getD-table, map-table, table-same, sum-more}
+use Rattle.words.proofs.Elements.{sum-none, table-two, elem-table, past-table}
 use Rattle.image.specs.Bytes.{u8At, i32At}
 use Rattle.keys.specs.Keys.{keyAt}
 use Rattle.keys.proofs.Parts.{part-length, part-key}
@@ -114,7 +114,7 @@ module _ (b : List ℕ) where
   unfolding startAt
   sum-starts zero = sum-none (λ r. length (r .attributes)) (resultOf b)
   sum-starts (suc n) =
-      let m = sum-more (λ r. length (r .attributes)) (resultOf b) n in
+      let m = sum-more (resultOf b) (λ r. length (r .attributes)) n in
       let l : length (resultOf b n .attributes) ≡ countAt b n = length-table 0 (countAt b n) _ in
       let q : sumOf (λ r. length (r .attributes)) (table (suc n) (resultOf b)) ≡ sumOf (λ r. length (r .attributes)) (table (n + 1) (resultOf b)) = rw add-one refl in
       let s = sum-starts n in

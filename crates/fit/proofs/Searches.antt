@@ -8,8 +8,7 @@ use lib.ListN.{take, drop}
 use lib.Signed.{ltZ}
 use lib.Ieee.{Float}
 use Rattle.words.specs.Words.{tableFrom, from, find, given, same, inOrder}
-use Rattle.words.proofs.Tables.{find-table}
-use Rattle.words.proofs.Elements.{find-same}
+use Rattle.words.proofs.Tables.{find-table, find-alike}
 use Rattle.image.specs.Bytes.{u8At, i32At}
 use Rattle.floats.specs.Floats.{f64At}
 use Rattle.keys.specs.Keys.{keyAt, Sorted, placeOf}
@@ -49,7 +48,7 @@ module _ (b : List ℕ) where
       let ids = idsPart b (startAt b j) n in
       ap (λ o. given o none (λ x. some (x .value))) (find-table (λ x. same (x .id) id) n (λ i. attributeAt b (startAt b j + i)))
       ∙ passed j (find (λ i. same (attributeAt b (startAt b j + i) .id) id) (from 0 n))
-      ∙ ap (valueAt j) (find-same (λ i. same (attributeAt b (startAt b j + i) .id) id) (λ i. same (keyAt ids i) id) n (λ i h. ap (λ z. same z id) (sym (id-at b (startAt b j) n i h))))
+      ∙ ap (valueAt j) (find-alike (λ i. same (attributeAt b (startAt b j + i) .id) id) (λ i. same (keyAt ids i) id) n (λ i h. ap (λ z. same z id) (sym (id-at b (startAt b j) n i h))))
 
   module _ (j : ℕ) (id : Id) where
     -- an id that stands at place i has the value at place i
@@ -79,7 +78,7 @@ module _ (b : List ℕ) where
   level-found id =
       let n = skillCount b in
       level-from (λ i. i32At b (skillsAt b + 4 * i)) (λ i. u8At b (levelsAt b + i)) id 0 n
-      ∙ ap levelAt (find-same (λ i. same (i32At b (skillsAt b + 4 * i)) id) (λ i. same (keyAt skillIds i) id) n (λ i h. ap (λ z. same z id) (sym (part-key b (skillsAt b) n i h))))
+      ∙ ap levelAt (find-alike (λ i. same (i32At b (skillsAt b + 4 * i)) id) (λ i. same (keyAt skillIds i) id) n (λ i h. ap (λ z. same z id) (sym (part-key b (skillsAt b) n i h))))
 
   module _ (id : Id) where
     -- a skill that stands at place i has the level at place i

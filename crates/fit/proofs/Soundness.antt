@@ -10,7 +10,8 @@ use lib.IntN.{pos}
 use lib.Signed.{ltZ}
 use borrow.Author.Tests.{ltb-false, le-ltb, eq-eqb, eqb-true, ne-eqb, not-false}
 use Rattle.words.specs.Words.{anyOf, inOrder, sumOf, firstOf, same}
-use Rattle.words.proofs.Elements.{or-left, or-right, none-at}
+use Rattle.words.proofs.Tables.{any-false}
+use Rattle.words.proofs.Elements.{or-left, or-right}
 use Rattle.image.specs.Bytes.{u32At, i32At}
 use Rattle.fit.specs.Fit.{Fit, Item, Result, fitOf, skillCount, itemCount, resultCount, attributeCount, sizeOf, itemAt, resultOf, allResults}
 use Rattle.fit.specs.Refusals.{booster, badSize, badOrder, badItem, badResult, badField, fitRefusals, fitRefusal}
@@ -181,11 +182,11 @@ module _ (b : List ℕ) (s : Sound b) where
 
   pub item-good : (i : ℕ) → i < itemCount b → badItem (itemAt b i) ≡ false
   unfolding fitOf
-  item-good i h = none-at badItem (itemAt b) (itemCount b) i h (items-fine (fitOf b) (s .fields))
+  item-good i h = any-false badItem (itemCount b) (itemAt b) (items-fine (fitOf b) (s .fields)) i h
 
   pub result-good : (j : ℕ) → j < resultCount b + 2 → badResult (resultOf b j) ≡ false
   result-good j h =
-      none-at badResult (resultOf b) (resultCount b + 2) j h (ap (anyOf badResult) (sym (all-results b)) ∙ results-fine (fitOf b) (s .fields))
+      any-false badResult (resultCount b + 2) (resultOf b) (ap (anyOf badResult) (sym (all-results b)) ∙ results-fine (fitOf b) (s .fields)) j h
 
   -- the slot kind is 0 to 11
   pub item-slot : (i : ℕ) → i < itemCount b → itemAt b i .slot ≤ 11
@@ -214,5 +215,5 @@ module _ (b : List ℕ) (s : Sound b) where
   unfolding badOrder
   result-order j h =
       not-false (inOrder ltZ (map (λ x. x .id) (resultOf b j .attributes)))
-      (none-at disordered (resultOf b) (resultCount b + 2) j h (ap (anyOf disordered) (sym (all-results b))
-      ∙ or-right (not (inOrder ltZ (fitOf b .skills))) (anyOf disordered (allResults (fitOf b))) (s .order)))
+      (any-false disordered (resultCount b + 2) (resultOf b) (ap (anyOf disordered) (sym (all-results b))
+      ∙ or-right (not (inOrder ltZ (fitOf b .skills))) (anyOf disordered (allResults (fitOf b))) (s .order)) j h)

@@ -20,8 +20,8 @@ use Rattle.fit.specs.Refusals.{fitRefusals, fitRefusal}
 use Rattle.entry.specs.declared.Entry.{Entry}
 use Rattle.validate.specs.Validate.{listOf}
 use Rattle.fitcheck.specs.Calls.{tooManyDrones}
-use Rattle.fitcheck.specs.Hall.{fitCount, lengthAt, fitStart, fits, badInput, fitRefused, isClear, isFaulted, HallAnswer, hallBy, hallCall, hallReturned}
-use Rattle.fitcheck.specs.Halls.{Laid, fitAt, shareOf, wordOf}
+use Rattle.fitcheck.specs.Hall.{fitCount, lengthAt, fitStart, fits, badInput, fitRefused, isClear, isFaulted, HallAnswer, hallBy, hallCall, hallReturned, fitAt}
+use Rattle.fitcheck.specs.Halls.{Laid, shareOf, wordOf}
 use Rattle.fitcheck.proofs.First.{first-small, first-kept, first-past, numbered-catalogue, numbered-fit}
 
 -- ---- where fits stand
@@ -132,20 +132,19 @@ module _ (c : Catalogue) (b : List ℕ) where
 -- ---- the word, one fit more at a time
 module _ (c : Catalogue) (f : ℕ → List ℕ) where
   pub word-none : wordOf c (table 0 f) ≡ 0
-  unfolding wordOf
+  unfolding wordOf hallReturned
   word-none = omega (arith, count-none f (isClear c), count-none f (isFaulted c), count-none f (fitRefused c))
 
   pub word-more : (n : ℕ) → wordOf c (table (n + 1) f) ≡ wordOf c (table n f) + shareOf c (f n)
-  unfolding wordOf shareOf
+  unfolding wordOf hallReturned shareOf
   word-more n = omega (arith, count-more f (isClear c) n, count-more f (isFaulted c) n, count-more f (fitRefused c) n)
 
 -- the part that is lent for fit i
 pub part-fit : (input : List ℕ) (i : ℕ) {at n : ℕ} → at ≡ fitStart input i → n ≡ lengthAt input i → take n (drop at input) ≡ fitAt input i
-unfolding fitAt
 part-fit input i p q = rw (p, q)
 
 pub word-all : (c : Catalogue) (input : List ℕ) → wordOf c (table (fitCount input) (fitAt input)) ≡ wordOf c (fits input)
-unfolding fits fitAt
+unfolding fits
 word-all c input = refl
 
 -- ---- the hall call

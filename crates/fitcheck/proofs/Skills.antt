@@ -13,10 +13,11 @@ use Rattle.catalogue.specs.Catalogue.{catalogueOf}
 use Rattle.catalogue.specs.Refusals.{catalogueRefusals}
 use Rattle.fit.specs.Fit.{Result, fitOf, resultAt, resultOf, resultCount}
 use Rattle.fit.specs.Refusals.{fitRefusals}
-use Rattle.fit.proofs.Decoded.{results-length, result-some}
+use Rattle.fit.proofs.Decoded.{results-length}
 use Rattle.skill.specs.Skill.{tooMany, skillList}
 use Rattle.skill.specs.Held.{WalkedTo}
 use Rattle.skill.specs.declared.Walk.{Walk}
+use Rattle.skill.proofs.Reports.{too-many}
 use Rattle.fitcheck.specs.Calls.{Refused, answer, tooShort, skillCall}
 use Rattle.fitcheck.proofs.First.{numbered-images}
 use Rattle.fitcheck.proofs.Giving.{answer-kept, answer-past}
@@ -31,15 +32,11 @@ module _ (fit : List ℕ) (result : ℕ) where
 
 -- ---- refusal 9
 module _ (catalogue fit : List ℕ) (result : ℕ) (w : Walk) (v : WalkedTo catalogue fit result w) (h : result < resultCount fit + 2) where
-  over : given (resultAt (fitOf fit) result) false (tooMany 512 (catalogueOf catalogue)) ≡ ltb 512 (w .len)
-  unfolding given
-  over = rw (result-some fit result h) (sym (v .over))
-
   pub over-many : 512 < w .len → given (resultAt (fitOf fit) result) false (tooMany 512 (catalogueOf catalogue)) ≡ true
-  over-many l = over ∙ lt-ltb 512 (w .len) l
+  over-many l = sym (too-many catalogue fit result w v h) ∙ lt-ltb 512 (w .len) l
 
   pub over-few : w .len ≤ 512 → given (resultAt (fitOf fit) result) false (tooMany 512 (catalogueOf catalogue)) ≡ false
-  over-few l = over ∙ le-ltb 512 (w .len) l
+  over-few l = sym (too-many catalogue fit result w v h) ∙ le-ltb 512 (w .len) l
 
 -- ---- the call
 module _ (catalogue fit : List ℕ) (result : ℕ) (buffer : List ℕ) where

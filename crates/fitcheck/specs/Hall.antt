@@ -25,8 +25,12 @@ module _ (input : List ℕ) where
   fitStart zero = 4 + 4 * fitCount
   fitStart (suc i) = fitStart i + lengthAt i
 
+  -- its bytes
+  abbrev pub fitAt : ℕ → List ℕ
+  fitAt i = take (lengthAt i) (drop (fitStart i) input)
+
   unfoldable pub fits : List (List ℕ)
-  fits = table fitCount λ i. take (lengthAt i) (drop (fitStart i) input)
+  fits = table fitCount fitAt
 
   -- 4: under 4 bytes, K over 64, or 4 + 4K plus the lengths is not the input's length
   unfoldable pub badInput : Bool
@@ -48,16 +52,17 @@ pub data HallAnswer : Type 0 where
   HallRefused : ℕ → HallAnswer
   Numbers : (clear faulted refused : ℕ) → HallAnswer
 
+-- how many of some fits are clear, faulted and refused
+abbrev pub numbersOf : Catalogue → List (List ℕ) → HallAnswer
+numbersOf c fs = Numbers (countOf (isClear c) fs) (countOf (isFaulted c) fs) (countOf (fitRefused c) fs)
+
 unfoldable pub hallBy : ℕ → HallAnswer → HallAnswer
 hallBy zero a = a
 hallBy (suc n) a = HallRefused (suc n)
 
 unfoldable pub hallCall : (catalogue input : List ℕ) → HallAnswer
 hallCall catalogue input =
-    let c = catalogueOf catalogue in
-    let fs = fits input in
-    hallBy (firstOf (catalogueRefusals catalogue ++ (4, badInput input) ∷ []))
-    (Numbers (countOf (isClear c) fs) (countOf (isFaulted c) fs) (countOf (fitRefused c) fs))
+    hallBy (firstOf (catalogueRefusals catalogue ++ (4, badInput input) ∷ [])) (numbersOf (catalogueOf catalogue) (fits input))
 
 -- clear + 256 * faulted + 65,536 * refused in the count's place
 unfoldable pub hallReturned : HallAnswer → ℕ

@@ -3,10 +3,9 @@ use Prim.Native.Nat.{ℕ, _+_, _*_, _≤_}
 use mathlib.Core.Path.{_≡_}
 use mathlib.Core.Bool.{cond}
 use mathlib.Core.List.{List}
-use lib.ListN.{length, take, drop}
-use Rattle.words.specs.Words.{countOf}
+use lib.ListN.{length}
 use Rattle.catalogue.specs.Catalogue.{Catalogue}
-use Rattle.fitcheck.specs.Hall.{fitCount, lengthAt, fitStart, fitRefused, isClear, isFaulted}
+use Rattle.fitcheck.specs.Hall.{fitCount, fitStart, fitRefused, isClear, isFaulted, numbersOf, hallReturned}
 
 module _ (input : List ℕ) where
   -- an input that passes refusal 4
@@ -14,15 +13,11 @@ module _ (input : List ℕ) where
     pub few : fitCount input ≤ 64
     pub size : fitStart input (fitCount input) ≡ length input
 
-  -- the bytes of fit i
-  unfoldable pub fitAt : ℕ → List ℕ
-  fitAt i = take (lengthAt input i) (drop (fitStart input i) input)
-
 module _ (c : Catalogue) where
   -- 1 where a fit is clear, 256 where it is faulted, 65,536 where it is refused
   unfoldable pub shareOf : List ℕ → ℕ
   shareOf b = cond (isClear c b) 1 0 + 256 * cond (isFaulted c b) 1 0 + 65536 * cond (fitRefused c b) 1 0
 
-  -- clear + 256 * faulted + 65,536 * refused
+  -- the word of some fits
   unfoldable pub wordOf : List (List ℕ) → ℕ
-  wordOf fs = countOf (isClear c) fs + 256 * countOf (isFaulted c) fs + 65536 * countOf (fitRefused c) fs
+  wordOf fs = hallReturned (numbersOf c fs)

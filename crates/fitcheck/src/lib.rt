@@ -19,7 +19,7 @@ ghost use Rattle.catalogue.specs.Sound as Catalogue;
 ghost use Rattle.fit.specs.Fit.{fitOf, resultAt, resultCount};
 ghost use Rattle.fit.specs.Refusals.{fitRefusals, fitRefusal};
 ghost use Rattle.fit.specs.Sound as Fit;
-ghost use Rattle.context.specs.Gathered.{Ready, Gathered};
+ghost use Rattle.context.specs.Gathered.{Ready, Gathered, Groups, Categories, Racks, Hardpoints, Volumes};
 ghost use Rattle.validate.specs.Kind.{isHull};
 ghost use Rattle.validate.specs.Validate.{listOf};
 ghost use Rattle.skill.specs.Skill.{tooMany, skillList};
@@ -105,39 +105,32 @@ fn not_a_hull(catalogue: &[u8], fit: &[u8], out: &mut [u8]) -> u64
     n as u64
 }
 
-// The list of a hull. A buffer that holds any list need not be counted for.
-fn hull_list(catalogue: &[u8], fit: &[u8], out: &mut [u8]) -> u64
-    requires { ⌜ Catalogue.Sound (now catalogue) × Fit.Sound (now fit) × (isHull (catalogueOf (now catalogue)) (fitOf (now fit) .frame .ship) ≡ true) ⌝ }
+// The list of a hull for a buffer that may be too short: it is counted first.
+fn counted_list<'a>(
+    catalogue: &[u8],
+    fit: &[u8],
+    starts: &[u32; 259],
+    groups: &'a [i32; 256],
+    categories: &'a [i32; 256],
+    racks: &'a [u8; 256],
+    hardpoints: &'a [u8; 256],
+    volumes: &'a [f64; 256],
+    out: &mut [u8],
+) -> u64
+    requires { ⌜ Ready (now catalogue) (now fit) (now starts) × Groups (now catalogue) (now fit) (now groups) × Categories (now catalogue) (now fit) (now categories) × Racks (now catalogue) (now fit) (now racks) × Hardpoints (now catalogue) (now fit) (now hardpoints) × Volumes (now catalogue) (now fit) (now volumes) × (isHull (catalogueOf (now catalogue)) (fitOf (now fit) .frame .ship) ≡ true) ⌝ }
     ensures { λ r. ⌜ Gave (now (out .entry)) (now (out .exit)) r (lent (now (out .entry)) (listOf (catalogueOf (now (catalogue .entry))) (fitOf (now (fit .entry))))) ⌝ }
 {
-    let starts = fit::starts(fit);
     let mut hints = [0u32; 64];
-    let facts = context::gather(catalogue, fit, &mut hints);
-    if 123384 <= out.len() {
-        let n = validate::validate(
-            catalogue,
-            fit,
-            &starts,
-            &facts.groups,
-            &facts.categories,
-            &facts.racks,
-            &facts.hardpoints,
-            &facts.volumes,
-            &mut hints,
-            out,
-        );
-        return n as u64;
-    }
     let mut none = [0u8; 0];
     let count = validate::validate(
         catalogue,
         fit,
-        &starts,
-        &facts.groups,
-        &facts.categories,
-        &facts.racks,
-        &facts.hardpoints,
-        &facts.volumes,
+        starts,
+        groups,
+        categories,
+        racks,
+        hardpoints,
+        volumes,
         &mut hints,
         &mut none,
     );
@@ -146,6 +139,42 @@ fn hull_list(catalogue: &[u8], fit: &[u8], out: &mut [u8]) -> u64
     }
     if out.len() / 24 < count {
         return 42949672960;
+    }
+    let n = validate::validate(
+        catalogue,
+        fit,
+        starts,
+        groups,
+        categories,
+        racks,
+        hardpoints,
+        volumes,
+        &mut hints,
+        out,
+    );
+    n as u64
+}
+
+// The list of a hull. A buffer that holds any list need not be counted for.
+fn hull_list(catalogue: &[u8], fit: &[u8], out: &mut [u8]) -> u64
+    requires { ⌜ Catalogue.Sound (now catalogue) × Fit.Sound (now fit) × (isHull (catalogueOf (now catalogue)) (fitOf (now fit) .frame .ship) ≡ true) ⌝ }
+    ensures { λ r. ⌜ Gave (now (out .entry)) (now (out .exit)) r (lent (now (out .entry)) (listOf (catalogueOf (now (catalogue .entry))) (fitOf (now (fit .entry))))) ⌝ }
+{
+    let starts = fit::starts(fit);
+    let mut hints = [0u32; 64];
+    let facts = context::gather(catalogue, fit, &mut hints);
+    if out.len() < 123384 {
+        return counted_list(
+            catalogue,
+            fit,
+            &starts,
+            &facts.groups,
+            &facts.categories,
+            &facts.racks,
+            &facts.hardpoints,
+            &facts.volumes,
+            out,
+        );
     }
     let n = validate::validate(
         catalogue,

@@ -8,12 +8,13 @@ use mathlib.Core.List.{List, [], _∷_, _++_}
 use mathlib.Core.Option.{none}
 use mathlib.Core.Logic.{⊎-elim}
 use lib.Dec.{ltb}
-use lib.IntN.{ℤ, pos, negsuc}
+use lib.IntN.{pos, negsuc}
 use lib.ListN.{length, getD, set, length-set}
 use lib.Seq.{getD-set-same}
-use borrow.Author.Tests.{ltb-true, ltb-false, eqb-true}
+use borrow.Author.Tests.{ltb-true, ltb-false}
 use Rattle.words.specs.Words.{_>>=_, each, anyOf, find, given, same, table}
 use Rattle.words.proofs.Elements.{or-left, or-right}
+use Rattle.words.proofs.Sames.{same-eq}
 use Rattle.image.specs.Bytes.{signed32, bits32}
 use Rattle.keys.specs.Keys.{keyAt}
 use Rattle.catalogue.specs.Catalogue.{Id}
@@ -88,13 +89,6 @@ flagged-ids flags b j ids e n =
     ∙ any-map (λ (x : Attribute). x .id) (flagOf flags) (resultOf b j .attributes)
 
 -- ---- a result that has none
-same-eq : (y z : ℤ) → same y z ≡ true → y ≡ z
-unfolding same
-same-eq (pos a) (pos b) e = ap pos (eqb-true a b e)
-same-eq (pos a) (negsuc b) e = absurd (true≢false (sym e))
-same-eq (negsuc a) (pos b) e = absurd (true≢false (sym e))
-same-eq (negsuc a) (negsuc b) e = ap negsuc (eqb-true a b e)
-
 module _ (flags : List Bool) where
   -- ids of different flags are different
   differ : (y z : Id) → flagOf flags y ≡ false → flagOf flags z ≡ true → same y z ≡ false

@@ -7,8 +7,7 @@ use mathlib.Core.Option.{some}
 use lib.IntN.{ℤ}
 use lib.ListN.{length, take, drop, length-take, length-drop}
 use Rattle.words.specs.Words.{table, same}
-use Rattle.words.proofs.Tables.{table-same}
-use Rattle.words.proofs.Elements.{found-below}
+use Rattle.words.proofs.Tables.{table-same, find-below}
 use Rattle.image.specs.Bytes.{i32At}
 use Rattle.image.proofs.Parts.{part-i32}
 use Rattle.keys.specs.Keys.{keyAt, Sorted, placeOf}
@@ -26,7 +25,7 @@ module _ (b : List ℕ) (at n : ℕ) where
 -- an id stands at one of the n places
 pub place-below : (keys : List ℕ) (n : ℕ) (id : ℤ) (i : ℕ) → placeOf keys n id ≡ some i → i < n
 unfolding placeOf
-place-below keys n id i e = found-below (λ k. same (keyAt keys k) id) n i e
+place-below keys n id i e = find-below (λ k. same (keyAt keys k) id) n i e
 
 -- the same keys, as many, the same id
 module _ (l m : List ℕ) (k n : ℕ) (e : l ≡ m) (q : k ≡ n) where

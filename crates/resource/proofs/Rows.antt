@@ -7,7 +7,7 @@ use lib.Dec.{eqb}
 use lib.ListN.{length, getD}
 use borrow.Author.Tests.{eqb-true, not-false}
 use Rattle.words.specs.Words.{table, tableFrom, anyOf}
-use Rattle.words.proofs.Elements.{none-at}
+use Rattle.words.proofs.Tables.{any-false}
 use Rattle.words.proofs.Lengths.{few-when, few-bind}
 use Rattle.floats.specs.Floats.{over}
 use Rattle.entry.specs.declared.Entry.{Entry}
@@ -25,7 +25,7 @@ differs f g i = not (eqb (f i) (g i))
 -- two numbers of a row are equal where no row differs, which computes
 column : (f g : ℕ → ℕ) → anyOf (differs f g) (table 10 (λ i. i)) ≡ false → (i : ℕ) → i < 10 → f i ≡ g i
 unfolding differs
-column f g e i h = eqb-true (f i) (g i) (not-false (eqb (f i) (g i)) (none-at (differs f g) (λ i. i) 10 i h e))
+column f g e i h = eqb-true (f i) (g i) (not-false (eqb (f i) (g i)) (any-false (differs f g) 10 (λ i. i) e i h))
 
 pub row-kind : (i : ℕ) → i < 10 → getD rows (3 * i) 0 ≡ getD LOADS i (0, 0, 0) .0
 unfolding anyOf tableFrom differs

@@ -12,21 +12,10 @@ use lib.IntN.{ℤ, pos, negsuc}
 use lib.Dec.{eqb}
 use borrow.Author.Tests.{eq-eqb, ne-eqb, eqb-true, eqb-false}
 use Rattle.words.specs.Words.{same, table}
+use Rattle.words.proofs.Sames.{same-refl, same-not}
 use Rattle.words.proofs.Tables.{length-table, getD-table, table-more, table-same}
 use Rattle.skill.specs.Skill.{Demand, note}
 use Rattle.skill.specs.Held.{heldAt, heldOf, Placed}
-
-same-refl : (a : ℤ) → same a a ≡ true
-unfolding same
-same-refl (pos n) = eq-eqb n n refl
-same-refl (negsuc n) = eq-eqb n n refl
-
-same-not : (a b : ℤ) → (a ≡ b → ⊥) → same a b ≡ false
-unfolding same
-same-not (pos m) (pos n) h = ne-eqb m n (λ e. h (ap pos e))
-same-not (pos m) (negsuc n) h = refl
-same-not (negsuc m) (pos n) h = refl
-same-not (negsuc m) (negsuc n) h = ne-eqb m n (λ e. h (ap negsuc e))
 
 pub demand-eq : {a b : ℤ} {x y : ℕ} → a ≡ b → x ≡ y → _≡_ {A = Demand} (a, x) (b, y)
 demand-eq p q = ap₂ (λ (a : ℤ) (x : ℕ). (a, x)) p q

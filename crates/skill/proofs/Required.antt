@@ -14,9 +14,8 @@ use lib.Seq.{getD-set-same, getD-set-other}
 use lib.Ieee.{Float}
 use borrow.Author.Tests.{eqb-true, not-false}
 use Rattle.words.specs.Words.{_>>=_, each, tableFrom, table, anyOf, given}
-use Rattle.words.proofs.Elements.{none-at}
 use Rattle.words.proofs.Steps.{each-append, each-step}
-use Rattle.words.proofs.Tables.{table-more, table-same, each-more, each-none}
+use Rattle.words.proofs.Tables.{table-more, table-same, each-more, each-none, any-false}
 use Rattle.floats.specs.Floats.{zeroF, toU, toI32}
 use Rattle.catalogue.specs.Catalogue.{Id, Catalogue, catalogueOf}
 use Rattle.catalogue.specs.Lookups.{nameId, baseValue}
@@ -40,7 +39,7 @@ differs f g i = not (eqb (f i) (g i))
 -- two numbers of a row are equal where no row differs, which computes
 column : (f g : ℕ → ℕ) → anyOf (differs f g) (table 6 (λ i. i)) ≡ false → (i : ℕ) → i < 6 → f i ≡ g i
 unfolding differs
-column f g e i h = eqb-true (f i) (g i) (not-false (eqb (f i) (g i)) (none-at (differs f g) (λ i. i) 6 i h e))
+column f g e i h = eqb-true (f i) (g i) (not-false (eqb (f i) (g i)) (any-false (differs f g) 6 (λ i. i) e i h))
 
 pub name-skill : (i : ℕ) → i < 6 → getD names (2 * i) 0 ≡ getD REQUIRED i (0, 0) .0
 unfolding anyOf tableFrom differs

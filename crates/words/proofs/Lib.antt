@@ -1,6 +1,7 @@
--- Laws of the words: what one more element does to each, tables, their elements, walks over them, and lengths.
+-- Laws of the words: what one more element does to each, tables, their elements, walks over them, lengths, and ids that are the same.
 pub mod Steps
 pub mod Tables
 pub mod Elements
 pub mod Walks
 pub mod Lengths
+pub mod Sames

@@ -5,8 +5,8 @@ use mathlib.Core.Path.{_≡_, refl, sym, ap, _∙_}
 use lib.ListN.{length}
 use Rattle.words.specs.Words.{table}
 use Rattle.catalogue.specs.Catalogue.{catalogueOf}
-use Rattle.fitcheck.specs.Hall.{fitCount, lengthAt, fitStart}
-use Rattle.fitcheck.specs.Halls.{fitAt, shareOf, wordOf}
+use Rattle.fitcheck.specs.Hall.{fitCount, lengthAt, fitStart, fitAt}
+use Rattle.fitcheck.specs.Halls.{shareOf, wordOf}
 use Rattle.fitcheck.proofs.Halls.{start-none, start-next, laid-long, laid-within, part-fit, word-none, word-more, word-all}
 use borrow.Author.Needs.{needs}
 use Rattle.fitcheck.proofs.hall.numbers.Statement.{statement}

@@ -1,0 +1,62 @@
+-- `fitcheck::counted_list` meets its contract: the list is counted, and written where there is room.
+use native.Mathlib.Omega.{arith}
+use Rattle.catalogue.specs.Catalogue.{catalogueOf}
+use Rattle.fit.specs.Fit.{fitOf}
+use Rattle.validate.specs.Validate.{listOf}
+use Rattle.entry.proofs.Wrote.{wrote-count}
+use Rattle.fitcheck.proofs.Giving.{gave-short, gave-list, gave-none}
+use borrow.Author.Needs.{needs}
+use Rattle.fitcheck.proofs.counted_list.Statement.{statement}
+use Rattle.fitcheck.proofs.counted_list.Tie as tie
+
+slice-aggregate-validate : tie.Need-slice-aggregate-validate
+slice-aggregate-validate c = search needs
+
+slice-aggregate-validate-2 : tie.Need-slice-aggregate-validate-2
+slice-aggregate-validate-2 c = search needs
+
+validate-requires : tie.Need-validate-requires
+validate-requires c κs = search needs
+
+returns : tie.Need-returns
+returns c =
+    let v = c .before .before .before in
+    let a = v .before .before .before .before .before .before .args in
+    gave-none (listOf (catalogueOf (a .catalogue .now)) (fitOf (a .fit .now))) (omega (arith, wrote-count (v .validate .ensures .1), c .if1 .taken))
+
+returns-2 : tie.Need-returns-2
+returns-2 c =
+    let v = c .before .before .before .before in
+    let a = v .before .before .before .before .before .before .args in
+    gave-short (listOf (catalogueOf (a .catalogue .now)) (fitOf (a .fit .now))) (omega (arith, wrote-count (v .validate .ensures .1), c .if2 .taken))
+
+slice-aggregate-validate-3 : tie.Need-slice-aggregate-validate-3
+slice-aggregate-validate-3 c = search needs
+
+validate-requires-2 : tie.Need-validate-requires-2
+validate-requires-2 c κs = search (needs, c .before .before .before .before .before .before .before .before .before .before .before .before .pre)
+
+same-length : tie.Need-same-length
+same-length c = search needs
+
+returns-3 : tie.Need-returns-3
+returns-3 c =
+    let w = c .before .before .before .validate2 .ensures in
+    let i = c .before .before .before .before .before .before in
+    let v = i .before .before .before .before in
+    let a = v .before .before .before .before .before .before .args in
+    gave-list (listOf (catalogueOf (a .catalogue .now)) (fitOf (a .fit .now))) (omega (arith, wrote-count (v .validate .ensures .1), i .if2 .left)) (w .1)
+
+pub counted-list-spec : {M : Type 1} → statement M
+counted-list-spec =
+    tie.close
+    (tie.spec
+    slice-aggregate-validate
+    slice-aggregate-validate-2
+    validate-requires
+    returns
+    returns-2
+    slice-aggregate-validate-3
+    validate-requires-2
+    same-length
+    returns-3)
