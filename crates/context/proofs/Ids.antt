@@ -1,11 +1,9 @@
--- Two ids are the same where their bits are. Assumes nothing.
-use Prim.Native.Nat.{ℕ, _+_, _-_, _<_}
-use native.Mathlib.Omega.{arith}
+-- Two ids are the same where their bits are.
+use Prim.Native.Nat.{_-_}
 use mathlib.Core.Path.{_≡_, refl, sym, ap, _∙_}
 use mathlib.Core.Bool.{Bool, true, false}
 use lib.Dec.{eqb}
 use lib.IntN.{ℤ}
-use lib.Signed.{mag}
 use mir.Syntax.{w32}
 use mir.Val.{ofZ, toZ, SFits}
 use mir.ValLaws.{toZ-ofZ}

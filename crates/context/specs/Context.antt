@@ -1,5 +1,5 @@
 -- validate/mod.rs, `Context` and `Item`: a fit's items and results side by side, with what the catalogue says of each, gathered once.
-use Prim.Native.Nat.{ℕ, zero, suc}
+use Prim.Native.Nat.{ℕ, suc}
 use mathlib.Core.Bool.{Bool, not, _||_}
 use mathlib.Core.List.{List, [], _∷_}
 use mathlib.Core.Option.{Option}

@@ -8,7 +8,6 @@ use lib.Dec.{ltb}
 use lib.ListN.{getD}
 use lib.IntN.{ℤ, pos}
 use lib.Ieee.{Float, nan}
-use Rattle.words.specs.Words.{table}
 use Rattle.catalogue.specs.Catalogue.{Id, Catalogue, catalogueOf}
 use Rattle.catalogue.specs.Lookups.{groupOf, categoryOf, volumeOf}
 use Rattle.catalogue.specs.declared.TypeInfo.{TypeInfo}

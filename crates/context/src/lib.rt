@@ -4,7 +4,7 @@ use catalogue::TypeAnswer;
 use catalogue::TypeInfo;
 ghost use mathlib.Core.Path.{_≡_};
 ghost use mathlib.Core.List.{List};
-ghost use Prim.Native.Nat.{ℕ, _+_, _<_, _≤_};
+ghost use Prim.Native.Nat.{ℕ, _+_, _<_};
 ghost use lib.Dec.{leb};
 ghost use lib.ListN.{getD};
 ghost use Rattle.words.specs.Words.{same};

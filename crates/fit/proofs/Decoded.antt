@@ -1,4 +1,4 @@
--- What the decoded lists of a fit hold at each place, and how its results stand in a row. Assumes nothing.
+-- What the decoded lists of a fit hold at each place, and how its results stand in a row.
 use Prim.Native.Nat.{ℕ, zero, suc, _+_, _*_, _-_, _≤_, _<_}
 use native.Mathlib.Nat.{add-zero, add-suc, le-refl, le-trans}
 use native.Mathlib.Numerals.{add-one}

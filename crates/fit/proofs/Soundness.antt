@@ -1,4 +1,4 @@
--- A fit is sound exactly where it is not refused, and what soundness says of each field. Assumes nothing.
+-- A fit is sound exactly where it is not refused, and what soundness says of each field.
 use Prim.Native.Nat.{ℕ, zero, _+_, _≤_, _<_}
 use native.Mathlib.Omega.{arith}
 use mathlib.Core.Path.{_≡_, refl, sym, ap, _∙_}

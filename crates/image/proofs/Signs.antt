@@ -1,17 +1,15 @@
--- Signed numbers of 32 bits: -1 - m, the bits, and the order by rank. Assumes nothing.
+-- Signed numbers of 32 bits: -1 - m, the bits, and the order by rank.
 use mathlib.Core.Path.{_≡_, refl, ap, sym, subst, _∙_}
 use mathlib.Core.Bool.{Bool, true, false, not, cond}
-use Prim.Native.Nat.{ℕ, zero, suc, _+_, _-_, _<_, _≤_, _^_}
-use native.Mathlib.Nat.{zero-add}
+use Prim.Native.Nat.{ℕ, zero, suc, _-_}
 use native.Mathlib.Omega.{arith}
-use lib.Dec.{T, ltb}
-use lib.IntN.{ℤ, pos, negsuc, _-ℤ_, natAbs}
+use lib.Dec.{T}
+use lib.IntN.{ℤ, pos, negsuc, _-ℤ_}
 use lib.Signed.{ltZ, mag}
 use mir.Syntax.{w32}
-use mir.Val.{toZ, ofZ, sel, SFits}
-use mir.ValLaws.{toZ-pos, toZ-ofZ}
-use borrow.Author.Tests.{le-ltb, lt-ltb}
-use Rattle.image.specs.Bytes.{signed32, bits32}
+use mir.Val.{ofZ}
+use borrow.Author.Tests.{le-ltb}
+use Rattle.image.specs.Bytes.{bits32}
 
 pub minus : (m : ℕ) → negsuc 0 -ℤ pos m ≡ negsuc m
 minus zero = refl

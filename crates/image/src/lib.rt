@@ -1,7 +1,7 @@
 // Little-endian integers at a place of a byte slice: document 01, "Records".
 ghost use mathlib.Core.Path.{_≡_};
 ghost use mathlib.Core.Bool.{_&&_, _||_, cond};
-ghost use Prim.Native.Nat.{_+_, _-_, _*_, _<_, _≤_, _^_};
+ghost use Prim.Native.Nat.{_+_, _-_, _*_, _<_, _≤_};
 ghost use lib.IntN.{negsuc};
 ghost use lib.ListN.{length, take, drop};
 ghost use Rattle.image.specs.Bytes.{u8At, u16At, u32At, u64At, signed32, bits32, i32At, le, put};

@@ -1,11 +1,11 @@
--- Ids as numbers, and lists of them. Assumes nothing.
+-- Ids as numbers, and lists of them.
 use Prim.Native.Nat.{ℕ, suc, _+_, _-_, _<_, _≤_, _^_}
 use native.Mathlib.Numerals.{add-one}
 use native.Mathlib.Omega.{arith}
 use mathlib.Core.Path.{_≡_, refl, sym, ap, ap₂, _∙_}
 use mathlib.Core.Bool.{Bool, true, false, cond}
 use mathlib.Core.List.{List, [], _∷_, _++_, map, map-append}
-use mathlib.Core.Option.{Option, none, some}
+use mathlib.Core.Option.{none, some}
 use lib.Dec.{ltb}
 use lib.IntN.{ℤ, pos, negsuc}
 use lib.ListN.{length, getD, take, set}
@@ -16,7 +16,6 @@ use mir.ValLaws.{toZ-ofZ, ofZ-fits}
 use borrow.Author.Tests.{lt-ltb, le-ltb}
 use Rattle.image.specs.Bytes.{signed32, bits32}
 use Rattle.image.proofs.Signs.{bits-ofZ}
-use Rattle.catalogue.specs.Catalogue.{Id}
 use Rattle.item.specs.AtPair.{idIn}
 
 -- the definition is the machine's own

@@ -1,14 +1,14 @@
--- From the tests and values that the code finds to what a rule says of a pair. Assumes nothing.
+-- From the tests and values that the code finds to what a rule says of a pair.
 use Prim.Native.Nat.{ℕ, _≤_}
 use native.Mathlib.Omega.{arith}
-use mathlib.Core.Path.{_≡_, refl, sym, ap, _∙_}
+use mathlib.Core.Path.{_≡_, refl, ap, _∙_}
 use mathlib.Core.Bool.{Bool, true, false, not, _&&_, _||_, cond}
-use mathlib.Core.List.{List, [], _∷_, map}
-use mathlib.Core.Option.{Option, none, some}
+use mathlib.Core.List.{List, []}
+use mathlib.Core.Option.{none, some}
 use lib.ListN.{length}
 use lib.Ieee.{Float, ne}
-use Rattle.words.specs.Words.{_>>=_, each, when, whenAbove, unless, isEmpty, contains}
-use Rattle.words.proofs.Lengths.{few-when, few-bind, few-above, few-unless}
+use Rattle.words.specs.Words.{each, when, isEmpty, contains}
+use Rattle.words.proofs.Lengths.{few-when, few-bind, few-unless}
 use Rattle.floats.specs.Floats.{zeroF, toU}
 use Rattle.catalogue.specs.Catalogue.{Id}
 use Rattle.catalogue.specs.Lookups.{nameId}

@@ -5,7 +5,6 @@ use entry::Rule;
 use entry::Target;
 use floats::Value;
 ghost use mathlib.Core.Path.{_≡_};
-ghost use mathlib.Core.Bool.{cond};
 ghost use mathlib.Core.List.{List};
 ghost use Prim.Native.Nat.{ℕ, _+_, _<_, _≤_};
 ghost use Rattle.words.specs.Words.{countOf};

@@ -1,4 +1,4 @@
--- Two fits compared: demand 3, of the list call and of the skill call. From `Growth` by the bytes of the entries. Assumes nothing.
+-- Two fits compared: demand 3, of the list call and of the skill call. From `Growth` by the bytes of the entries.
 use Prim.Native.Nat.{ℕ, zero, suc, _+_, _*_, _^_, _≤_, _<_, zero-le, suc-le-suc}
 use native.Mathlib.Nat.{le-trans, le-of-suc-le-suc, not-suc-le-zero}
 use native.Mathlib.Omega.{arith}

@@ -1,5 +1,5 @@
 -- Every entry of a list has numbers that fit its bytes, and no used number that is a NaN. Rule by rule, by what the words do to `All`.
--- Assumes nothing.
+--
 use Prim.Native.Nat.{ℕ, zero, suc, _^_, _≤_, _<_, max, zero-le, suc-le-suc}
 use native.Mathlib.Omega.{arith}
 use mathlib.Core.Bool.{Bool, true, false, cond}

@@ -1,4 +1,4 @@
--- The list of wanted skills and the entries made of it, said without the walk. From `Walking`, `Refusing` and `Meeting`. Assumes nothing.
+-- The list of wanted skills and the entries made of it, said without the walk. From `Walking`, `Refusing` and `Meeting`.
 use Prim.Native.Nat.{ℕ, _+_, _≤_}
 use native.Mathlib.Nat.{le-antisymm}
 use native.Mathlib.Omega.{arith}

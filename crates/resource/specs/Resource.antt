@@ -2,7 +2,6 @@
 use Prim.Native.Nat.{ℕ}
 use mathlib.Core.Bool.{Bool, _&&_}
 use mathlib.Core.List.{List, [], _∷_, foldl}
-use mathlib.Core.Option.{Option}
 use lib.Dec.{leb}
 use lib.Ieee.{Float, binary64, add, mul}
 use Rattle.words.specs.Words.{_>>=_, each, when, only, sumOf}

@@ -8,7 +8,6 @@ use floats::Value;
 ghost use mathlib.Core.Path.{_≡_};
 ghost use mathlib.Core.List.{[], _∷_};
 ghost use Prim.Native.Nat.{_+_, _<_, _≤_};
-ghost use mathlib.Core.Bool.{_||_};
 ghost use lib.ListN.{length, getD};
 ghost use lib.IntN.{pos};
 ghost use Rattle.words.specs.Words.{each, table, anyOf, same};

@@ -1,14 +1,13 @@
--- What the code of each check tells of an item is what the check's definition says of the pair. Assumes nothing.
+-- What the code of each check tells of an item is what the check's definition says of the pair.
 use Prim.Native.Nat.{ℕ, _+_, _≤_}
 use native.Mathlib.Omega.{arith}
 use mathlib.Core.Path.{_≡_, refl, sym, ap, _∙_}
 use mathlib.Core.Bool.{Bool, true, false, not, _&&_, _||_, cond}
 use mathlib.Core.List.{List, []}
-use mathlib.Core.Option.{Option, none, some}
+use mathlib.Core.Option.{none, some}
 use lib.Dec.{eqb, leb, ltb}
 use lib.IntN.{pos}
 use Rattle.words.specs.Words.{_>>=_, table, when, whenAny, anyOf, same}
-use Rattle.fit.specs.Refusals.{fighterTube, fighterBay, implant, booster, droneBay, cargoHold}
 use Rattle.entry.specs.declared.Entry.{Entry}
 use Rattle.entry.specs.declared.Rule.the-variants.{WrongSlot, NotAModule, NotADrone, NotAFighter, NotAnImplant, SlotTaken}
 use Rattle.entry.specs.Entries.{onItem}

@@ -1,7 +1,7 @@
--- The checks that read an attribute: of a slot's own number, and of a subsystem's part. Assumes nothing.
+-- The checks that read an attribute: of a slot's own number, and of a subsystem's part.
 use Prim.Native.Nat.{ℕ}
-use mathlib.Core.Path.{_≡_, refl, sym, ap, _∙_}
-use mathlib.Core.Bool.{Bool, true, false, not, _&&_, cond}
+use mathlib.Core.Path.{_≡_, refl, sym, _∙_}
+use mathlib.Core.Bool.{Bool, true, false, not}
 use mathlib.Core.List.{List, []}
 use mathlib.Core.Option.{Option, none, some}
 use lib.Dec.{eqb}
@@ -12,8 +12,7 @@ use Rattle.floats.specs.Floats.{toU}
 use Rattle.catalogue.specs.Catalogue.{Id, catalogueOf}
 use Rattle.catalogue.specs.Lookups.{nameId}
 use Rattle.fit.specs.Lookups.{value}
-use Rattle.fit.specs.Refusals.{subsystem, implant, booster}
-use Rattle.entry.specs.declared.Entry.{Entry}
+use Rattle.fit.specs.Refusals.{subsystem}
 use Rattle.entry.specs.declared.Rule.the-variants.{WrongSlotIndex, SubsystemTaken}
 use Rattle.entry.specs.Entries.{onItem}
 use Rattle.context.specs.Context.{Pair, Context, context, isIn, isOther}

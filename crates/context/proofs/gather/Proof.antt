@@ -1,9 +1,9 @@
 -- `context::gather` meets its contract. The invariant: the first i pairs have been gathered.
-use Prim.Native.Nat.{ℕ, _+_, _-_, _≤_, _<_}
+use Prim.Native.Nat.{_-_, _≤_, _<_}
 use native.Mathlib.Omega.{arith}
-use mathlib.Core.Path.{_≡_, refl, ap, sym, _∙_}
+use mathlib.Core.Path.{_≡_, refl, ap, _∙_}
 use borrow.Author.Needs.{needs}
-use lib.ListN.{length, set, length-set}
+use lib.ListN.{length, length-set}
 use mir.Syntax.{w32}
 use mir.Val.{toZ, ofZ}
 use mir.ValLaws.{toZ-ofZ}
@@ -26,24 +26,9 @@ abbrev μ-loop : tie.MeasureT-loop
 μ-loop catalogue fit hints₀ n groups₀ categories₀ racks₀ hardpoints₀ volumes₀ i₀ hints groups categories racks hardpoints volumes i =
     n - i
 
-pair-count-requires : tie.Need-pair-count-requires Inv-loop μ-loop
-pair-count-requires c κs = search needs
-
 loop-holds : tie.Need-loop-holds Inv-loop μ-loop
 loop-holds c =
     (omega arith, c .pair-count .ensures, (refl, refl, refl, refl, refl), gathered-none _ _ _ _ _ _ _, refl)
-
-seek-pairs-requires : tie.Need-seek-pairs-requires Inv-loop μ-loop
-seek-pairs-requires c κs = search needs
-
-item-type-requires : tie.Need-item-type-requires Inv-loop μ-loop
-item-type-requires c κs = search needs
-
-type-facts-requires : tie.Need-type-facts-requires Inv-loop μ-loop
-type-facts-requires c κs = search needs
-
-slot-codes-requires : tie.Need-slot-codes-requires Inv-loop μ-loop
-slot-codes-requires c κs = search needs
 
 mul-groups : tie.Need-mul-groups Inv-loop μ-loop
 mul-groups c = omega arith
@@ -123,12 +108,12 @@ gather-spec =
     (tie.spec
     Inv-loop
     μ-loop
-    pair-count-requires
+    (λ c κs. search needs)
     loop-holds
-    seek-pairs-requires
-    item-type-requires
-    type-facts-requires
-    slot-codes-requires
+    (λ c κs. search needs)
+    (λ c κs. search needs)
+    (λ c κs. search needs)
+    (λ c κs. search needs)
     mul-groups
     array-set-from-groups
     mul-categories

@@ -12,15 +12,6 @@ use Rattle.context.specs.Gathered.{contextOf}
 use Rattle.context.proofs.ship_facts.Statement.{statement}
 use Rattle.context.proofs.ship_facts.Tie as tie
 
-ship-requires : tie.Need-ship-requires
-ship-requires c κs = search needs
-
-slice-aggregate-type-facts : tie.Need-slice-aggregate-type-facts
-slice-aggregate-type-facts c = search needs
-
-type-facts-requires : tie.Need-type-facts-requires
-type-facts-requires c κs = search needs
-
 returns : tie.Need-returns
 unfolding contextOf context
 returns c =
@@ -33,4 +24,4 @@ returns c =
     }
 
 pub ship-facts-spec : {M : Type 1} → statement M
-ship-facts-spec = tie.close (tie.spec ship-requires slice-aggregate-type-facts type-facts-requires returns)
+ship-facts-spec = tie.close (tie.spec (λ c κs. search needs) (λ c. search needs) (λ c κs. search needs) returns)

@@ -10,18 +10,12 @@ use borrow.Author.Needs.{needs}
 use Rattle.context.proofs.slot_codes.Statement.{statement}
 use Rattle.context.proofs.slot_codes.Tie as tie
 
-slots-of-requires : tie.Need-slots-of-requires
-slots-of-requires c κs = search needs
-
 code-requires : tie.Need-code-requires
 code-requires c κs = subst (Below 8) (sym (c .before .before .slots-of .ensures .0)) (rack-below (catalogueOf (c .before .before .before .before .before .before .args .catalogue .now)) _)
 
 code-requires-2 : tie.Need-code-requires-2
 code-requires-2 c κs =
     subst (Below 8) (sym (c .before .before .before .slots-of .ensures .1)) (hardpoint-below (catalogueOf (c .before .before .before .before .before .before .before .args .catalogue .now)) _)
-
-same-length : tie.Need-same-length
-same-length c = search needs
 
 returns : tie.Need-returns
 returns c =
@@ -32,4 +26,4 @@ returns c =
     (c .before .code .ensures ∙ m .0 ∙ ap (rackOf cat) e, c .code2 .ensures ∙ m .1 ∙ ap (hardpointOf cat) e)
 
 pub slot-codes-spec : {M : Type 1} → statement M
-slot-codes-spec = tie.close (tie.spec slots-of-requires code-requires code-requires-2 same-length returns)
+slot-codes-spec = tie.close (tie.spec (λ c κs. search needs) code-requires code-requires-2 (λ c. search needs) returns)

@@ -35,23 +35,11 @@ ends c =
     let p = c .before .before .before .before .pre in
     c .start-of2 .ensures ∙ p .1 .begins (a .j + 1) (omega arith) ∙ start-next (a .fit .now) (a .j)
 
-ids-at-requires : tie.Need-ids-at-requires
-ids-at-requires c κs = search needs
-
-start-of-requires : tie.Need-start-of-requires
-start-of-requires c κs = search needs
-
 mul-a : tie.Need-mul-a
 mul-a c = omega (arith, begins c)
 
 add-a : tie.Need-add-a
 add-a c = omega (arith, begins c)
-
-add-start-of : tie.Need-add-start-of
-add-start-of c = search needs
-
-start-of-requires-2 : tie.Need-start-of-requires-2
-start-of-requires-2 c κs = search needs
 
 mul-b : tie.Need-mul-b
 mul-b c = omega (arith, begins (c .before), ends c)
@@ -79,12 +67,12 @@ pub ids-of-spec : {M : Type 1} → statement M
 ids-of-spec =
     tie.close
     (tie.spec
-    ids-at-requires
-    start-of-requires
+    (λ c κs. search needs)
+    (λ c κs. search needs)
     mul-a
     add-a
-    add-start-of
-    start-of-requires-2
+    (λ c. search needs)
+    (λ c κs. search needs)
     mul-b
     add-b
     sub-result

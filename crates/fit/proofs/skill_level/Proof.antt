@@ -6,17 +6,8 @@ use Rattle.image.specs.Bytes.{u8At}
 use Rattle.fit.proofs.skill_level.Statement.{statement}
 use Rattle.fit.proofs.skill_level.Tie as tie
 
-levels-at-requires : tie.Need-levels-at-requires
-levels-at-requires c κs = search needs
-
-add-u8-at : tie.Need-add-u8-at
-add-u8-at c = search needs
-
-u8-at-requires : tie.Need-u8-at-requires
-u8-at-requires c κs = search needs
-
 returns : tie.Need-returns
 returns c = let a = c .before .before .before .args in c .u8-at .ensures ∙ ap (λ (k : ℕ). u8At (a .fit .now) (k + a .i)) (c .before .levels-at .ensures)
 
 pub skill-level-spec : {M : Type 1} → statement M
-skill-level-spec = tie.close (tie.spec levels-at-requires add-u8-at u8-at-requires returns)
+skill-level-spec = tie.close (tie.spec (λ c κs. search needs) (λ c. search needs) (λ c κs. search needs) returns)

@@ -39,14 +39,8 @@ next b s j v l f e k h =
 within : (c : tie.After-count-at Inv-loop μ-loop) → let b = c .before .before .before .before .before .before .args .fit .now in startAt b (c .before .before .loop .j) + countAt b (c .before .before .loop .j) ≤ attributeCount b
 within c = let b = c .before .before .before .before .before .before .args .fit .now in start-within b (sound-sized b (c .before .before .before .before .before .before .pre)) (c .before .before .loop .j) (omega arith)
 
-results-requires : tie.Need-results-requires Inv-loop μ-loop
-results-requires c κs = search needs
-
 add-n : tie.Need-add-n Inv-loop μ-loop
 add-n c = omega arith
-
-results-at-requires : tie.Need-results-at-requires Inv-loop μ-loop
-results-at-requires c κs = search needs
 
 loop-holds : tie.Need-loop-holds Inv-loop μ-loop
 loop-holds c =
@@ -90,9 +84,9 @@ starts-spec =
     (tie.spec
     Inv-loop
     μ-loop
-    results-requires
+    (λ c κs. search needs)
     add-n
-    results-at-requires
+    (λ c κs. search needs)
     loop-holds
     count-at-requires
     cast-sum

@@ -48,25 +48,13 @@ place-in c =
       start-within b (sound-sized b (p .0)) (a .j) (p .2),
     )
 
-ids-of-requires : tie.Need-ids-of-requires
-ids-of-requires c κs = search needs
-
 place-of-requires : tie.Need-place-of-requires
 place-of-requires c κs =
     let s = c .before .before in
     (omega arith, sorted-alike _ _ _ _ (c .ids-of .ensures) (many c) (ids-sorted (s .args .fit .now) (s .pre .0) (s .args .j) (s .pre .2)))
 
-enum-known-found : tie.Need-enum-known-found
-enum-known-found c = search needs
-
-start-of-requires : tie.Need-start-of-requires
-start-of-requires c κs = search needs
-
 add-at : tie.Need-add-at
 add-at c = omega (arith, place-in c)
-
-values-at-requires : tie.Need-values-at-requires
-values-at-requires c κs = search needs
 
 mul-f64-at : tie.Need-mul-f64-at
 mul-f64-at c = omega (arith, place-in (c .before))
@@ -76,9 +64,6 @@ add-f64-at c = omega (arith, place-in (c .before))
 
 f64-at-requires : tie.Need-f64-at-requires
 f64-at-requires c κs = omega (arith, place-in (c .before))
-
-enum-told : tie.Need-enum-told
-enum-told c = search needs
 
 returns : tie.Need-returns
 returns c =
@@ -97,15 +82,15 @@ pub value-spec : {M : Type 1} → statement M
 value-spec =
     tie.close
     (tie.spec
-    ids-of-requires
+    (λ c κs. search needs)
     place-of-requires
-    enum-known-found
-    start-of-requires
+    (λ c. search needs)
+    (λ c κs. search needs)
     add-at
-    values-at-requires
+    (λ c κs. search needs)
     mul-f64-at
     add-f64-at
     f64-at-requires
-    enum-told
+    (λ c. search needs)
     returns
     returns-2)

@@ -40,9 +40,6 @@ returns-5 c =
     let n : a .index ≡ 0 = omega arith in
     λ i s z x. simp (s, z, x, o, n, le-ltb 11 (a .slot) (omega arith))
 
-in-bay-requires : tie.Need-in-bay-requires
-in-bay-requires c κs = search needs
-
 returns-6 : tie.Need-returns-6
 unfolding badItem
 returns-6 c =
@@ -52,4 +49,4 @@ returns-6 c =
 
 pub bad-place-spec : {M : Type 1} → statement M
 bad-place-spec =
-    tie.close (tie.spec returns returns-2 returns-3 returns-4 returns-5 in-bay-requires returns-6)
+    tie.close (tie.spec returns returns-2 returns-3 returns-4 returns-5 (λ c κs. search needs) returns-6)

@@ -11,9 +11,6 @@ use Rattle.item.proofs.Flags.{flagged-ids}
 use Rattle.item.proofs.may_list.Statement.{statement}
 use Rattle.item.proofs.may_list.Tie as tie
 
-ids-of-requires : tie.Need-ids-of-requires
-ids-of-requires c κs = search needs
-
 any-flagged-requires : tie.Need-any-flagged-requires
 any-flagged-requires c κs = tt
 
@@ -33,4 +30,4 @@ returns c =
     c .any-flagged .ensures ∙ flagged-ids (a .flags .now) (a .fit .now) (a .j) (c .before .ids-of .result .now) (c .before .ids-of .ensures) (many (c .before))
 
 pub may-list-spec : {M : Type 1} → statement M
-may-list-spec = tie.close (tie.spec ids-of-requires any-flagged-requires returns)
+may-list-spec = tie.close (tie.spec (λ c κs. search needs) any-flagged-requires returns)

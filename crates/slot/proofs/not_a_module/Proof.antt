@@ -14,21 +14,6 @@ use borrow.Author.Needs.{needs}
 use Rattle.slot.proofs.not_a_module.Statement.{statement}
 use Rattle.slot.proofs.not_a_module.Tie as tie
 
-is-fitted-requires : tie.Need-is-fitted-requires
-is-fitted-requires c κs = search needs
-
-is-module-category-requires : tie.Need-is-module-category-requires
-is-module-category-requires c κs = search needs
-
-both-requires : tie.Need-both-requires
-both-requires c κs = search needs
-
-push-when-requires : tie.Need-push-when-requires
-push-when-requires c κs = search needs
-
-same-length : tie.Need-same-length
-same-length c = search needs
-
 returns : tie.Need-returns
 returns c =
     let b = c .before .before .before .before in
@@ -44,9 +29,9 @@ pub not-a-module-spec : {M : Type 1} → statement M
 not-a-module-spec =
     tie.close
     (tie.spec
-    is-fitted-requires
-    is-module-category-requires
-    both-requires
-    push-when-requires
-    same-length
+    (λ c κs. search needs)
+    (λ c κs. search needs)
+    (λ c κs. search needs)
+    (λ c κs. search needs)
+    (λ c. search needs)
     returns)

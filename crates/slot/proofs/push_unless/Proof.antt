@@ -10,18 +10,6 @@ use borrow.Author.Needs.{needs}
 use Rattle.slot.proofs.push_unless.Statement.{statement}
 use Rattle.slot.proofs.push_unless.Tie as tie
 
-same-id-requires : tie.Need-same-id-requires
-same-id-requires c κs = search needs
-
-both-requires : tie.Need-both-requires
-both-requires c κs = search needs
-
-push-when-requires : tie.Need-push-when-requires
-push-when-requires c κs = search needs
-
-same-length : tie.Need-same-length
-same-length c = search needs
-
 returns : tie.Need-returns
 returns c =
     let b = c .before .before .before .before in
@@ -37,4 +25,4 @@ returns c =
 
 pub push-unless-spec : {M : Type 1} → statement M
 push-unless-spec =
-    tie.close (tie.spec same-id-requires both-requires push-when-requires same-length returns)
+    tie.close (tie.spec (λ c κs. search needs) (λ c κs. search needs) (λ c κs. search needs) (λ c. search needs) returns)

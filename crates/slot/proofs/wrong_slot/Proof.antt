@@ -11,21 +11,6 @@ use borrow.Author.Needs.{needs}
 use Rattle.slot.proofs.wrong_slot.Statement.{statement}
 use Rattle.slot.proofs.wrong_slot.Tie as tie
 
-is-fitted-requires : tie.Need-is-fitted-requires
-is-fitted-requires c κs = search needs
-
-both-requires : tie.Need-both-requires
-both-requires c κs = search needs
-
-both-requires-2 : tie.Need-both-requires-2
-both-requires-2 c κs = search needs
-
-push-when-requires : tie.Need-push-when-requires
-push-when-requires c κs = search needs
-
-same-length : tie.Need-same-length
-same-length c = search needs
-
 returns : tie.Need-returns
 returns c =
     let b = c .before .before .before .before in
@@ -38,9 +23,9 @@ pub wrong-slot-spec : {M : Type 1} → statement M
 wrong-slot-spec =
     tie.close
     (tie.spec
-    is-fitted-requires
-    both-requires
-    both-requires-2
-    push-when-requires
-    same-length
+    (λ c κs. search needs)
+    (λ c κs. search needs)
+    (λ c κs. search needs)
+    (λ c κs. search needs)
+    (λ c. search needs)
     returns)

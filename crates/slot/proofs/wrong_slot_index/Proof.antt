@@ -2,7 +2,6 @@
 use native.Mathlib.Omega.{arith}
 use Prim.Native.Nat.{ℕ, _+_}
 use mathlib.Core.Path.{_≡_, sym, ap, _∙_}
-use lib.IntN.{ℤ}
 use mir.Syntax.{w32}
 use mir.ValLaws.{toZ-ofZ}
 use Rattle.catalogue.specs.Answers.{idOf}
@@ -14,30 +13,6 @@ use Rattle.slot.proofs.Numbers.{wrong-index-is, wrong-index-none}
 use borrow.Author.Needs.{needs}
 use Rattle.slot.proofs.wrong_slot_index.Statement.{statement}
 use Rattle.slot.proofs.wrong_slot_index.Tie as tie
-
-slot-number-requires : tie.Need-slot-number-requires
-slot-number-requires c κs = search needs
-
-enum-known-number : tie.Need-enum-known-number
-enum-known-number c = search needs
-
-position-requires : tie.Need-position-requires
-position-requires c κs = search needs
-
-add-value : tie.Need-add-value
-add-value c = search needs
-
-value-requires : tie.Need-value-requires
-value-requires c κs = search needs
-
-expect-index-requires : tie.Need-expect-index-requires
-expect-index-requires c κs = search needs
-
-enum-told : tie.Need-enum-told
-enum-told c = search needs
-
-same-length : tie.Need-same-length
-same-length c = search needs
 
 returns : tie.Need-returns
 returns c =
@@ -68,13 +43,13 @@ pub wrong-slot-index-spec : {M : Type 1} → statement M
 wrong-slot-index-spec =
     tie.close
     (tie.spec
-    slot-number-requires
-    enum-known-number
-    position-requires
-    add-value
-    value-requires
-    expect-index-requires
-    enum-told
-    same-length
+    (λ c κs. search needs)
+    (λ c. search needs)
+    (λ c κs. search needs)
+    (λ c. search needs)
+    (λ c κs. search needs)
+    (λ c κs. search needs)
+    (λ c. search needs)
+    (λ c. search needs)
     returns
     returns-2)
