@@ -2,6 +2,5 @@
 pub mod Pairs
 pub mod Filled
 pub mod Marks
-pub mod Ids
 pub mod Types
 pub mod Gathering

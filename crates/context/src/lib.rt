@@ -2,12 +2,14 @@
 use catalogue::SlotAnswer;
 use catalogue::TypeAnswer;
 use catalogue::TypeInfo;
+use numbers::categories;
+use numbers::slots;
 ghost use mathlib.Core.Path.{_≡_};
 ghost use mathlib.Core.List.{List};
 ghost use Prim.Native.Nat.{ℕ, _+_, _<_};
 ghost use lib.Dec.{leb};
 ghost use lib.ListN.{getD};
-ghost use Rattle.words.specs.Words.{same};
+ghost use Rattle.numbers.specs.Slots as Slots;
 ghost use Rattle.catalogue.specs.Catalogue.{catalogueOf};
 ghost use Rattle.catalogue.specs.Lookups.{rackOf, hardpointOf};
 ghost use Rattle.catalogue.specs.Sound as Catalogue;
@@ -136,24 +138,17 @@ pub fn gather(catalogue: &[u8], fit: &[u8], hints: &mut [u32]) -> Facts
     }
 }
 
-// Two ids are the same.
-pub fn same_id(a: i32, b: i32) -> bool
-    ensures { λ r. ⌜ r ≡ same a b ⌝ }
-{
-    a == b
-}
-
 // Modules, subsystems and structure modules.
 pub fn is_module_category(category: i32) -> bool
     ensures { λ r. ⌜ r ≡ isModuleCategory category ⌝ }
 {
-    if same_id(category, 7) {
+    if words::same_id(category, categories::MODULE) {
         return true;
     }
-    if same_id(category, 32) {
+    if words::same_id(category, categories::SUBSYSTEM) {
         return true;
     }
-    same_id(category, 66)
+    words::same_id(category, categories::STRUCTURE_MODULE)
 }
 
 pub fn slot_at(slots: &[u8; 256], i: usize) -> u8
@@ -164,9 +159,9 @@ pub fn slot_at(slots: &[u8; 256], i: usize) -> u8
 }
 
 pub fn is_fitted(slot: u8) -> bool
-    ensures { λ r. ⌜ r ≡ leb slot 5 ⌝ }
+    ensures { λ r. ⌜ r ≡ leb slot Slots.service ⌝ }
 {
-    slot <= 5
+    slot <= slots::SERVICE
 }
 
 // Whether pair i is in a rack.

@@ -34,7 +34,7 @@ module _ (i : Item) (e : badItem i ≡ false) where
   over = ltb 11 (i .slot)
 
   filled : Bool
-  filled = not (eqb (i .zero) 0)
+  filled = not (eqb (i .reserved) 0)
 
   long : Bool
   long = ltb 255 (i .index) && not (eqb (i .slot) booster)
@@ -64,7 +64,7 @@ module _ (i : Item) (e : badItem i ≡ false) where
 
 state-good : (r : Result) → badResult r ≡ false → r .state ≤ 3
 unfolding badResult
-state-good r e = ltb-false 3 (r .state) (or-left (ltb 3 (r .state)) (not (eqb (r .zero) 0)) e)
+state-good r e = ltb-false 3 (r .state) (or-left (ltb 3 (r .state)) (not (eqb (r .reserved) 0)) e)
 
 -- ---- sizes
 module _ (b : List ℕ) where

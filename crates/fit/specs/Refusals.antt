@@ -49,13 +49,13 @@ badOrder f =
 -- 6: the slot kind is 0 to 11, the next byte 0; the index is at most 255 unless Booster, and 0 for bays and Cargo
 unfoldable pub badItem : Item → Bool
 badItem i =
-    ltb 11 (i .slot) || not (eqb (i .zero) 0)
+    ltb 11 (i .slot) || not (eqb (i .reserved) 0)
     || (ltb 255 (i .index) && not (eqb (i .slot) booster))
     || (not (eqb (i .index) 0) && (eqb (i .slot) fighterBay || eqb (i .slot) droneBay || eqb (i .slot) cargoHold))
 
 -- 6: the state is 0 to 3, the next byte 0
 unfoldable pub badResult : Result → Bool
-badResult r = ltb 3 (r .state) || not (eqb (r .zero) 0)
+badResult r = ltb 3 (r .state) || not (eqb (r .reserved) 0)
 
 -- 6: the mode flag is 0 or 1, the mode 0 where it is 0
 unfoldable pub badField : Fit → Bool

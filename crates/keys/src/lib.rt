@@ -48,7 +48,7 @@ fn ordered(keys: &[u8], n: usize, bias: u32, strict: bool) -> bool
     while i < n {
         let x = biased_at(keys, i - 1, bias);
         let y = biased_at(keys, i, bias);
-        ok = image::both(ok, stand(x, y, strict));
+        ok = words::both(ok, stand(x, y, strict));
         i += 1;
     }
     ok

@@ -99,7 +99,7 @@ get-append (x ∷ l) m (suc n) h = get-append l m n (le-of-suc-le-suc h)
 
 module _ (old new : Fit) (g : Grown old new) where
   all-results : allResults new ≡ allResults old ++ drop (length (old .results)) (new .results)
-  all-results = ap₂ (λ (k : Frame) (l : List Result). k .hull ∷ k .character ∷ l) (g .frame) (begins (old .results) (new .results) (g .results))
+  all-results = ap₂ (λ (k : Frame) (l : List Result). k .shipResult ∷ k .characterResult ∷ l) (g .frame) (begins (old .results) (new .results) (g .results))
 
   same-result : (n : ℕ) → n ≤ length (old .results) + 1 → resultAt new n ≡ resultAt old n
   unfolding resultAt

@@ -21,7 +21,7 @@ abbrev pub loadOf : Context → ℕ × ℕ × ℕ → List Entry
 loadOf x l = do
   load ← nameId (x .names) (l .1)
   output ← nameId (x .names) (l .2)
-  resource (l .0) (amount (x .hull) load) (amount (x .hull) output)
+  resource (l .0) (amount (x .shipResult) load) (amount (x .shipResult) output)
 
 -- what pair i adds to the launched drones, and all that the pairs add
 abbrev pub launchedAt : List ℕ → ℕ → ℕ

@@ -66,7 +66,7 @@ fn is_among(ids: &[i32; 512], len: usize, id: i32) -> bool
     let mut i: usize = 0;
     while i < len {
         let x = ids[i];
-        found = image::either(found, context::same_id(x, id));
+        found = words::either(found, words::same_id(x, id));
         i += 1;
     }
     found

@@ -25,7 +25,7 @@ returns-2 c =
     let b = a .fit .now in
     let p = c .before .before .before .before .pre in
     let e : c .before .before .u8-at .result ≡ resultOf b (a .j) .state = c .before .before .u8-at .ensures ∙ ap (λ (k : ℕ). u8At b (k + 4 * a .j)) (p .0) in
-    let z : c .u8-at2 .result ≡ resultOf b (a .j) .zero = c .u8-at2 .ensures ∙ ap (λ (k : ℕ). u8At b (k + 4 * a .j + 1)) (p .0) in
+    let z : c .u8-at2 .result ≡ resultOf b (a .j) .reserved = c .u8-at2 .ensures ∙ ap (λ (k : ℕ). u8At b (k + 4 * a .j + 1)) (p .0) in
     simp (sym e, sym z, le-ltb 3 (c .before .before .u8-at .result) (omega arith))
 
 pub bad-result-spec : {M : Type 1} → statement M

@@ -15,7 +15,7 @@ returns : tie.Need-returns
 returns c =
     let b = c .before .before .before .before in
     let a = c .before .before .before .before .before .before .before .before .args in
-    checked notAFighter (c .before .before .push-unless .ensures) (λ x p h. ap (λ (t : Bool). when (t && not (same (a .item .category) (pos 87))) (onItem (a .item .at) NotAFighter)) (b .either .ensures) ∙ not-a-fighter-is x h)
+    checked notAFighter (c .before .before .push-unless .ensures) (λ x p h. ap (λ (t : Bool). when (t && not (same (a .item .category) (pos 87))) (onItem (a .item .position) NotAFighter)) (b .either .ensures) ∙ not-a-fighter-is x h)
 
 pub not-a-fighter-spec : {M : Type 1} → statement M
 not-a-fighter-spec = tie.close (tie.spec (λ c κs. search needs) (λ c κs. search needs) (λ c. search needs) returns)

@@ -23,7 +23,7 @@ returns c =
     rw (toZ-ofZ w32 (a .item .category) (record { sfits = fits })) at (b .before .is-module-category .ensures) in
     let t : b .both .result ≡ leb (a .item .slot) 5 && not (isModuleCategory (a .item .category)) =
     rw (b .before .before .before .is-fitted .ensures, m) at (b .both .ensures) in
-    checked notAModule (c .before .before .push-when .ensures) (λ x p h. ap (λ (t : Bool). when t (onItem (a .item .at) NotAModule)) t ∙ not-a-module-is x h)
+    checked notAModule (c .before .before .push-when .ensures) (λ x p h. ap (λ (t : Bool). when t (onItem (a .item .position) NotAModule)) t ∙ not-a-module-is x h)
 
 pub not-a-module-spec : {M : Type 1} → statement M
 not-a-module-spec =

@@ -15,7 +15,7 @@ returns : tie.Need-returns
 returns c =
     let b = c .before .before .before .before in
     let a = c .before .before .before .before .before .before .before .before .args in
-    checked notAnImplant (c .before .before .push-unless .ensures) (λ x p h. ap (λ (t : Bool). when (t && not (same (a .item .category) (pos 20))) (onItem (a .item .at) NotAnImplant)) (b .either .ensures) ∙ not-an-implant-is x h)
+    checked notAnImplant (c .before .before .push-unless .ensures) (λ x p h. ap (λ (t : Bool). when (t && not (same (a .item .category) (pos 20))) (onItem (a .item .position) NotAnImplant)) (b .either .ensures) ∙ not-an-implant-is x h)
 
 pub not-an-implant-spec : {M : Type 1} → statement M
 not-an-implant-spec = tie.close (tie.spec (λ c κs. search needs) (λ c κs. search needs) (λ c. search needs) returns)

@@ -20,7 +20,7 @@ returns c =
     rw (toZ-ofZ w32 (a .item .category) (record { sfits = fits }), toZ-ofZ w32 (a .category) (s .fits .category)) at (b .before .same-id .ensures) in
     let w = c .before .before .push-when .ensures in (
       w .0,
-      wrote-same (ap (λ (t : Bool). when t (onItem (a .item .at) (a .rule))) (b .both .ensures ∙ ap (λ (t : Bool). a .there && not t) e)) (w .1),
+      wrote-same (ap (λ (t : Bool). when t (onItem (a .item .position) (a .rule))) (b .both .ensures ∙ ap (λ (t : Bool). a .there && not t) e)) (w .1),
     )
 
 pub push-unless-spec : {M : Type 1} → statement M

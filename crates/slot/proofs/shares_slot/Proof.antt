@@ -55,7 +55,7 @@ returns c =
     let s = c .before .before .before .before .before in
     let fit = s .args .fit .now in
     let e : l .j ≡ pairCount fit = omega arith in
-    λ catalogue i h. any-all (sharesSlot (pairAt catalogue fit i)) catalogue fit e (told-all (omega (arith, e, h .at, s .pre .2)) (l .inv .2 catalogue i (sits-as (h .slot) (h .index) (c .before .before .place-of .ensures))))
+    λ catalogue i h. any-all (sharesSlot (pairAt catalogue fit i)) catalogue fit e (told-all (omega (arith, e, h .position, s .pre .2)) (l .inv .2 catalogue i (sits-as (h .slot) (h .index) (c .before .before .place-of .ensures))))
 
 pub shares-slot-spec : {M : Type 1} → statement M
 shares-slot-spec =

@@ -62,7 +62,7 @@ returns c =
           let x = contextOf catalogue fit in
           let p = pairAt catalogue fit (s .args .i) in
           let h = m .item-at .ensures .1 catalogue hc hr in
-          let r : resultOf fit (s .args .i + 2) ≡ resultOf fit (m .item-at .result .at + 2) = ap (λ (j : ℕ). resultOf fit (j + 2)) (sym (m .item-at .ensures .0)) in
+          let r : resultOf fit (s .args .i + 2) ≡ resultOf fit (m .item-at .result .position + 2) = ap (λ (j : ℕ). resultOf fit (j + 2)) (sym (m .item-at .ensures .0)) in
           let known = named-context catalogue fit named in
           wrote-append (wrote-append (wrote-append (a .alone .ensures .1 x p h) (t .slot-taken .ensures .1 catalogue x (s .args .i) h)) (w .wrong-slot-index .ensures .1 x p known h r)) (u .subsystem-taken .ensures .1 catalogue x p known h r),
     )

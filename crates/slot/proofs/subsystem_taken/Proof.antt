@@ -34,7 +34,7 @@ returns-2 c =
     let i = k .before .before .before in
     let a = i .before .before .before .before .args in
     let z = toZ-ofZ w32 (m .0 .0) (record { sfits = k .known-told .given .0 .1 }) in
-    let e : valueOf (v .value .result) ≡ value (resultOf (a .fit .now) (a .item .at + 2)) (m .0 .0) =
+    let e : valueOf (v .value .result) ≡ value (resultOf (a .fit .now) (a .item .position + 2)) (m .0 .0) =
     v .value .ensures
     ∙ ap (value (resultOf (a .fit .now) (v .before .position .result + 2))) z
     ∙ ap (λ (j : ℕ). value (resultOf (a .fit .now) (j + 2)) (m .0 .0)) (v .before .position .ensures) in (

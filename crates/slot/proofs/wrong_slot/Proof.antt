@@ -17,7 +17,7 @@ returns c =
     let a = b .before .before .before .before .before .args in
     let t : b .both2 .result ≡ ltb (a .item .rack) 8 && (leb (a .item .slot) 5 && not (eqb (a .item .slot) (a .item .rack))) =
     rw (b .before .both .ensures, b .before .before .before .is-fitted .ensures) at (b .both2 .ensures) in
-    checked wrongSlot (c .before .before .push-when .ensures) (λ x p h. ap (λ (t : Bool). when t (onItem (a .item .at) (WrongSlot (a .item .rack)))) t ∙ wrong-slot-is x h)
+    checked wrongSlot (c .before .before .push-when .ensures) (λ x p h. ap (λ (t : Bool). when t (onItem (a .item .position) (WrongSlot (a .item .rack)))) t ∙ wrong-slot-is x h)
 
 pub wrong-slot-spec : {M : Type 1} → statement M
 wrong-slot-spec =

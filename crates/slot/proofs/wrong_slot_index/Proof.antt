@@ -22,7 +22,7 @@ returns c =
     let m = k .before .number .given in
     let s = k .before .before .before in
     let a = s .before .before .before .args in
-    let e : valueOf (v .value .result) ≡ value (resultOf (a .fit .now) (a .item .at + 2)) (m .0 .0) =
+    let e : valueOf (v .value .result) ≡ value (resultOf (a .fit .now) (a .item .position + 2)) (m .0 .0) =
     v .value .ensures
     ∙ ap (value (resultOf (a .fit .now) (v .before .position .result + 2))) (toZ-ofZ w32 (m .0 .0) (record { sfits = k .known-told .given .0 .1 }))
     ∙ ap (λ (j : ℕ). value (resultOf (a .fit .now) (j + 2)) (m .0 .0)) (v .before .position .ensures) in (

@@ -1,11 +1,11 @@
--- `image::one_if` meets its contract, by cases.
+-- `words::one_if` meets its contract, by cases.
 use Prim.Native.Nat.{_≤_}
 use native.Mathlib.Omega.{arith}
 use mathlib.Core.Path.{_≡_, refl}
 use mathlib.Core.Bool.{Bool, true, false, cond}
 use mir.Val.{boolByte}
-use Rattle.image.proofs.one_if.Statement.{statement}
-use Rattle.image.proofs.one_if.Tie as tie
+use Rattle.words.proofs.one_if.Statement.{statement}
+use Rattle.words.proofs.one_if.Tie as tie
 
 by-cases : (b : Bool) → (boolByte b ≡ cond b 1 0) × (boolByte b ≤ 1)
 by-cases true = (refl, omega arith)
