@@ -28,6 +28,10 @@ mostItems = 256
 abbrev pub mostResults : ℕ
 mostResults = 256
 
+-- a pair is an item that has a result
+abbrev pub mostPairs : ℕ
+mostPairs = 256
+
 abbrev pub mostAttributes : ℕ
 mostAttributes = 30000
 
