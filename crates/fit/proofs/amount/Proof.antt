@@ -15,8 +15,8 @@ use Rattle.fit.proofs.amount.Tie as tie
 returns : tie.Need-returns
 unfolding amount
 returns c =
-    let a = c .before .before .before .args in
-    c .amount .ensures ∙ ap (λ (o : Option Float). given o zeroF (λ v. v)) (c .before .value .ensures ∙ ap (value (resultOf (a .fit .now) (a .j))) (toZ-ofZ w32 (a .id) (c .before .before .before .fits .id)))
+    let a = c .before .before .before .before .args in
+    c .amount .ensures ∙ ap (λ (o : Option Float). given o zeroF (λ v. v)) (c .before .value .ensures ∙ ap (value (resultOf (a .fit .now) (a .j))) (toZ-ofZ w32 (a .id) (c .before .before .before .before .fits .id)))
 
 pub amount-spec : {M : Type 1} → statement M
 amount-spec = tie.close (tie.spec (λ c κs. search needs) (λ c κs. search needs) returns)

@@ -5,7 +5,6 @@ use mathlib.Core.Path.{_≡_, ap, _∙_}
 use lib.ListN.{length}
 use borrow.Author.Needs.{needs}
 use Rattle.fit.specs.Fit.{countAt, startAt}
-use Rattle.fit.proofs.Soundness.{sound-sized}
 use Rattle.fit.proofs.Decoded.{start-within, ids-length}
 use Rattle.item.proofs.Flags.{flagged-ids}
 use Rattle.item.proofs.may_list.Statement.{statement}
@@ -20,7 +19,7 @@ many c =
     let s = c .before .before in
     let b = s .args .fit .now in
     let j = s .args .j in
-    let w = start-within b (sound-sized b (s .pre .0)) j (s .pre .2) in
+    let w = start-within b (s .pre .0 .sized) j (s .pre .2) in
     let l : length (c .ids-of .result .now) ≡ 4 * countAt b j = ap length (c .ids-of .ensures) ∙ ids-length b (startAt b j) (countAt b j) (omega (arith, w, s .pre .0 .size)) in
     omega (arith, l)
 
