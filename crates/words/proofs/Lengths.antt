@@ -36,6 +36,6 @@ module _ {A B : Type 0} where
     few-each [] = omega arith
     few-each (x ∷ l) = omega (arith, length-append (f x) (each l f), h x, few-each l, mul-suc c (length l))
 
-pub few-above : {B : Type 0} (b : Bool) (limit used : ℕ) (e : ℕ → B) → length (whenAbove b limit used e) ≤ 1
+pub few-above : {B : Type 0} (b : Bool) (used allowed : ℕ) (e : ℕ → B) → length (whenAbove b used allowed e) ≤ 1
 unfolding whenAbove
-few-above b limit used e = few-when (b && ltb limit used) (e used)
+few-above b used allowed e = few-when (b && ltb limit used) (e used)
