@@ -1,14 +1,14 @@
 -- Reading a catalogue, as `Context` and `slots_of` in validate/mod.rs do: each lookup takes the first match in stored order.
 use Prim.Native.Nat.{ℕ, _-_}
-use mathlib.Core.Bool.{Bool, true, false, _&&_, cond}
+use mathlib.Core.Bool.{_&&_, cond}
 use mathlib.Core.List.{List, [], _∷_, foldl}
 use mathlib.Core.Option.{Option, none, some}
-use lib.IntN.{ℤ, pos}
+use lib.IntN.{pos}
 use lib.Dec.{eqb, leb}
 use lib.Ieee.{Float}
 use Rattle.words.specs.Words.{_>>=_, each, only, find, given, same}
 use Rattle.floats.specs.Floats.{zeroF}
-use Rattle.catalogue.specs.Catalogue.{Id, Name, Effect, TypeData, Link, Base, Catalogue}
+use Rattle.catalogue.specs.Catalogue.{Id, Name, TypeData, Catalogue}
 
 -- `attribute_id`: the id of a name
 unfoldable pub nameId : List Name → ℕ → Option Id

@@ -1,6 +1,6 @@
 -- Document 01, "Refusals in their order", 1 to 3, and "Records": what a catalogue must be.
 use Prim.Native.Nat.{ℕ}
-use mathlib.Core.Bool.{Bool, true, false, not, _||_}
+use mathlib.Core.Bool.{Bool, not, _||_}
 use mathlib.Core.List.{List, [], _∷_, map}
 use lib.Dec.{eqb, ltb}
 use lib.Signed.{ltZ, leZ}

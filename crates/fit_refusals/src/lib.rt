@@ -89,7 +89,7 @@ fn any_disordered(fit: &[u8]) -> bool
     let mut j: usize = 0;
     while j < n {
         let k = layout::count_at(fit, results, j);
-        bad = image::either(bad, disordered(fit, first, start, k));
+        bad = words::either(bad, disordered(fit, first, start, k));
         start += k;
         j += 1;
     }
@@ -136,13 +136,13 @@ fn in_bay(slot: u8) -> bool
 }
 
 // An item's slot kind, the byte after it, and its index.
-fn bad_place(slot: u8, zero: u8, index: u16) -> bool
-    ensures { λ r. ⌜ ((i : Item) → i .slot ≡ slot → i .zero ≡ zero → i .index ≡ index → r ≡ badItem i) ⌝ }
+fn bad_place(slot: u8, reserved: u8, index: u16) -> bool
+    ensures { λ r. ⌜ ((i : Item) → i .slot ≡ slot → i .reserved ≡ reserved → i .index ≡ index → r ≡ badItem i) ⌝ }
 {
     if CARGO < slot {
         return true;
     }
-    if zero != 0 {
+    if reserved != 0 {
         return true;
     }
     if 255 < index {
@@ -164,9 +164,9 @@ fn bad_item(fit: &[u8], first: usize, i: usize) -> bool
 {
     let at = first + 12 * i;
     let slot = image::u8_at(fit, at + 8);
-    let zero = image::u8_at(fit, at + 9);
+    let reserved = image::u8_at(fit, at + 9);
     let index = image::u16_at(fit, at + 10);
-    bad_place(slot, zero, index)
+    bad_place(slot, reserved, index)
 }
 
 fn any_bad_item(fit: &[u8]) -> bool
@@ -178,7 +178,7 @@ fn any_bad_item(fit: &[u8]) -> bool
     let mut bad = false;
     let mut i: usize = 0;
     while i < n {
-        bad = image::either(bad, bad_item(fit, first, i));
+        bad = words::either(bad, bad_item(fit, first, i));
         i += 1;
     }
     bad
@@ -194,8 +194,8 @@ fn bad_result(fit: &[u8], first: usize, j: usize) -> bool
     if 3 < state {
         return true;
     }
-    let zero = image::u8_at(fit, at + 1);
-    zero != 0
+    let reserved = image::u8_at(fit, at + 1);
+    reserved != 0
 }
 
 fn any_bad_result(fit: &[u8]) -> bool
@@ -207,7 +207,7 @@ fn any_bad_result(fit: &[u8]) -> bool
     let mut bad = false;
     let mut j: usize = 0;
     while j < n {
-        bad = image::either(bad, bad_result(fit, first, j));
+        bad = words::either(bad, bad_result(fit, first, j));
         j += 1;
     }
     bad

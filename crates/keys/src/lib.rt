@@ -1,12 +1,12 @@
 // Keys in an image: whether they are in order, and where an id stands among them.
 ghost use mathlib.Core.Path.{_≡_};
-ghost use mathlib.Core.Bool.{_&&_, _||_, cond};
-ghost use Prim.Native.Nat.{ℕ, _+_, _-_, _*_, _<_, _≤_};
+ghost use mathlib.Core.Bool.{_||_, cond};
+ghost use Prim.Native.Nat.{_+_, _-_, _*_, _<_, _≤_};
 ghost use lib.ListN.{length};
 ghost use lib.Dec.{eqb, ltb, leb};
 ghost use lib.Signed.{ltZ, leZ};
-ghost use Rattle.words.specs.Words.{table, inOrder, anyOf};
-ghost use Rattle.image.specs.Bytes.{u32At, i32At};
+ghost use Rattle.words.specs.Words.{table, inOrder};
+ghost use Rattle.image.specs.Bytes.{u32At};
 ghost use Rattle.keys.specs.Keys.{keyAt, rankOf, Sorted, Parts, placeOf, foundOf, biased, stands};
 
 // A place in a slice, or none.
@@ -48,7 +48,7 @@ fn ordered(keys: &[u8], n: usize, bias: u32, strict: bool) -> bool
     while i < n {
         let x = biased_at(keys, i - 1, bias);
         let y = biased_at(keys, i, bias);
-        ok = image::both(ok, stand(x, y, strict));
+        ok = words::both(ok, stand(x, y, strict));
         i += 1;
     }
     ok
