@@ -49,7 +49,9 @@ pub fn u16_at(b: &[u8], at: usize) -> u16
 // Four bytes as a number, the lowest first.
 fn four(b: &[u8], at: usize) -> u32
     requires { ⌜ at + 4 ≤ length (now b) ⌝ }
-    ensures { λ r. ⌜ r ≡ u8At (now (b .entry)) at + 256 * u8At (now (b .entry)) (at + 1) + 65536 * u8At (now (b .entry)) (at + 2) + 16777216 * u8At (now (b .entry)) (at + 3) ⌝ }
+    ensures { λ r.
+        let x = u8At (now (b .entry)) in
+        ⌜ r ≡ x at + 256 * x (at + 1) + 65536 * x (at + 2) + 16777216 * x (at + 3) ⌝ }
 {
     wide32(b[at])
         + 256 * wide32(b[at + 1])

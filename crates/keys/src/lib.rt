@@ -93,8 +93,8 @@ fn rank(id: i32) -> u32
     std::num::wrapping_add_u32(image::bits(id), 2147483648)
 }
 
-// 3 where x is under y, else 2. By arithmetic, and not 1 and 0: as a test, which the compiler sees in 1 and 0 too, it would be a branch, and
-// a search guesses half of those wrong.
+// 3 where x is under y, else 2. By arithmetic, and not 1 and 0: as a test, which the compiler sees in 1 and 0 too, it would be a
+// branch, and a search guesses half of those wrong.
 fn under(x: u32, y: u32) -> usize
     ensures { λ r. ⌜ r ≡ cond (ltb x y) 3 2 ⌝ }
 {
@@ -131,7 +131,9 @@ pub fn first_from(keys: &[u8], n: usize, id: i32) -> usize
 // `first_from` of four ids, whose steps do not wait for one another.
 pub fn four_from(keys: &[u8], n: usize, i: i32, j: i32, k: i32, l: i32) -> Four
     requires { ⌜ (4 * n ≤ length (now keys)) × Sorted (now keys) n ⌝ }
-    ensures { λ r. ⌜ Parts (now (keys .entry)) n i (r .a) × Parts (now (keys .entry)) n j (r .b) × Parts (now (keys .entry)) n k (r .c) × Parts (now (keys .entry)) n l (r .d) ⌝ }
+    ensures { λ r.
+        let p = Parts (now (keys .entry)) n in
+        ⌜ p i (r .a) × p j (r .b) × p k (r .c) × p l (r .d) ⌝ }
 {
     let p = rank(i);
     let q = rank(j);

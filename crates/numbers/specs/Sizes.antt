@@ -8,13 +8,6 @@ mostCatalogueBytes = 16777216
 abbrev pub lastName : ℕ
 lastName = 87
 
-abbrev pub lastMark : ℕ
-lastMark = 8
-
--- marks 1 to 6 are racks, 7 and 8 hardpoints
-abbrev pub lastRackMark : ℕ
-lastRackMark = 6
-
 abbrev pub lastVolumeFlag : ℕ
 lastVolumeFlag = 1
 

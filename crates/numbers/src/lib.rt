@@ -2,6 +2,7 @@
 pub mod categories;
 pub mod groups;
 pub mod limits;
+pub mod marks;
 pub mod names;
 pub mod refusals;
 pub mod resources;

@@ -38,4 +38,4 @@ module _ {A B : Type 0} where
 
 pub few-above : {B : Type 0} (b : Bool) (used allowed : ℕ) (e : ℕ → B) → length (whenAbove b used allowed e) ≤ 1
 unfolding whenAbove
-few-above b used allowed e = few-when (b && ltb limit used) (e used)
+few-above b used allowed e = few-when (b && ltb allowed used) (e used)
