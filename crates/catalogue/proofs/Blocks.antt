@@ -1,4 +1,4 @@
--- The keys of a block, read in their part as in the whole, and the refusals as tests of tables. Assumes nothing.
+-- The keys of a block, read in their part as in the whole, and the refusals as tests of tables.
 use Prim.Native.Nat.{ℕ, _+_, _*_}
 use native.Mathlib.Omega.{arith}
 use mathlib.Core.Path.{_≡_, ap}

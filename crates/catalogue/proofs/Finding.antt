@@ -1,4 +1,4 @@
--- Lookups as searches for a number: the index of the first record that matches. Assumes nothing.
+-- Lookups as searches for a number: the index of the first record that matches.
 use Prim.Native.Nat.{ℕ, _+_, _*_, _<_}
 use native.Mathlib.Omega.{arith}
 use mathlib.Core.Path.{_≡_, sym, ap, _∙_}

@@ -1,4 +1,4 @@
--- What a sound catalogue lets a reader rely on: sorted keys, and fields within their limits. Assumes nothing.
+-- What a sound catalogue lets a reader rely on: sorted keys, and fields within their limits.
 use Prim.Native.Nat.{ℕ, _+_, _*_, _≤_, _<_}
 use native.Mathlib.Omega.{arith}
 use mathlib.Core.Path.{_≡_, sym, ap, _∙_}

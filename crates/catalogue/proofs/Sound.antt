@@ -1,4 +1,4 @@
--- A catalogue is sound exactly when it is not refused, and what the first refusal is. Assumes nothing.
+-- A catalogue is sound exactly when it is not refused, and what the first refusal is.
 use Prim.Native.Nat.{ℕ, _≤_}
 use native.Mathlib.Omega.{arith}
 use mathlib.Core.Path.{_≡_, refl, sym}

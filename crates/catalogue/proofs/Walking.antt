@@ -1,4 +1,4 @@
--- Links and bases: the run of one type, its marks in order, its first value of an attribute. Assumes nothing.
+-- Links and bases: the run of one type, its marks in order, its first value of an attribute.
 use Prim.Native.Nat.{ℕ, _+_, _-_, _*_, _≤_, _<_}
 use native.Mathlib.Omega.{arith}
 use mathlib.Core.Path.{_≡_, refl, sym, ap, _∙_}

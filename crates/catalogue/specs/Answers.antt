@@ -3,6 +3,7 @@ use Prim.Native.Nat.{ℕ}
 use mathlib.Core.Bool.{cond}
 use mathlib.Core.Option.{Option, none, some}
 use lib.Dec.{eqb}
+use Rattle.numbers.specs.Refusals as Refusals
 use Rattle.floats.specs.Floats.{zeroF}
 use Rattle.catalogue.specs.Catalogue.{Id, TypeData}
 use Rattle.catalogue.specs.declared.Verdict.{Verdict}
@@ -20,9 +21,9 @@ use Rattle.catalogue.specs.declared.SlotAnswer.the-variants as slot-answ
 -- document 01, "Refusals in their order": the number of the refusal, or 0
 abbrev pub numberOf : Verdict → ℕ
 numberOf Accepted = 0
-numberOf BadLength = 1
-numberOf BadOrder = 2
-numberOf BadField = 3
+numberOf BadLength = Refusals.badLength
+numberOf BadOrder = Refusals.badKeys
+numberOf BadField = Refusals.badEntry
 
 -- the attribute of a name, if it has one
 abbrev pub idOf : AttributeId → Option Id

@@ -1,14 +1,15 @@
 -- Reading a catalogue, as `Context` and `slots_of` in validate/mod.rs do: each lookup takes the first match in stored order.
 use Prim.Native.Nat.{ℕ, _-_}
-use mathlib.Core.Bool.{Bool, true, false, _&&_, cond}
+use mathlib.Core.Bool.{_&&_, cond}
 use mathlib.Core.List.{List, [], _∷_, foldl}
 use mathlib.Core.Option.{Option, none, some}
-use lib.IntN.{ℤ, pos}
+use lib.IntN.{pos}
 use lib.Dec.{eqb, leb}
 use lib.Ieee.{Float}
 use Rattle.words.specs.Words.{_>>=_, each, only, find, given, same}
+use Rattle.numbers.specs.Marks as Marks
 use Rattle.floats.specs.Floats.{zeroF}
-use Rattle.catalogue.specs.Catalogue.{Id, Name, Effect, TypeData, Link, Base, Catalogue}
+use Rattle.catalogue.specs.Catalogue.{Id, Name, TypeData, Catalogue}
 
 -- `attribute_id`: the id of a name
 unfoldable pub nameId : List Name → ℕ → Option Id
@@ -46,10 +47,10 @@ module _ (c : Catalogue) where
 
   -- `slots_of`: the rack and the hardpoint that a type asks for
   unfoldable pub rackOf : Id → Option ℕ
-  rackOf = lastMark 1 6
+  rackOf = lastMark Marks.hiPower Marks.serviceSlot
 
   unfoldable pub hardpointOf : Id → Option ℕ
-  hardpointOf = lastMark 7 8
+  hardpointOf = lastMark Marks.turretFitted Marks.launcherFitted
 
   -- `base_value`: what an attribute starts at on a type
   unfoldable pub baseValue : Id → Id → Option Float

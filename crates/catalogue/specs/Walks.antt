@@ -8,6 +8,7 @@ use lib.Dec.{leb}
 use lib.IntN.{ℤ}
 use lib.Ieee.{Float}
 use Rattle.words.specs.Words.{_>>=_, tableFrom, find, given, same}
+use Rattle.numbers.specs.Marks as Marks
 use Rattle.catalogue.specs.Catalogue.{Id, Link, Catalogue, baseAt, baseCount}
 use Rattle.catalogue.specs.Lookups.{effectMark}
 use Rattle.catalogue.specs.declared.Span.{Span}
@@ -38,6 +39,12 @@ spanValue b first last a = given (find (λ x. same (x .attribute) a) (tableFrom 
 -- one more mark: one from low to high wins over those before it
 abbrev pub marked : ℕ → ℕ → Option ℕ → ℕ → Option ℕ
 marked low high found m = cond (leb low m && leb m high) (some (m - 1)) found
+
+abbrev pub inRack : Option ℕ → ℕ → Option ℕ
+inRack = marked Marks.hiPower Marks.serviceSlot
+
+abbrev pub onHardpoint : Option ℕ → ℕ → Option ℕ
+onHardpoint = marked Marks.turretFitted Marks.launcherFitted
 
 -- the mark of a link's effect; none where the effect is not there
 abbrev pub linkMarks : Catalogue → Link → List ℕ

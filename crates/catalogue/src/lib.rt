@@ -1,11 +1,13 @@
 // The catalogue: where its blocks are, and how it is read. Document 01, "Records".
 use floats::Value;
 use keys::Found;
+use numbers::marks;
+use numbers::names;
 ghost use mathlib.Core.Path.{_≡_};
 ghost use mathlib.Core.Bool.{cond};
 ghost use mathlib.Core.List.{foldl};
 ghost use mathlib.Core.Option.{none, some};
-ghost use Prim.Native.Nat.{ℕ, _+_, _*_, _<_, _≤_};
+ghost use Prim.Native.Nat.{_+_, _*_, _<_, _≤_};
 ghost use lib.ListN.{length, take, drop};
 ghost use lib.Dec.{eqb};
 ghost use Rattle.words.specs.Words.{from, find, given, same};
@@ -18,7 +20,7 @@ ghost use Rattle.catalogue.specs.Catalogue.{namesAt, effectsAt, typesAt,
 ghost use Rattle.catalogue.specs.Lookups.{nameId, typeOf, effectMark, rackOf, hardpointOf};
 ghost use Rattle.catalogue.specs.Sound.{Sound};
 ghost use Rattle.catalogue.specs.Answers.{idOf, markOf, infoOf, infoOfType, slotOf};
-ghost use Rattle.catalogue.specs.Walks.{Ends, SpanOf, spanValue, marked, linkMarks};
+ghost use Rattle.catalogue.specs.Walks.{Ends, SpanOf, spanValue, inRack, onHardpoint, linkMarks};
 
 // Refusals 1 to 3, or none.
 pub enum Verdict {
@@ -212,7 +214,7 @@ pub fn attribute_id(catalogue: &[u8], name: u32) -> AttributeId
     requires { ⌜ Sound (now catalogue) ⌝ }
     ensures { λ r. ⌜ idOf r ≡ nameId (catalogueOf (now (catalogue .entry)) .names) name ⌝ }
 {
-    if 87 < name {
+    if names::REQUIRED_SKILL_6_LEVEL < name {
         return AttributeId::Unknown;
     }
     let mut none = [0u32; 0];
@@ -299,20 +301,20 @@ fn is_id(catalogue: &[u8], at: usize, id: i32) -> bool
 
 // A mark of a rack is 1 to 6, one of a hardpoint 7 or 8; mark m stands for slot m - 1.
 fn with_mark(found: SlotMarks, mark: u8) -> SlotMarks
-    ensures rack { λ r. ⌜ slotOf (r .rack) ≡ marked 1 6 (slotOf (found .rack)) mark ⌝ }
-    ensures hardpoint { λ r. ⌜ slotOf (r .hardpoint) ≡ marked 7 8 (slotOf (found .hardpoint)) mark ⌝ }
+    ensures rack { λ r. ⌜ slotOf (r .rack) ≡ inRack (slotOf (found .rack)) mark ⌝ }
+    ensures hardpoint { λ r. ⌜ slotOf (r .hardpoint) ≡ onHardpoint (slotOf (found .hardpoint)) mark ⌝ }
 {
-    if mark < 1 {
+    if mark < marks::HI_POWER {
         return found;
     }
-    if mark <= 6 {
+    if mark <= marks::SERVICE_SLOT {
         let hardpoint = found.hardpoint;
         return SlotMarks {
             rack: SlotAnswer::Slot(mark - 1),
             hardpoint,
         };
     }
-    if mark <= 8 {
+    if mark <= marks::LAUNCHER_FITTED {
         let rack = found.rack;
         return SlotMarks {
             rack,
@@ -332,8 +334,12 @@ fn effect_at(catalogue: &[u8], i: usize) -> i32
 
 fn with_link(catalogue: &[u8], found: SlotMarks, i: usize, hints: &mut [u32]) -> SlotMarks
     requires { ⌜ Sound (now catalogue) × (i < linkCount (now catalogue)) ⌝ }
-    ensures rack { λ r. ⌜ slotOf (r .rack) ≡ foldl (marked 1 6) (slotOf (found .rack)) (linkMarks (catalogueOf (now (catalogue .entry))) (linkAt (now (catalogue .entry)) i)) ⌝ }
-    ensures hardpoint { λ r. ⌜ slotOf (r .hardpoint) ≡ foldl (marked 7 8) (slotOf (found .hardpoint)) (linkMarks (catalogueOf (now (catalogue .entry))) (linkAt (now (catalogue .entry)) i)) ⌝ }
+    ensures rack { λ r.
+        let ms = linkMarks (catalogueOf (now (catalogue .entry))) (linkAt (now (catalogue .entry)) i) in
+        ⌜ slotOf (r .rack) ≡ foldl inRack (slotOf (found .rack)) ms ⌝ }
+    ensures hardpoint { λ r.
+        let ms = linkMarks (catalogueOf (now (catalogue .entry))) (linkAt (now (catalogue .entry)) i) in
+        ⌜ slotOf (r .hardpoint) ≡ foldl onHardpoint (slotOf (found .hardpoint)) ms ⌝ }
 {
     let mark = effect_mark(catalogue, effect_at(catalogue, i), hints);
     match mark {
@@ -406,7 +412,8 @@ pub fn bases_of(catalogue: &[u8], id: i32) -> Span
 
 // What an attribute starts at on the type of a span.
 pub fn base_value(catalogue: &[u8], span: Span, attribute: i32) -> Value
-    requires { ⌜ (length (now catalogue) ≡ sizeOf (now catalogue)) × ((span .from ≤ span .to) × (span .to ≤ baseCount (now catalogue))) ⌝ }
+    requires { ⌜ length (now catalogue) ≡ sizeOf (now catalogue) ⌝ }
+    requires { ⌜ (span .from ≤ span .to) × (span .to ≤ baseCount (now catalogue)) ⌝ }
     ensures { λ r. ⌜ valueOf r ≡ spanValue (now (catalogue .entry)) (span .from) (span .to) attribute ⌝ }
 {
     let b = bases(catalogue);

@@ -88,7 +88,7 @@ fn any_above(b: &[u8], at: usize, n: usize, step: usize, limit: u32) -> bool
     let mut i = 0;
     while i < n {
         let x = image::u32_at(b, at + step * i);
-        found = image::either(found, limit < x);
+        found = words::either(found, limit < x);
         i += 1;
     }
     found

@@ -1,7 +1,6 @@
--- The digits that `io::decimal` spells are `decimal`, and how long it is. Assumes nothing.
-use Prim.Native.Nat.{ℕ, zero, suc, _+_, _*_, _-_, _/_, _%_, _^_, _<_, _≤_, zero-le}
+-- The digits that `io::decimal` spells are `decimal`, and how long it is.
+use Prim.Native.Nat.{ℕ, zero, suc, _+_, _-_, _/_, _%_, _^_, _<_, _≤_, zero-le}
 use native.Mathlib.Nat.{pow-succ'}
-use native.Mathlib.Numerals.{sub-one}
 use native.Mathlib.Omega.{arith}
 use mathlib.Core.Path.{_≡_, refl, ap, sym, _∙_}
 use mathlib.Core.Bool.{Bool, true, false, cond}

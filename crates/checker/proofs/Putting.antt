@@ -1,8 +1,8 @@
--- Laws of `Put`: one byte, one text behind another, bytes of another list one by one. Assumes nothing.
-use Prim.Native.Nat.{ℕ, suc, _+_, _<_, _≤_}
+-- Laws of `Put`: one byte, one text behind another, bytes of another list one by one.
+use Prim.Native.Nat.{ℕ, _+_, _<_}
 use native.Mathlib.Numerals.{add-one}
 use native.Mathlib.Omega.{arith}
-use mathlib.Core.Path.{_≡_, refl, ap, sym, subst, _∙_}
+use mathlib.Core.Path.{_≡_, ap, sym, subst, _∙_}
 use mathlib.Core.List.{List, [], _∷_, _++_, append-nil, append-assoc}
 use lib.ListN.{length, take, set, getD, length-append}
 use lib.Seq.{take-suc-set, take-suc}

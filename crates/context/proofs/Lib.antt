@@ -1,7 +1,5 @@
 -- Laws of pairs and of what is gathered of them.
 pub mod Pairs
-pub mod Filled
+pub mod Filling
 pub mod Marks
-pub mod Ids
 pub mod Types
-pub mod Gathering

@@ -1,8 +1,6 @@
--- From the answer of a type lookup to group, category and volume. Assumes nothing.
-use mathlib.Core.Path.{_≡_, refl, sym, ap, _∙_, subst}
-use mathlib.Core.Bool.{cond}
+-- From the answer of a type lookup to group, category and volume.
+use mathlib.Core.Path.{_≡_, refl}
 use mathlib.Core.Option.{Option, none, some}
-use lib.Dec.{eqb}
 use lib.IntN.{pos}
 use Rattle.words.specs.Words.{given}
 use Rattle.floats.specs.Floats.{zeroF}

@@ -1,22 +1,23 @@
 -- `Context::new`: the pairs of two images, and what is gathered of them once per call.
-use Prim.Native.Nat.{ℕ, _+_, _<_, min}
+use Prim.Native.Nat.{ℕ, _+_, _*_, _^_, _<_, min}
 use mathlib.Core.Path.{_≡_}
 use mathlib.Core.Bool.{cond}
-use mathlib.Core.List.{List}
+use mathlib.Core.List.{List, [], _∷_}
 use mathlib.Core.Option.{Option, none, some}
 use lib.Dec.{ltb}
-use lib.ListN.{getD}
-use lib.IntN.{ℤ, pos}
-use lib.Ieee.{Float, nan}
-use Rattle.words.specs.Words.{table}
+use lib.ListN.{getD, set}
+use lib.Ieee.{Float, binary64, ofBits}
+use Rattle.image.specs.Bytes.{signed32}
 use Rattle.catalogue.specs.Catalogue.{Id, Catalogue, catalogueOf}
-use Rattle.catalogue.specs.Lookups.{groupOf, categoryOf, volumeOf}
+use Rattle.catalogue.specs.Lookups.{groupOf, categoryOf, volumeOf, rackOf, hardpointOf}
+use Rattle.catalogue.specs.Answers.{slotOf}
 use Rattle.catalogue.specs.declared.TypeInfo.{TypeInfo}
+use Rattle.catalogue.specs.declared.SlotMarks.{SlotMarks}
 use Rattle.fit.specs.Fit.{itemCount, resultCount, itemAt, resultOf, fitOf}
 use Rattle.catalogue.specs.Sound as CatalogueSound
 use Rattle.fit.specs.Sound as Fit
 use Rattle.fit.specs.Sound.{Starts}
-use Rattle.context.specs.declared.Facts.{Facts}
+use Rattle.context.specs.declared.TypeWords.{TypeWords}
 use Rattle.context.specs.Context.{Pair, pairOf, pairs, Context, context}
 
 -- document 01: pairs are the first min(F, R)
@@ -33,39 +34,65 @@ pairsOf catalogue fit = pairs (catalogueOf catalogue) (fitOf fit)
 unfoldable pub contextOf : (catalogue fit : List ℕ) → Context
 contextOf catalogue fit = context (catalogueOf catalogue) ((fitOf fit) .frame)
 
--- a slot in a byte: 8 and above stand for none
+-- a slot in a word: 8 and above stand for none
 unfoldable pub slotIn : ℕ → Option ℕ
 slotIn code = cond (ltb code 8) (some code) none
 
--- both images are accepted, and it is known where each result's attributes begin
-pub record Ready (catalogue fit starts : List ℕ) : Type 0 where
+-- the f64 of which a word has the lower half of the bits, a word the upper
+abbrev pub ofHalves : ℕ → ℕ → Float
+ofHalves low high = ofBits binary64 (low + 2 ^ 32 * high)
+
+-- ---- the facts: all that a call gathers, in one array of words
+-- where in it stand the ship's group and category, and the sections of the pairs, a word for each pair; where each result's attributes
+-- begin stands before them, from place 0 on
+abbrev pub shipGroupAt : ℕ
+shipGroupAt = 259
+
+abbrev pub shipCategoryAt : ℕ
+shipCategoryAt = 260
+
+abbrev pub groupsAt : ℕ
+groupsAt = 261
+
+abbrev pub categoriesAt : ℕ
+categoriesAt = 517
+
+abbrev pub racksAt : ℕ
+racksAt = 773
+
+abbrev pub hardpointsAt : ℕ
+hardpointsAt = 1029
+
+-- the lower and the upper half of a volume's bits
+abbrev pub lowsAt : ℕ
+lowsAt = 1285
+
+abbrev pub highsAt : ℕ
+highsAt = 1541
+
+abbrev pub factCount : ℕ
+factCount = 1797
+
+-- the facts of the first n pairs
+pub record Pairs (catalogue fit : List ℕ) (n : ℕ) (facts : List ℕ) : Type 0 where
+  pub groups : (i : ℕ) → i < n → signed32 (getD facts (groupsAt + i) 0) ≡ pairAt catalogue fit i .group
+  pub categories : (i : ℕ) → i < n → signed32 (getD facts (categoriesAt + i) 0) ≡ pairAt catalogue fit i .category
+  pub racks : (i : ℕ) → i < n → slotIn (getD facts (racksAt + i) 0) ≡ pairAt catalogue fit i .rack
+  pub hardpoints : (i : ℕ) → i < n → slotIn (getD facts (hardpointsAt + i) 0) ≡ pairAt catalogue fit i .hardpoint
+  pub volumes : (i : ℕ) → i < n → ofHalves (getD facts (lowsAt + i) 0) (getD facts (highsAt + i) 0) ≡ pairAt catalogue fit i .volume
+
+-- two arrays are the same before a place
+abbrev pub Before : ℕ → (old new : List ℕ) → Type 0
+Before n old new = (j : ℕ) → j < n → getD new j 0 ≡ getD old j 0
+
+-- both images are accepted, and the facts are theirs
+pub record Gathered (catalogue fit facts : List ℕ) : Type 0 where
   pub catalogue-sound : CatalogueSound.Sound catalogue
   pub fit-sound : Fit.Sound fit
-  pub begins : Starts fit starts
-
--- ---- an array holds something of each pair, at its position
-module _ (catalogue fit : List ℕ) where
-  abbrev pub Groups : List ℤ → Type 0
-  Groups a = (i : ℕ) → i < pairCount fit → getD a i (pos 0) ≡ pairAt catalogue fit i .group
-
-  abbrev pub Categories : List ℤ → Type 0
-  Categories a = (i : ℕ) → i < pairCount fit → getD a i (pos 0) ≡ pairAt catalogue fit i .category
-
-  abbrev pub Volumes : List Float → Type 0
-  Volumes a = (i : ℕ) → i < pairCount fit → getD a i nan ≡ pairAt catalogue fit i .volume
-
-  abbrev pub Racks : List ℕ → Type 0
-  Racks a = (i : ℕ) → i < pairCount fit → slotIn (getD a i 0) ≡ pairAt catalogue fit i .rack
-
-  abbrev pub Hardpoints : List ℕ → Type 0
-  Hardpoints a = (i : ℕ) → i < pairCount fit → slotIn (getD a i 0) ≡ pairAt catalogue fit i .hardpoint
-
-pub record Gathered (catalogue fit : List ℕ) (facts : Facts) : Type 0 where
-  pub groups : Groups catalogue fit (facts .groups)
-  pub categories : Categories catalogue fit (facts .categories)
-  pub racks : Racks catalogue fit (facts .racks)
-  pub hardpoints : Hardpoints catalogue fit (facts .hardpoints)
-  pub volumes : Volumes catalogue fit (facts .volumes)
+  pub begins : Starts fit facts
+  pub ship-group : signed32 (getD facts shipGroupAt 0) ≡ contextOf catalogue fit .group
+  pub ship-category : signed32 (getD facts shipCategoryAt 0) ≡ contextOf catalogue fit .category
+  pub pairs : Pairs catalogue fit (pairCount fit) facts
 
 -- ---- of one type
 pub record TypeFacts (c : Catalogue) (id : Id) (info : TypeInfo) : Type 0 where
@@ -73,10 +100,29 @@ pub record TypeFacts (c : Catalogue) (id : Id) (info : TypeInfo) : Type 0 where
   pub category : info .category ≡ categoryOf c id
   pub volume : info .volume ≡ volumeOf c id
 
--- of the ship's type
-pub record ShipFacts (x : Context) (info : TypeInfo) : Type 0 where
-  pub group : info .group ≡ x .group
-  pub category : info .category ≡ x .category
+-- what is known of one type, as words
+pub record WordsFrom (info : TypeInfo) (marks : SlotMarks) (w : TypeWords) : Type 0 where
+  pub group : signed32 (w .group) ≡ info .group
+  pub category : signed32 (w .category) ≡ info .category
+  pub rack : slotIn (w .rack) ≡ slotOf (marks .rack)
+  pub hardpoint : slotIn (w .hardpoint) ≡ slotOf (marks .hardpoint)
+  pub volume : ofHalves (w .low) (w .high) ≡ info .volume
+
+-- what the catalogue says of one type, as words
+pub record WordsOf (c : Catalogue) (id : Id) (w : TypeWords) : Type 0 where
+  pub group : signed32 (w .group) ≡ groupOf c id
+  pub category : signed32 (w .category) ≡ categoryOf c id
+  pub rack : slotIn (w .rack) ≡ rackOf c id
+  pub hardpoint : slotIn (w .hardpoint) ≡ hardpointOf c id
+  pub volume : ofHalves (w .low) (w .high) ≡ volumeOf c id
+
+-- words put at place i of sections of 256, the first of which begins at `at`
+abbrev pub fill : List ℕ → ℕ → ℕ → List ℕ → List ℕ
+fill facts i at [] = facts
+fill facts i at (w ∷ ws) = fill (set facts (at + i) w) i (at + 256) ws
+
+abbrev pub listOfWords : TypeWords → List ℕ
+listOfWords w = w .group ∷ w .category ∷ w .rack ∷ w .hardpoint ∷ w .low ∷ w .high ∷ []
 
 -- below a limit, where there is a slot
 abbrev pub Below : ℕ → Option ℕ → Type 0

@@ -1,28 +1,51 @@
 // What the rules read of a catalogue and a fit, gathered once per call: Rust's `Context::new`.
 use catalogue::SlotAnswer;
+use catalogue::SlotMarks;
 use catalogue::TypeAnswer;
 use catalogue::TypeInfo;
+use numbers::categories;
+use numbers::slots;
 ghost use mathlib.Core.Path.{_≡_};
 ghost use mathlib.Core.List.{List};
-ghost use Prim.Native.Nat.{ℕ, _+_, _<_, _≤_};
+ghost use Prim.Native.Nat.{ℕ, _+_, _/_, _%_, _^_, _<_};
 ghost use lib.Dec.{leb};
-ghost use lib.ListN.{getD};
-ghost use Rattle.words.specs.Words.{same};
+ghost use lib.ListN.{length, getD};
+ghost use Rattle.numbers.specs.Slots as Slots;
 ghost use Rattle.catalogue.specs.Catalogue.{catalogueOf};
-ghost use Rattle.catalogue.specs.Lookups.{rackOf, hardpointOf};
 ghost use Rattle.catalogue.specs.Sound as Catalogue;
 ghost use Rattle.catalogue.specs.Answers.{slotOf};
 ghost use Rattle.fit.specs.Sound as Fit;
-ghost use Rattle.context.specs.Context.{isIn, isModuleCategory};
-ghost use Rattle.context.specs.Gathered.{pairCount, pairAt, contextOf, slotIn, Below, TypeFacts, ShipFacts, Gathered};
+ghost use Rattle.context.specs.Context.{isFitted, isIn, isOnHull, isModuleCategory};
+ghost use Rattle.context.specs.Gathered.{pairCount, pairAt, contextOf, slotIn, Below, TypeFacts};
+ghost use Rattle.context.specs.Gathered.{groupsAt, factCount, Pairs, Gathered, WordsFrom, WordsOf, fill, listOfWords, Before};
 
-// What the catalogue says of the type of each pair, at the pair's position. A slot of 8 is none.
-pub struct Facts {
-    pub groups: [i32; 256],
-    pub categories: [i32; 256],
-    pub racks: [u8; 256],
-    pub hardpoints: [u8; 256],
-    pub volumes: [f64; 256],
+// What a call gathers stands in one array of words: where each result's attributes begin, the ship's group and category, and for each
+// pair what the catalogue says of its type. A slot of 8 is none.
+const SHIP_GROUP: usize = 259;
+
+const SHIP_CATEGORY: usize = 260;
+
+const GROUPS: usize = 261;
+
+const CATEGORIES: usize = 517;
+
+const RACKS: usize = 773;
+
+const HARDPOINTS: usize = 1029;
+
+// The two halves of a volume's bits.
+const LOWS: usize = 1285;
+
+const HIGHS: usize = 1541;
+
+// What is kept of a type.
+struct TypeWords {
+    group: u32,
+    category: u32,
+    rack: u32,
+    hardpoint: u32,
+    low: u32,
+    high: u32,
 }
 
 // A type that the catalogue lacks has group 0, category 0 and no volume.
@@ -41,43 +64,65 @@ pub fn type_facts(catalogue: &[u8], id: i32, hints: &mut [u32]) -> TypeInfo
     }
 }
 
-// What the catalogue says of the ship's type.
-pub fn ship_facts(catalogue: &[u8], fit: &[u8]) -> TypeInfo
-    requires { ⌜ Catalogue.Sound (now catalogue) × Fit.Sound (now fit) ⌝ }
-    ensures { λ r. ⌜ ShipFacts (contextOf (now (catalogue .entry)) (now (fit .entry))) r ⌝ }
-{
-    let mut none = [0u32; 0];
-    type_facts(catalogue, fit::ship(fit), &mut none)
-}
-
-// A slot as a byte.
-fn code(slot: SlotAnswer) -> u8
+// A slot as a word.
+fn code(slot: SlotAnswer) -> u32
     requires { ⌜ Below 8 (slotOf slot) ⌝ }
     ensures { λ r. ⌜ slotIn r ≡ slotOf slot ⌝ }
 {
     match slot {
-        SlotAnswer::Slot(s) => s,
+        SlotAnswer::Slot(s) => image::wide32(s),
         SlotAnswer::Nothing => 8,
     }
 }
 
-// The rack and the hardpoint that a type asks for, as bytes.
-struct Codes {
-    rack: u8,
-    hardpoint: u8,
+// The lower and the upper half of 64 bits.
+fn low(x: u64) -> u32
+    ensures { λ r. ⌜ r ≡ x % 2 ^ 32 ⌝ }
+{
+    (x % 4294967296) as u32
 }
 
-fn slot_codes(catalogue: &[u8], id: i32, hints: &mut [u32]) -> Codes
-    requires { ⌜ Catalogue.Sound (now catalogue) ⌝ }
-    ensures { λ r. ⌜ (slotIn (r .rack) ≡ rackOf (catalogueOf (now (catalogue .entry))) id) × (slotIn (r .hardpoint) ≡ hardpointOf (catalogueOf (now (catalogue .entry))) id) ⌝ }
+fn high(x: u64) -> u32
+    ensures { λ r. ⌜ r ≡ x / 2 ^ 32 ⌝ }
 {
-    let marks = catalogue::slots_of(catalogue, id, hints);
+    (x / 4294967296) as u32
+}
+
+fn words_from(info: TypeInfo, marks: SlotMarks) -> TypeWords
+    requires { ⌜ Below 8 (slotOf (marks .rack)) × Below 8 (slotOf (marks .hardpoint)) ⌝ }
+    ensures { λ r. ⌜ WordsFrom info marks r ⌝ }
+{
     let rack = marks.rack;
     let hardpoint = marks.hardpoint;
-    Codes {
+    let volume = floats::f64_bits(info.volume);
+    TypeWords {
+        group: image::bits(info.group),
+        category: image::bits(info.category),
         rack: code(rack),
         hardpoint: code(hardpoint),
+        low: low(volume),
+        high: high(volume),
     }
+}
+
+fn words_of(catalogue: &[u8], id: i32, hints: &mut [u32]) -> TypeWords
+    requires { ⌜ Catalogue.Sound (now catalogue) ⌝ }
+    ensures { λ r. ⌜ WordsOf (catalogueOf (now (catalogue .entry))) id r ⌝ }
+{
+    let info = type_facts(catalogue, id, hints);
+    words_from(info, catalogue::slots_of(catalogue, id, hints))
+}
+
+fn put_words(facts: &mut [u32], i: usize, w: TypeWords)
+    requires { ⌜ (length (now facts) ≡ factCount) × (i < 256) ⌝ }
+    ensures { λ r. ⌜ now (facts .exit) ≡ fill (now (facts .entry)) i groupsAt (listOfWords w) ⌝ }
+{
+    facts[GROUPS + i] = w.group;
+    facts[CATEGORIES + i] = w.category;
+    facts[RACKS + i] = w.rack;
+    facts[HARDPOINTS + i] = w.hardpoint;
+    facts[LOWS + i] = w.low;
+    facts[HIGHS + i] = w.high;
 }
 
 // At every fourth pair the next four are looked for at once. A hall, which has more hints than a list, looks for none twice.
@@ -101,72 +146,124 @@ fn seek_pairs(catalogue: &[u8], fit: &[u8], i: usize, hints: &mut [u32])
     catalogue::seek_links(catalogue, a, b, c, d, hints);
 }
 
-// `hints` are those of `catalogue::type_of`.
-pub fn gather(catalogue: &[u8], fit: &[u8], hints: &mut [u32]) -> Facts
-    requires { ⌜ Catalogue.Sound (now catalogue) × Fit.Sound (now fit) ⌝ }
-    ensures { λ r. ⌜ Gathered (now (catalogue .entry)) (now (fit .entry)) r ⌝ }
+// The facts of all pairs; what stands before them stays.
+fn gather_pairs(catalogue: &[u8], fit: &[u8], hints: &mut [u32], facts: &mut [u32])
+    requires { ⌜ Catalogue.Sound (now catalogue) × Fit.Sound (now fit) × (length (now facts) ≡ factCount) ⌝ }
+    ensures { λ r.
+        let c = now (catalogue .entry) in
+        let f = now (fit .entry) in
+        ⌜ Pairs c f (pairCount f) (now (facts .exit)) × Before groupsAt (now (facts .entry)) (now (facts .exit)) ⌝ }
 {
     let n = fit::pair_count(fit);
-    let mut groups = [0i32; 256];
-    let mut categories = [0i32; 256];
-    let mut racks = [0u8; 256];
-    let mut hardpoints = [0u8; 256];
-    let mut volumes = [0f64; 256];
     let mut i: usize = 0;
     while i < n {
         seek_pairs(catalogue, fit, i, hints);
-        let id = fit::item_type(fit, i);
-        let t = type_facts(catalogue, id, hints);
-        let s = slot_codes(catalogue, id, hints);
-        let group = t.group;
-        let category = t.category;
-        groups[i] = group;
-        categories[i] = category;
-        racks[i] = s.rack;
-        hardpoints[i] = s.hardpoint;
-        volumes[i] = t.volume;
+        let w = words_of(catalogue, fit::item_type(fit, i), hints);
+        put_words(facts, i, w);
         i += 1;
-    }
-    Facts {
-        groups: groups,
-        categories: categories,
-        racks: racks,
-        hardpoints: hardpoints,
-        volumes: volumes,
     }
 }
 
-// Two ids are the same.
-pub fn same_id(a: i32, b: i32) -> bool
-    ensures { λ r. ⌜ r ≡ same a b ⌝ }
+// `hints` are those of `catalogue::type_of`.
+pub fn gather(catalogue: &[u8], fit: &[u8], hints: &mut [u32]) -> [u32; 1797]
+    requires { ⌜ Catalogue.Sound (now catalogue) × Fit.Sound (now fit) ⌝ }
+    ensures { λ r. ⌜ Gathered (now (catalogue .entry)) (now (fit .entry)) r ⌝ }
 {
-    a == b
+    let mut facts = [0u32; 1797];
+    fit::find_starts(fit, &mut facts);
+    let ship = type_facts(catalogue, fit::ship(fit), hints);
+    facts[SHIP_GROUP] = image::bits(ship.group);
+    facts[SHIP_CATEGORY] = image::bits(ship.category);
+    gather_pairs(catalogue, fit, hints, &mut facts);
+    facts
 }
 
 // Modules, subsystems and structure modules.
 pub fn is_module_category(category: i32) -> bool
     ensures { λ r. ⌜ r ≡ isModuleCategory category ⌝ }
 {
-    if same_id(category, 7) {
+    if words::same_id(category, categories::MODULE) {
         return true;
     }
-    if same_id(category, 32) {
+    if words::same_id(category, categories::SUBSYSTEM) {
         return true;
     }
-    same_id(category, 66)
+    words::same_id(category, categories::STRUCTURE_MODULE)
 }
 
-pub fn slot_at(slots: &[u8; 256], i: usize) -> u8
-    requires { ⌜ i < 256 ⌝ }
-    ensures { λ r. ⌜ r ≡ getD (now (slots .entry)) i 0 ⌝ }
+// ---- what was gathered
+
+fn word(facts: &[u32; 1797], at: usize) -> u32
+    requires { ⌜ at < factCount ⌝ }
+    ensures { λ r. ⌜ r ≡ getD (now (facts .entry)) at 0 ⌝ }
 {
-    slots[i]
+    facts[at]
 }
+
+// A slot from a word.
+fn slot_in(w: u32) -> u8
+    ensures { λ r. ⌜ slotIn r ≡ slotIn w ⌝ }
+{
+    if w < 8 { w as u8 } else { 8 }
+}
+
+pub fn ship_group(catalogue: &[u8], fit: &[u8], facts: &[u32; 1797]) -> i32
+    requires { ⌜ Gathered (now catalogue) (now fit) (now facts) ⌝ }
+    ensures { λ r. ⌜ r ≡ contextOf (now (catalogue .entry)) (now (fit .entry)) .group ⌝ }
+{
+    image::signed(word(facts, SHIP_GROUP))
+}
+
+pub fn ship_category(catalogue: &[u8], fit: &[u8], facts: &[u32; 1797]) -> i32
+    requires { ⌜ Gathered (now catalogue) (now fit) (now facts) ⌝ }
+    ensures { λ r. ⌜ r ≡ contextOf (now (catalogue .entry)) (now (fit .entry)) .category ⌝ }
+{
+    image::signed(word(facts, SHIP_CATEGORY))
+}
+
+pub fn group(catalogue: &[u8], fit: &[u8], facts: &[u32; 1797], i: usize) -> i32
+    requires { ⌜ Gathered (now catalogue) (now fit) (now facts) × (i < pairCount (now fit)) ⌝ }
+    ensures { λ r. ⌜ r ≡ pairAt (now (catalogue .entry)) (now (fit .entry)) i .group ⌝ }
+{
+    image::signed(word(facts, GROUPS + i))
+}
+
+pub fn category(catalogue: &[u8], fit: &[u8], facts: &[u32; 1797], i: usize) -> i32
+    requires { ⌜ Gathered (now catalogue) (now fit) (now facts) × (i < pairCount (now fit)) ⌝ }
+    ensures { λ r. ⌜ r ≡ pairAt (now (catalogue .entry)) (now (fit .entry)) i .category ⌝ }
+{
+    image::signed(word(facts, CATEGORIES + i))
+}
+
+// The rack that pair i asks for; 8 and above are none.
+pub fn rack(catalogue: &[u8], fit: &[u8], facts: &[u32; 1797], i: usize) -> u8
+    requires { ⌜ Gathered (now catalogue) (now fit) (now facts) × (i < pairCount (now fit)) ⌝ }
+    ensures { λ r. ⌜ slotIn r ≡ pairAt (now (catalogue .entry)) (now (fit .entry)) i .rack ⌝ }
+{
+    slot_in(word(facts, RACKS + i))
+}
+
+// The hardpoint that it takes; 8 and above are none.
+pub fn hardpoint(catalogue: &[u8], fit: &[u8], facts: &[u32; 1797], i: usize) -> u8
+    requires { ⌜ Gathered (now catalogue) (now fit) (now facts) × (i < pairCount (now fit)) ⌝ }
+    ensures { λ r. ⌜ slotIn r ≡ pairAt (now (catalogue .entry)) (now (fit .entry)) i .hardpoint ⌝ }
+{
+    slot_in(word(facts, HARDPOINTS + i))
+}
+
+pub fn volume(catalogue: &[u8], fit: &[u8], facts: &[u32; 1797], i: usize) -> f64
+    requires { ⌜ Gathered (now catalogue) (now fit) (now facts) × (i < pairCount (now fit)) ⌝ }
+    ensures { λ r. ⌜ r ≡ pairAt (now (catalogue .entry)) (now (fit .entry)) i .volume ⌝ }
+{
+    floats::of_bits64((word(facts, LOWS + i) as u64) + 4294967296 * (word(facts, HIGHS + i) as u64))
+}
+
+// ---- where a pair is
 
 pub fn is_fitted(slot: u8) -> bool
-    ensures { λ r. ⌜ r ≡ leb slot 5 ⌝ }
+    ensures { λ r. ⌜ r ≡ leb slot Slots.service ⌝ }
 {
-    slot <= 5
+    slot <= slots::SERVICE
 }
 
 // Whether pair i is in a rack.
@@ -175,4 +272,19 @@ pub fn is_in(fit: &[u8], i: usize, slot: u8) -> bool
     ensures { λ r. ⌜ ((catalogue : List ℕ) → r ≡ isIn slot (pairAt catalogue (now (fit .entry)) i)) ⌝ }
 {
     fit::item_slot(fit, i) == slot
+}
+
+pub fn is_fitted_at(fit: &[u8], i: usize) -> bool
+    requires { ⌜ Fit.Sound (now fit) × (i < pairCount (now fit)) ⌝ }
+    ensures { λ r. ⌜ ((catalogue : List ℕ) → r ≡ isFitted (pairAt catalogue (now (fit .entry)) i)) ⌝ }
+{
+    is_fitted(fit::item_slot(fit, i))
+}
+
+// Fitted, or a fighter that the ship launches.
+pub fn is_on_hull(fit: &[u8], i: usize) -> bool
+    requires { ⌜ Fit.Sound (now fit) × (i < pairCount (now fit)) ⌝ }
+    ensures { λ r. ⌜ ((catalogue : List ℕ) → r ≡ isOnHull (pairAt catalogue (now (fit .entry)) i)) ⌝ }
+{
+    fit::item_slot(fit, i) <= slots::FIGHTER_BAY
 }

@@ -1,4 +1,4 @@
--- The 24 bytes of an entry: how many they are, and the words that the code makes of them. Assumes nothing.
+-- The 24 bytes of an entry: how many they are, and the words that the code makes of them.
 use mathlib.Core.Path.{_≡_, refl, ap, _∙_}
 use mathlib.Core.List.{List, [], _∷_, _++_}
 use Prim.Native.Nat.{ℕ, suc, _+_, _*_, _<_}

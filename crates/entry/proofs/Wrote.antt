@@ -1,4 +1,4 @@
--- Laws of `Wrote`: nothing written, one entry, one list after another, and the words of the definitions. Assumes nothing.
+-- Laws of `Wrote`: nothing written, one entry, one list after another, and the words of the definitions.
 use mathlib.Core.Path.{_≡_, refl, ap, sym, subst, _∙_}
 use mathlib.Core.Bool.{Bool, true, false, cond}
 use mathlib.Core.List.{List, [], _∷_, _++_, append-nil, append-assoc}

@@ -7,7 +7,7 @@ ghost use Rattle.words.specs.Words.{when};
 ghost use Rattle.image.specs.Bytes.{bits32, le, put};
 ghost use Rattle.entry.specs.Entries.{low, high, fields, place, entryBytes};
 ghost use Rattle.entry.specs.Packing.{fieldsOf};
-ghost use Rattle.entry.specs.Wrote.{Wrote};
+ghost use Rattle.entry.specs.Wrote.{Room, Wrote};
 
 // What an entry is about: the ship, or an item by its pair index.
 pub enum Target {
@@ -182,7 +182,7 @@ fn write(out: &mut [u8], at: usize, e: Entry)
 
 // Entry number n, where out has room for it, and the number of the next in any case: over an empty slice it counts.
 pub fn emit(out: &mut [u8], n: usize, e: Entry) -> usize
-    requires { ⌜ n < 4294967296 ⌝ }
+    requires { ⌜ Room n 1 ⌝ }
     ensures { λ r. ⌜ Wrote (now (out .entry)) n (now (out .exit)) r (e ∷ []) ⌝ }
 {
     let next = n + 1;
@@ -196,7 +196,7 @@ pub fn emit(out: &mut [u8], n: usize, e: Entry) -> usize
 
 // An entry where a test holds.
 pub fn emit_when(out: &mut [u8], n: usize, test: bool, e: Entry) -> usize
-    requires { ⌜ n < 4294967296 ⌝ }
+    requires { ⌜ Room n 1 ⌝ }
     ensures { λ r. ⌜ Wrote (now (out .entry)) n (now (out .exit)) r (when test e) ⌝ }
 {
     if test { emit(out, n, e) } else { n }

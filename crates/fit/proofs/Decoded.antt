@@ -1,4 +1,4 @@
--- What the decoded lists of a fit hold at each place, and how its results stand in a row. Assumes nothing.
+-- What the decoded lists of a fit hold at each place, and how its results stand in a row.
 use Prim.Native.Nat.{ℕ, zero, suc, _+_, _*_, _-_, _≤_, _<_}
 use native.Mathlib.Nat.{add-zero, add-suc, le-refl, le-trans}
 use native.Mathlib.Numerals.{add-one}
@@ -55,11 +55,11 @@ module _ (b : List ℕ) where
   unfolding fitOf
   all-results = sym (table-two (resultCount b) (resultOf b))
 
-  pub hull-is : fitOf b .frame .hull ≡ resultOf b 0
+  pub hull-is : fitOf b .frame .shipResult ≡ resultOf b 0
   unfolding fitOf
   hull-is = refl
 
-  pub character-is : fitOf b .frame .character ≡ resultOf b 1
+  pub character-is : fitOf b .frame .characterResult ≡ resultOf b 1
   unfolding fitOf
   character-is = refl
 

@@ -1,4 +1,4 @@
--- What a search through a part of the image finds: a result's value, and a trained level. Assumes nothing.
+-- What a search through a part of the image finds: a result's value, and a trained level.
 use Prim.Native.Nat.{ℕ, zero, suc, _+_, _*_, _<_}
 use mathlib.Core.Path.{_≡_, refl, sym, ap, _∙_}
 use mathlib.Core.Bool.{Bool, true, false, cond}

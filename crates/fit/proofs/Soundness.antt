@@ -1,4 +1,4 @@
--- A fit is sound exactly where it is not refused, and what soundness says of each field. Assumes nothing.
+-- A fit is sound exactly where it is not refused, and what soundness says of each field.
 use Prim.Native.Nat.{ℕ, zero, _+_, _≤_, _<_}
 use native.Mathlib.Omega.{arith}
 use mathlib.Core.Path.{_≡_, refl, sym, ap, _∙_}
@@ -13,8 +13,9 @@ use Rattle.words.specs.Words.{anyOf, inOrder, sumOf, firstOf, same}
 use Rattle.words.proofs.Tables.{any-false}
 use Rattle.words.proofs.Elements.{or-left, or-right}
 use Rattle.image.specs.Bytes.{u32At, i32At}
+use Rattle.numbers.specs.Slots as Slots
 use Rattle.fit.specs.Fit.{Fit, Item, Result, fitOf, skillCount, itemCount, resultCount, attributeCount, sizeOf, itemAt, resultOf, allResults}
-use Rattle.fit.specs.Refusals.{booster, badSize, badOrder, badItem, badResult, badField, fitRefusals, fitRefusal}
+use Rattle.fit.specs.Refusals.{badSize, badOrder, badItem, badResult, badField, fitRefusals, fitRefusal}
 use Rattle.fit.specs.Sound.{inBay, Sized, Sound}
 use Rattle.fit.proofs.Decoded.{all-results, counts-sum}
 
@@ -34,10 +35,10 @@ module _ (i : Item) (e : badItem i ≡ false) where
   over = ltb 11 (i .slot)
 
   filled : Bool
-  filled = not (eqb (i .zero) 0)
+  filled = not (eqb (i .reserved) 0)
 
   long : Bool
-  long = ltb 255 (i .index) && not (eqb (i .slot) booster)
+  long = ltb 255 (i .index) && not (eqb (i .slot) Slots.booster)
 
   bay : Bool
   bay = not (eqb (i .index) 0) && inBay (i .slot)
@@ -50,10 +51,10 @@ module _ (i : Item) (e : badItem i ≡ false) where
   unfolding over
   slot-good = ltb-false 11 (i .slot) (or-left over filled (or-left (over || filled) long three))
 
-  index-good : (i .slot ≡ booster → ⊥) → i .index ≤ 255
+  index-good : (i .slot ≡ Slots.booster → ⊥) → i .index ≤ 255
   unfolding long
   index-good n =
-      let q : ltb 255 (i .index) && true ≡ false = rw (ap not (sym (ne-eqb (i .slot) booster n))) (or-right (over || filled) long three) in
+      let q : ltb 255 (i .index) && true ≡ false = rw (ap not (sym (ne-eqb (i .slot) Slots.booster n))) (or-right (over || filled) long three) in
       ltb-false 255 (i .index) (sym (and-true (ltb 255 (i .index))) ∙ q)
 
   bay-good : inBay (i .slot) ≡ true → i .index ≡ 0
@@ -64,7 +65,7 @@ module _ (i : Item) (e : badItem i ≡ false) where
 
 state-good : (r : Result) → badResult r ≡ false → r .state ≤ 3
 unfolding badResult
-state-good r e = ltb-false 3 (r .state) (or-left (ltb 3 (r .state)) (not (eqb (r .zero) 0)) e)
+state-good r e = ltb-false 3 (r .state) (or-left (ltb 3 (r .state)) (not (eqb (r .reserved) 0)) e)
 
 -- ---- sizes
 module _ (b : List ℕ) where
@@ -109,23 +110,6 @@ module _ (b : List ℕ) where
   pub size-bad : (Sized b → ⊥) → badSize b ≡ true
   size-bad h = not-both (badSize b) (λ e. h (sized e))
 
-  pub sound-sized : Sound b → Sized b
-  sound-sized s =
-      record { size = s .size; skills = s .skills; items = s .items; results = s .results; attributes = s .attributes; counts = s .counts }
-
-  sound-of : Sized b → badOrder (fitOf b) ≡ false → badField (fitOf b) ≡ false → Sound b
-  sound-of z o f =
-      record {
-        size = z .size;
-        skills = z .skills;
-        items = z .items;
-        results = z .results;
-        attributes = z .attributes;
-        counts = z .counts;
-        order = o;
-        fields = f;
-      }
-
 -- ---- the refusal
 -- the number that three tests in their order give
 abbrev pub firstBad : Bool → Bool → Bool → ℕ
@@ -146,11 +130,11 @@ module _ (b : List ℕ) where
   pub sound : fitRefusal b ≡ 0 → Sound b
   sound e =
       let h = first-none (badSize b) (badOrder (fitOf b)) (badField (fitOf b)) (sym refusal ∙ e) in
-      sound-of b (sized b (h .0)) (h .1) (h .2)
+      record { sized = sized b (h .0); order = h .1; fields = h .2 }
 
   -- what is sound is not refused
   pub not-refused : Sound b → fitRefusal b ≡ 0
-  not-refused s = refusal ∙ rw (size-good b (sound-sized b s), s .order, s .fields)
+  not-refused s = refusal ∙ rw (size-good b (s .sized), s .order, s .fields)
 
 -- ---- what a sound fit's fields are
 module _ (f : Fit) where
@@ -193,7 +177,7 @@ module _ (b : List ℕ) (s : Sound b) where
   item-slot i h = slot-good (itemAt b i) (item-good i h)
 
   -- the index is at most 255 unless Booster
-  pub item-index : (i : ℕ) → i < itemCount b → (itemAt b i .slot ≡ booster → ⊥) → itemAt b i .index ≤ 255
+  pub item-index : (i : ℕ) → i < itemCount b → (itemAt b i .slot ≡ Slots.booster → ⊥) → itemAt b i .index ≤ 255
   item-index i h n = index-good (itemAt b i) (item-good i h) n
 
   -- the index of what is in a bay or in Cargo is 0

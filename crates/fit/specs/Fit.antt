@@ -19,7 +19,7 @@ pub record Attribute : Type 0 where
 -- what the calculation gave for the ship, the character or an item; states 0 to 3 follow `State`
 pub record Result : Type 0 where
   pub state : ℕ
-  pub zero : ℕ
+  pub reserved : ℕ
   pub attributes : List Attribute
 
 -- slot kinds 0 to 11 follow `Slot`
@@ -27,7 +27,7 @@ pub record Item : Type 0 where
   pub type : Id
   pub quantity : ℕ
   pub slot : ℕ
-  pub zero : ℕ
+  pub reserved : ℕ
   pub index : ℕ
 
 -- all of a fit but its skills, its items and their results
@@ -35,8 +35,8 @@ pub record Frame : Type 0 where
   pub ship : Id
   pub modeFlag : ℕ
   pub mode : Id
-  pub hull : Result
-  pub character : Result
+  pub shipResult : Result
+  pub characterResult : Result
 
 pub record Fit : Type 0 where
   pub frame : Frame
@@ -51,7 +51,7 @@ modeOf k = cond (eqb (k .modeFlag) 0) none (some (k .mode))
 
 -- the ship's and the character's result, then those of the items
 abbrev pub allResults : Fit → List Result
-allResults f = f .frame .hull ∷ f .frame .character ∷ f .results
+allResults f = f .frame .shipResult ∷ f .frame .characterResult ∷ f .results
 
 -- the result of a number: 0 the ship's, 1 the character's, 2 the first item's
 unfoldable pub resultAt : Fit → ℕ → Option Result
@@ -98,7 +98,7 @@ module _ (b : List ℕ) where
   abbrev pub itemAt : ℕ → Item
   itemAt i =
       let a = itemsAt + 12 * i in
-      record { type = i32At b a; quantity = u32At b (a + 4); slot = u8At b (a + 8); zero = u8At b (a + 9); index = u16At b (a + 10) }
+      record { type = i32At b a; quantity = u32At b (a + 4); slot = u8At b (a + 8); reserved = u8At b (a + 9); index = u16At b (a + 10) }
 
   -- how many attributes result j has
   abbrev pub countAt : ℕ → ℕ
@@ -115,13 +115,13 @@ module _ (b : List ℕ) where
   abbrev pub resultOf : ℕ → Result
   resultOf j = record {
     state = u8At b (resultsAt + 4 * j);
-    zero = u8At b (resultsAt + 4 * j + 1);
+    reserved = u8At b (resultsAt + 4 * j + 1);
     attributes = table (countAt j) λ i. attributeAt (startAt j + i);
   }
 
   unfoldable pub fitOf : Fit
   fitOf = record {
-    frame = record { ship = i32At b 16; modeFlag = u32At b 20; mode = i32At b 24; hull = resultOf 0; character = resultOf 1 };
+    frame = record { ship = i32At b 16; modeFlag = u32At b 20; mode = i32At b 24; shipResult = resultOf 0; characterResult = resultOf 1 };
     skills = table skillCount λ i. i32At b (skillsAt + 4 * i);
     levels = table skillCount λ i. u8At b (levelsAt + i);
     items = table itemCount itemAt;

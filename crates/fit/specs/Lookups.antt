@@ -7,7 +7,7 @@ use lib.Ieee.{Float}
 use Rattle.words.specs.Words.{find, given, same}
 use Rattle.floats.specs.Floats.{zeroF}
 use Rattle.catalogue.specs.Catalogue.{Id}
-use Rattle.fit.specs.Fit.{Attribute, Result}
+use Rattle.fit.specs.Fit.{Result}
 
 -- what an attribute reached, where the result has it
 unfoldable pub value : Result → Id → Option Float

@@ -3,7 +3,8 @@ ghost use mathlib.Core.Path.{_≡_};
 ghost use Prim.Native.Nat.{_+_, _*_, _<_, _≤_};
 ghost use lib.ListN.{length};
 ghost use Rattle.image.specs.Bytes.{u32At};
-ghost use Rattle.fit.specs.Fit.{skillCount, itemCount, resultCount, attributeCount, levelsAt, itemsAt, resultsAt, idsAt, valuesAt, countAt};
+ghost use Rattle.fit.specs.Fit.{skillCount, itemCount, resultCount, attributeCount};
+ghost use Rattle.fit.specs.Fit.{levelsAt, itemsAt, resultsAt, idsAt, valuesAt, countAt};
 ghost use Rattle.fit.specs.Sound.{Sized};
 
 // A size, as an index.

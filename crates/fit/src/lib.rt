@@ -5,30 +5,15 @@ use floats::Value;
 use keys::Found;
 ghost use mathlib.Core.Path.{_≡_};
 ghost use Prim.Native.Nat.{_+_, _*_, _<_, min};
-ghost use lib.ListN.{getD};
+ghost use lib.ListN.{length, getD};
+ghost use Rattle.numbers.specs.Sizes.{mostResults};
 ghost use Rattle.image.specs.Bytes.{u8At, i32At};
 ghost use Rattle.floats.specs.Values.{valueOf};
-ghost use Rattle.fit.specs.Fit.{modeOf, fitOf, skillCount, itemCount, resultCount, skillsAt, levelsAt, itemAt, countAt, startAt, resultOf};
+ghost use Rattle.fit.specs.Fit.{modeOf, fitOf, skillCount, itemCount, resultCount};
+ghost use Rattle.fit.specs.Fit.{skillsAt, itemAt, countAt, startAt, resultOf};
 ghost use Rattle.fit.specs.Sound.{Sound, Starts, idsPart};
 ghost use Rattle.fit.specs.Answers.{chosenOf};
 ghost use Rattle.fit.specs.Lookups.{value, amount, trained};
-
-// Slot kinds by their numbers in the image.
-pub const RIG: u8 = 3;
-
-pub const SUBSYSTEM: u8 = 4;
-
-pub const FIGHTER_TUBE: u8 = 6;
-
-pub const FIGHTER_BAY: u8 = 7;
-
-pub const IMPLANT: u8 = 8;
-
-pub const BOOSTER: u8 = 9;
-
-pub const DRONE_BAY: u8 = 10;
-
-pub const CARGO: u8 = 11;
 
 // What is said of a fit: accepted, or refused by 4, 5 or 6.
 pub enum Verdict {
@@ -69,13 +54,6 @@ pub fn skill_count(fit: &[u8]) -> usize
     layout::skills(fit)
 }
 
-pub fn item_count(fit: &[u8]) -> usize
-    requires { ⌜ Sound (now fit) ⌝ }
-    ensures { λ r. ⌜ r ≡ itemCount (now (fit .entry)) ⌝ }
-{
-    layout::items(fit)
-}
-
 // The items' results; the ship's and the character's stand before them.
 pub fn result_count(fit: &[u8]) -> usize
     requires { ⌜ Sound (now fit) ⌝ }
@@ -102,13 +80,6 @@ pub fn skill_id(fit: &[u8], i: usize) -> i32
     ensures { λ r. ⌜ r ≡ i32At (now (fit .entry)) (skillsAt (now (fit .entry)) + 4 * i) ⌝ }
 {
     image::i32_at(fit, 28 + 4 * i)
-}
-
-pub fn skill_level(fit: &[u8], i: usize) -> u8
-    requires { ⌜ Sound (now fit) × (i < skillCount (now fit)) ⌝ }
-    ensures { λ r. ⌜ r ≡ u8At (now (fit .entry)) (levelsAt (now (fit .entry)) + i) ⌝ }
-{
-    image::u8_at(fit, layout::levels_at(fit) + i)
 }
 
 pub fn item_type(fit: &[u8], i: usize) -> i32
@@ -147,21 +118,30 @@ pub fn result_state(fit: &[u8], j: usize) -> u8
     image::u8_at(fit, layout::results_at(fit) + 4 * j)
 }
 
-// Where each result's attributes begin among all, and at last how many there are: found once for all lookups.
-pub fn starts(fit: &[u8]) -> [u32; 259]
-    requires { ⌜ Sound (now fit) ⌝ }
-    ensures { λ r. ⌜ Starts (now (fit .entry)) r ⌝ }
+// Where each result's attributes begin among all, and at last how many there are: found once for all lookups. `s` may be longer.
+pub fn find_starts(fit: &[u8], s: &mut [u32])
+    requires { ⌜ Sound (now fit) × (mostResults + 2 < length (now s)) ⌝ }
+    ensures { λ r. ⌜ Starts (now (fit .entry)) (now (s .exit)) ⌝ }
 {
     let n = layout::results(fit) + 2;
     let first = layout::results_at(fit);
-    let mut s = [0u32; 259];
     let mut sum: u32 = 0;
+    s[0] = 0;
     let mut j: usize = 0;
     while j < n {
         sum += layout::count_at(fit, first, j) as u32;
         j += 1;
         s[j] = sum;
     }
+}
+
+// The same, for a call that gathers nothing else.
+pub fn starts(fit: &[u8]) -> [u32; 259]
+    requires { ⌜ Sound (now fit) ⌝ }
+    ensures { λ r. ⌜ Starts (now (fit .entry)) r ⌝ }
+{
+    let mut s = [0u32; 259];
+    find_starts(fit, &mut s);
     s
 }
 
@@ -173,15 +153,15 @@ fn wide(n: u32) -> usize
 }
 
 // How many attributes stand before those of result j.
-fn start_of(starts: &[u32; 259], j: usize) -> usize
-    requires { ⌜ j < 259 ⌝ }
+fn start_of(starts: &[u32], j: usize) -> usize
+    requires { ⌜ j < length (now starts) ⌝ }
     ensures { λ r. ⌜ r ≡ getD (now (starts .entry)) j 0 ⌝ }
 {
     wide(starts[j])
 }
 
 // The part of the caller's bytes that holds result j's attribute ids.
-pub fn ids_of<'a>(fit: &'a [u8], starts: &[u32; 259], j: usize) -> &'a [u8]
+pub fn ids_of<'a>(fit: &'a [u8], starts: &[u32], j: usize) -> &'a [u8]
     requires { ⌜ Sound (now fit) × Starts (now fit) (now starts) × (j < resultCount (now fit) + 2) ⌝ }
     ensures { λ r. ⌜ now r ≡ idsPart (now (fit .entry)) (startAt (now (fit .entry)) j) (countAt (now (fit .entry)) j) ⌝ }
 {
@@ -192,7 +172,7 @@ pub fn ids_of<'a>(fit: &'a [u8], starts: &[u32; 259], j: usize) -> &'a [u8]
 }
 
 // What an attribute of result j reached.
-pub fn value(fit: &[u8], starts: &[u32; 259], j: usize, id: i32) -> Value
+pub fn value(fit: &[u8], starts: &[u32], j: usize, id: i32) -> Value
     requires { ⌜ Sound (now fit) × Starts (now fit) (now starts) × (j < resultCount (now fit) + 2) ⌝ }
     ensures { λ r. ⌜ valueOf r ≡ value (resultOf (now (fit .entry)) j) id ⌝ }
 {
@@ -208,7 +188,7 @@ pub fn value(fit: &[u8], starts: &[u32; 259], j: usize, id: i32) -> Value
 }
 
 // What an attribute of result j reached; one that is missing reads as 0.
-pub fn amount(fit: &[u8], starts: &[u32; 259], j: usize, id: i32) -> f64
+pub fn amount(fit: &[u8], starts: &[u32], j: usize, id: i32) -> f64
     requires { ⌜ Sound (now fit) × Starts (now fit) (now starts) × (j < resultCount (now fit) + 2) ⌝ }
     ensures { λ r. ⌜ r ≡ amount (resultOf (now (fit .entry)) j) id ⌝ }
 {

@@ -1,4 +1,4 @@
--- What the tests of the code say in terms of the definitions: the mode by its bits, and each refusal from its parts. Assumes nothing.
+-- What the tests of the code say in terms of the definitions: the mode by its bits, and each refusal from its parts.
 use Prim.Native.Nat.{ℕ, _+_, _*_, _-_, _^_}
 use native.Mathlib.Omega.{arith}
 use mathlib.Core.Path.{_≡_, refl, sym, ap, ap₂, _∙_}

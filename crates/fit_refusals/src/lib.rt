@@ -1,10 +1,8 @@
 // Refusals 4 to 6 of document 01: each is one pass over the whole fit.
-use fit::BOOSTER;
-use fit::CARGO;
-use fit::DRONE_BAY;
-use fit::FIGHTER_BAY;
 use fit::Verdict;
 use fit::layout;
+use numbers::slots;
+use numbers::states;
 ghost use mathlib.Core.Path.{_≡_};
 ghost use mathlib.Core.Bool.{not, _&&_, _||_};
 ghost use mathlib.Core.List.{map};
@@ -69,7 +67,9 @@ fn bad_size(fit: &[u8]) -> bool
 // Whether the n attribute ids from number `start` on do not ascend, where all ids begin at `first`.
 fn disordered(fit: &[u8], first: usize, start: usize, n: usize) -> bool
     requires { ⌜ (first ≡ idsAt (now fit)) × (first + 4 * (start + n) ≤ length (now fit)) ⌝ }
-    ensures { λ r. ⌜ r ≡ not (inOrder ltZ (table n (λ i. i32At (now (fit .entry)) (idsAt (now (fit .entry)) + 4 * (start + i))))) ⌝ }
+    ensures { λ r.
+        let b = now (fit .entry) in
+        ⌜ r ≡ not (inOrder ltZ (table n (λ i. i32At b (idsAt b + 4 * (start + i))))) ⌝ }
 {
     let ids = image::part(fit, first + 4 * start, 4 * n);
     let ok = keys::ascend(ids, n);
@@ -79,7 +79,9 @@ fn disordered(fit: &[u8], first: usize, start: usize, n: usize) -> bool
 // Whether the attribute ids of some result do not ascend.
 fn any_disordered(fit: &[u8]) -> bool
     requires { ⌜ Sized (now fit) ⌝ }
-    ensures { λ r. ⌜ r ≡ anyOf (λ x. not (inOrder ltZ (map (λ y. y .id) (x .attributes)))) (allResults (fitOf (now (fit .entry)))) ⌝ }
+    ensures { λ r.
+        let rs = allResults (fitOf (now (fit .entry))) in
+        ⌜ r ≡ anyOf (λ x. not (inOrder ltZ (map (λ y. y .id) (x .attributes)))) rs ⌝ }
 {
     let n = layout::results(fit) + 2;
     let results = layout::results_at(fit);
@@ -89,7 +91,7 @@ fn any_disordered(fit: &[u8]) -> bool
     let mut j: usize = 0;
     while j < n {
         let k = layout::count_at(fit, results, j);
-        bad = image::either(bad, disordered(fit, first, start, k));
+        bad = words::either(bad, disordered(fit, first, start, k));
         start += k;
         j += 1;
     }
@@ -126,27 +128,27 @@ fn bad_mode(flag: u32, mode: u32) -> bool
 fn in_bay(slot: u8) -> bool
     ensures { λ r. ⌜ r ≡ inBay slot ⌝ }
 {
-    if slot == FIGHTER_BAY {
+    if slot == slots::FIGHTER_BAY {
         return true;
     }
-    if slot == DRONE_BAY {
+    if slot == slots::DRONE_BAY {
         return true;
     }
-    slot == CARGO
+    slot == slots::CARGO
 }
 
 // An item's slot kind, the byte after it, and its index.
-fn bad_place(slot: u8, zero: u8, index: u16) -> bool
-    ensures { λ r. ⌜ ((i : Item) → i .slot ≡ slot → i .zero ≡ zero → i .index ≡ index → r ≡ badItem i) ⌝ }
+fn bad_place(slot: u8, reserved: u8, index: u16) -> bool
+    ensures { λ r. ⌜ ((i : Item) → i .slot ≡ slot → i .reserved ≡ reserved → i .index ≡ index → r ≡ badItem i) ⌝ }
 {
-    if CARGO < slot {
+    if slots::CARGO < slot {
         return true;
     }
-    if zero != 0 {
+    if reserved != 0 {
         return true;
     }
     if 255 < index {
-        if slot != BOOSTER {
+        if slot != slots::BOOSTER {
             return true;
         }
         return false;
@@ -164,9 +166,9 @@ fn bad_item(fit: &[u8], first: usize, i: usize) -> bool
 {
     let at = first + 12 * i;
     let slot = image::u8_at(fit, at + 8);
-    let zero = image::u8_at(fit, at + 9);
+    let reserved = image::u8_at(fit, at + 9);
     let index = image::u16_at(fit, at + 10);
-    bad_place(slot, zero, index)
+    bad_place(slot, reserved, index)
 }
 
 fn any_bad_item(fit: &[u8]) -> bool
@@ -178,7 +180,7 @@ fn any_bad_item(fit: &[u8]) -> bool
     let mut bad = false;
     let mut i: usize = 0;
     while i < n {
-        bad = image::either(bad, bad_item(fit, first, i));
+        bad = words::either(bad, bad_item(fit, first, i));
         i += 1;
     }
     bad
@@ -191,11 +193,11 @@ fn bad_result(fit: &[u8], first: usize, j: usize) -> bool
 {
     let at = first + 4 * j;
     let state = image::u8_at(fit, at);
-    if 3 < state {
+    if states::OVERLOAD < state {
         return true;
     }
-    let zero = image::u8_at(fit, at + 1);
-    zero != 0
+    let reserved = image::u8_at(fit, at + 1);
+    reserved != 0
 }
 
 fn any_bad_result(fit: &[u8]) -> bool
@@ -207,7 +209,7 @@ fn any_bad_result(fit: &[u8]) -> bool
     let mut bad = false;
     let mut j: usize = 0;
     while j < n {
-        bad = image::either(bad, bad_result(fit, first, j));
+        bad = words::either(bad, bad_result(fit, first, j));
         j += 1;
     }
     bad

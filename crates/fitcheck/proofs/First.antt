@@ -1,8 +1,7 @@
--- Numbers with conditions, one list behind another: which is the first that holds. By cases on the conditions. Assumes nothing.
+-- Numbers with conditions, one list behind another: which is the first that holds. By cases on the conditions.
 use Prim.Native.Nat.{ℕ, zero, suc, _≤_, _<_, zero-le}
-use native.Mathlib.Decide.{decLe}
 use native.Mathlib.Omega.{arith}
-use mathlib.Core.Path.{_≡_, refl, sym, ap, _∙_}
+use mathlib.Core.Path.{_≡_, refl, sym, _∙_}
 use mathlib.Core.Bool.{Bool, true, false, cond}
 use mathlib.Core.List.{List, [], _∷_, _++_}
 use Rattle.words.specs.Words.{firstOf}

@@ -1,8 +1,8 @@
--- What a call answers, from its conditions, and that code which writes or refuses gives it. Assumes nothing.
+-- What a call answers, from its conditions, and that code which writes or refuses gives it.
 use Prim.Native.Nat.{ℕ, zero, suc, _*_, _≤_, _<_}
 use native.Mathlib.Omega.{arith}
 use mathlib.Core.Path.{_≡_, refl, sym, ap, _∙_, subst}
-use mathlib.Core.Bool.{Bool, true, false, _&&_}
+use mathlib.Core.Bool.{Bool, true, false}
 use mathlib.Core.List.{List, [], _∷_, _++_}
 use mathlib.Core.Option.{none, some}
 use lib.Dec.{ltb}
@@ -17,14 +17,12 @@ use Rattle.fit.specs.Refusals.{fitRefusals}
 use Rattle.entry.specs.declared.Entry.{Entry}
 use Rattle.entry.specs.Wrote.{Wrote}
 use Rattle.entry.proofs.Wrote.{wrote-count, wrote-written, wrote-none, wrote-same}
-use Rattle.context.specs.Context.{pairs}
 use Rattle.context.specs.Gathered.{pairsOf}
-use Rattle.resource.specs.Resource.{launched}
 use Rattle.resource.specs.Rows.{launchedIn}
 use Rattle.resource.proofs.Sums.{launched-in}
 use Rattle.validate.specs.Kind.{isHull}
 use Rattle.validate.specs.Validate.{listOf}
-use Rattle.fitcheck.specs.Calls.{Answer, Refused, Listed, answerBy, answer, tooManyDrones, tooShort, listCall, skillCall, returned, buffered}
+use Rattle.fitcheck.specs.Calls.{Answer, Refused, answerBy, answer, tooManyDrones, tooShort, listCall, returned, buffered}
 use Rattle.fitcheck.specs.Gave.{Gave, lent}
 use Rattle.fitcheck.proofs.First.{Numbered, first-kept, first-past, numbered-images}
 

@@ -1,4 +1,4 @@
--- The hall: where its fits stand, what each adds to the word, and the call by its refusals. Assumes nothing.
+-- The hall: where its fits stand, what each adds to the word, and the call by its refusals.
 use Prim.Native.Nat.{ℕ, zero, suc, _+_, _*_, _≤_, _<_}
 use native.Mathlib.Nat.{eq-or-lt-of-le, le-of-suc-le-suc}
 use native.Mathlib.Numerals.{add-one}

@@ -1,17 +1,16 @@
--- The skill call, by the refusals of both images, the number of the result and the length of its walk. Assumes nothing.
+-- The skill call, by the refusals of both images, the number of the result and the length of its walk.
 use Prim.Native.Nat.{ℕ, _+_, _≤_, _<_}
 use native.Mathlib.Omega.{arith}
-use mathlib.Core.Path.{_≡_, sym, ap, _∙_}
-use mathlib.Core.Bool.{Bool, true, false}
+use mathlib.Core.Path.{_≡_, sym, _∙_}
+use mathlib.Core.Bool.{true, false}
 use mathlib.Core.List.{List, [], _∷_, _++_}
-use mathlib.Core.Option.{Option}
 use lib.Dec.{ltb}
 use lib.ListN.{length}
 use borrow.Author.Tests.{lt-ltb, le-ltb}
 use Rattle.words.specs.Words.{firstOf, given}
 use Rattle.catalogue.specs.Catalogue.{catalogueOf}
 use Rattle.catalogue.specs.Refusals.{catalogueRefusals}
-use Rattle.fit.specs.Fit.{Result, fitOf, resultAt, resultOf, resultCount}
+use Rattle.fit.specs.Fit.{fitOf, resultAt, resultCount}
 use Rattle.fit.specs.Refusals.{fitRefusals}
 use Rattle.fit.proofs.Decoded.{results-length}
 use Rattle.skill.specs.Skill.{tooMany, skillList}

@@ -1,10 +1,10 @@
 -- Document 01, "Hall number": u32 K, K lengths, then K fits end to end; how many are clear, faulted and refused.
 use Prim.Native.Nat.{ℕ, zero, suc, _+_, _*_}
-use mathlib.Core.Bool.{Bool, true, false, not, _||_, cond}
+use mathlib.Core.Bool.{Bool, false, not, _||_, cond}
 use mathlib.Core.List.{List, [], _∷_, _++_}
 use lib.Dec.{eqb, ltb}
 use lib.ListN.{length, take, drop}
-use Rattle.words.specs.Words.{tableFrom, table, countOf, sumOf, isEmpty, firstOf}
+use Rattle.words.specs.Words.{table, countOf, isEmpty, firstOf}
 use Rattle.image.specs.Bytes.{u32At}
 use Rattle.catalogue.specs.Catalogue.{Catalogue, catalogueOf}
 use Rattle.catalogue.specs.Refusals.{catalogueRefusals}

@@ -1,4 +1,4 @@
--- Bit patterns: which are a NaN's, and that those of an f64 are its own. From the library's laws of patterns. Assumes nothing.
+-- Bit patterns: which are a NaN's, and that those of an f64 are its own. From the library's laws of patterns.
 use mathlib.Core.Path.{_≡_, refl, sym, _∙_, subst}
 use mathlib.Core.Bool.{Bool, true, false, not}
 use mathlib.Core.List.{List}

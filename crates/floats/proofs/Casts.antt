@@ -1,4 +1,4 @@
--- The cast of a float to an integer, for any width: one law, `stops`, which `unsigned` and `signed` read at each width. Assumes nothing.
+-- The cast of a float to an integer, for any width: one law, `stops`, which `unsigned` and `signed` read at each width.
 use mathlib.Core.Path.{_≡_, refl, ap, _∙_, subst}
 use mathlib.Core.Bool.{Bool, true, false, not, cond}
 use Prim.Native.Nat.{ℕ, zero, suc, _+_, _<_, _-_, _*_, _/_, _^_, _≤_, min}

@@ -1,4 +1,4 @@
--- What is over stays over where more is used, and a sum that is over does not fall by further terms. By the order of floats. Assumes nothing.
+-- What is over stays over where more is used, and a sum that is over does not fall by further terms. By the order of floats.
 use mathlib.Core.Path.{sym, subst}
 use mathlib.Core.List.{List, _++_, foldl-append, List·Memᴰ}
 use lib.Dec.{T}

@@ -1,4 +1,4 @@
--- The order of the floats, all of them: NaNs, infinities, either sign. By the order of fractions, which at one denominator is linear. Assumes nothing.
+-- The order of the floats, all of them: NaNs, infinities, either sign. By the order of fractions, which at one denominator is linear.
 use mathlib.Core.Path.{_≡_, refl, sym, subst}
 use mathlib.Core.Logic.{_⊎_, inl, inr}
 use mathlib.Core.Bool.{Bool, true, false, not, _&&_, _||_}

@@ -1,4 +1,4 @@
--- A product of two floats that are not below zero is not below zero, unless it is a NaN; so a volume times a quantity. `round` keeps the order. Assumes nothing.
+-- A product of two floats that are not below zero is not below zero, unless it is a NaN; so a volume times a quantity. `round` keeps the order.
 use mathlib.Core.Path.{_≡_, refl, sym, ap, _∙_, subst}
 use mathlib.Core.Logic.{_⊎_, inl, inr}
 use mathlib.Core.Bool.{Bool, true, false, not, cond, _&&_, true≢false}

@@ -1,4 +1,4 @@
--- `round` at either sign: it gives no NaN, keeps the order, and leaves a value of its format as it is. From the library's laws for what is not negative. Assumes nothing.
+-- `round` at either sign: it gives no NaN, keeps the order, and leaves a value of its format as it is. From the library's laws for what is not negative.
 use mathlib.Core.Path.{_≡_, refl, sym, ap, _∙_, subst}
 use mathlib.Core.Logic.{inl, inr}
 use mathlib.Core.Bool.{Bool, true, false, not, _&&_, cond, true≢false}

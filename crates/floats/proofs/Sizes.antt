@@ -1,4 +1,4 @@
--- |x| by two tests: below zero, and equal to zero. Assumes nothing.
+-- |x| by two tests: below zero, and equal to zero.
 use mathlib.Core.Path.{_≡_, refl, sym, ap, _∙_, subst}
 use mathlib.Core.Bool.{true, false, _&&_, _||_, true≢false}
 use Prim.Native.Nat.{ℕ, zero, suc, _+_, _<_, _*_, _^_, _≤_}

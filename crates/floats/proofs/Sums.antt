@@ -1,4 +1,4 @@
--- Adding what is not below zero does not lower a float of its format, unless the sum is a NaN: `sum` rounds a fraction that is no smaller. Assumes nothing.
+-- Adding what is not below zero does not lower a float of its format, unless the sum is a NaN: `sum` rounds a fraction that is no smaller.
 use mathlib.Core.Path.{_≡_, refl, ap, _∙_}
 use mathlib.Core.Logic.{_⊎_, inl, inr}
 use mathlib.Core.Bool.{Bool, true, false, not, Bool·beq, cond, _&&_, true≢false}

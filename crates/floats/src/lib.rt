@@ -21,7 +21,7 @@ fn of_bits32(n: u32) -> f32
 }
 
 // The f64 of a bit pattern.
-fn of_bits64(n: u64) -> f64
+pub fn of_bits64(n: u64) -> f64
     ensures { λ r. ⌜ r ≡ ofBits binary64 n ⌝ }
 {
     if n % 0x8000_0000_0000_0000 > 0x7ff0_0000_0000_0000 {

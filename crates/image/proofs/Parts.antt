@@ -1,4 +1,4 @@
--- A number read in a part of a list of bytes is the one read in the whole. Assumes nothing.
+-- A number read in a part of a list of bytes is the one read in the whole.
 use Prim.Native.Nat.{ℕ, _+_, _≤_, _<_}
 use native.Mathlib.Nat.{add-assoc}
 use native.Mathlib.Omega.{arith}

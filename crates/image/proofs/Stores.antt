@@ -1,7 +1,7 @@
--- Bytes of numbers, and bytes stored in a list: lengths, numbers side by side, stores one after the other. Assumes nothing.
+-- Bytes of numbers, and bytes stored in a list: lengths, numbers side by side, stores one after the other.
 use mathlib.Core.Path.{_≡_, refl, ap, sym, _∙_}
 use mathlib.Core.List.{List, [], _∷_, _++_}
-use Prim.Native.Nat.{ℕ, zero, suc, _+_, _*_, _/_, _%_, _^_, _<_, _≤_}
+use Prim.Native.Nat.{ℕ, zero, suc, _+_, _*_, _/_, _%_, _^_, _<_}
 use native.Mathlib.Nat.{suc-add, zero-add, pow-succ', mul-assoc}
 use native.Mathlib.Omega.{arith}
 use lib.ListN.{length, set, length-set, length-append}

@@ -1,7 +1,6 @@
 // Little-endian integers at a place of a byte slice: document 01, "Records".
 ghost use mathlib.Core.Path.{_≡_};
-ghost use mathlib.Core.Bool.{_&&_, _||_, cond};
-ghost use Prim.Native.Nat.{_+_, _-_, _*_, _<_, _≤_, _^_};
+ghost use Prim.Native.Nat.{_+_, _-_, _*_, _<_, _≤_};
 ghost use lib.IntN.{negsuc};
 ghost use lib.ListN.{length, take, drop};
 ghost use Rattle.image.specs.Bytes.{u8At, u16At, u32At, u64At, signed32, bits32, i32At, le, put};
@@ -50,7 +49,9 @@ pub fn u16_at(b: &[u8], at: usize) -> u16
 // Four bytes as a number, the lowest first.
 fn four(b: &[u8], at: usize) -> u32
     requires { ⌜ at + 4 ≤ length (now b) ⌝ }
-    ensures { λ r. ⌜ r ≡ u8At (now (b .entry)) at + 256 * u8At (now (b .entry)) (at + 1) + 65536 * u8At (now (b .entry)) (at + 2) + 16777216 * u8At (now (b .entry)) (at + 3) ⌝ }
+    ensures { λ r.
+        let x = u8At (now (b .entry)) in
+        ⌜ r ≡ x at + 256 * x (at + 1) + 65536 * x (at + 2) + 16777216 * x (at + 3) ⌝ }
 {
     wide32(b[at])
         + 256 * wide32(b[at + 1])
@@ -162,24 +163,4 @@ pub fn put_u64(out: &mut [u8], at: usize, x: u64)
     let a7 = a6 + 1;
     let x7 = x6 / 256;
     out[a7] = (x7 % 256) as u8;
-}
-
-pub fn both(a: bool, b: bool) -> bool
-    ensures { λ r. ⌜ r ≡ (a && b) ⌝ }
-{
-    if a { b } else { false }
-}
-
-// Whether one of two tests holds. A loop that gathers its verdict with this call has no branch of its own.
-pub fn either(a: bool, b: bool) -> bool
-    ensures { λ r. ⌜ r ≡ (a || b) ⌝ }
-{
-    if a { true } else { b }
-}
-
-// What a test adds to a count.
-pub fn one_if(b: bool) -> u32
-    ensures { λ r. ⌜ (r ≡ cond b 1 0) × (r ≤ 1) ⌝ }
-{
-    b as u32
 }

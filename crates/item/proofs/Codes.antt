@@ -1,11 +1,11 @@
--- Ids as numbers, and lists of them. Assumes nothing.
+-- Ids as numbers, and lists of them.
 use Prim.Native.Nat.{ℕ, suc, _+_, _-_, _<_, _≤_, _^_}
 use native.Mathlib.Numerals.{add-one}
 use native.Mathlib.Omega.{arith}
 use mathlib.Core.Path.{_≡_, refl, sym, ap, ap₂, _∙_}
 use mathlib.Core.Bool.{Bool, true, false, cond}
 use mathlib.Core.List.{List, [], _∷_, _++_, map, map-append}
-use mathlib.Core.Option.{Option, none, some}
+use mathlib.Core.Option.{none, some}
 use lib.Dec.{ltb}
 use lib.IntN.{ℤ, pos, negsuc}
 use lib.ListN.{length, getD, take, set}
@@ -15,18 +15,8 @@ use mir.Val.{toZ, ofZ, sel, SFits}
 use mir.ValLaws.{toZ-ofZ, ofZ-fits}
 use borrow.Author.Tests.{lt-ltb, le-ltb}
 use Rattle.image.specs.Bytes.{signed32, bits32}
-use Rattle.image.proofs.Signs.{bits-ofZ}
-use Rattle.catalogue.specs.Catalogue.{Id}
+use Rattle.image.proofs.Signs.{bits-ofZ, signed-bits}
 use Rattle.item.specs.AtPair.{idIn}
-
--- the definition is the machine's own
-signed-toZ : (n : ℕ) → signed32 n ≡ toZ w32 n
-unfolding signed32
-signed-toZ n = go (ltb n (2 ^ 31))
-  where
-    go : (b : Bool) → cond b (pos n) (negsuc (2 ^ 32 - 1 - n)) ≡ sel b (pos n) (negsuc (2 ^ 32 - suc n))
-    go true = refl
-    go false = ap negsuc (omega arith)
 
 pub code-some : (n : ℕ) → n < 2 ^ 32 → idIn n ≡ some (signed32 n)
 unfolding idIn
@@ -40,7 +30,7 @@ code-none n h = rw (le-ltb n (2 ^ 32) h)
 pub code-bits : (z : ℤ) → SFits w32 z → (n : ℕ) → n ≡ bits32 z → idIn n ≡ some z
 code-bits z f n e =
     let o : n ≡ ofZ w32 z = e ∙ bits-ofZ z in
-    code-some n (omega (arith, o, ofZ-fits w32 z f .fits)) ∙ ap some (signed-toZ n ∙ ap (toZ w32) o ∙ toZ-ofZ w32 z f)
+    code-some n (omega (arith, o, ofZ-fits w32 z f .fits)) ∙ ap some (ap signed32 e ∙ signed-bits z f)
 
 -- one more id in its place
 module _ {A B C : Type 0} (f : A → C) (g : B → C) (l : List A) (m : List B) where

@@ -1,4 +1,4 @@
--- A result none of whose ids is flagged has no value under any id that was flagged, and so lists nothing. Assumes nothing.
+-- A result none of whose ids is flagged has no value under any id that was flagged, and so lists nothing.
 use Prim.Native.Nat.{ℕ, zero, suc, _+_, _/_, _-_, _%_, _^_, _<_, _≤_}
 use native.Mathlib.Nat.{eq-or-lt-of-le}
 use native.Mathlib.Omega.{arith}

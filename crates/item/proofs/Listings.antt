@@ -1,4 +1,4 @@
--- What an item lists, id by id, and the two tests of it. Assumes nothing.
+-- What an item lists, id by id, and the two tests of it.
 use Prim.Native.Nat.{ℕ, _+_, _<_, _≤_}
 use native.Mathlib.Numerals.{add-one}
 use mathlib.Core.Path.{_≡_, refl, sym, ap, ap₂, subst, _∙_}

@@ -1,11 +1,10 @@
--- A loop over the pairs that writes at most one entry for each. Assumes nothing.
-use Prim.Native.Nat.{ℕ, _+_, _*_, _≤_, _<_}
+-- A loop over the pairs that writes at most one entry for each.
+use Prim.Native.Nat.{ℕ, _+_, _≤_, _<_}
 use native.Mathlib.Omega.{arith}
-use mathlib.Core.Path.{_≡_, sym, ap, _∙_}
+use mathlib.Core.Path.{sym, ap}
 use mathlib.Core.List.{List}
 use lib.ListN.{length}
 use Rattle.words.specs.Words.{each, table}
-use Rattle.fit.specs.Fit.{itemCount, resultCount}
 use Rattle.fit.specs.Sound as Fit
 use Rattle.entry.specs.declared.Entry.{Entry}
 use Rattle.entry.specs.Wrote.{Wrote}

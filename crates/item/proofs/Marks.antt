@@ -1,4 +1,4 @@
--- Whether an item is marked, id by id. Assumes nothing.
+-- Whether an item is marked, id by id.
 use Prim.Native.Nat.{ℕ, _+_, _<_, _≤_}
 use native.Mathlib.Numerals.{add-one}
 use mathlib.Core.Path.{_≡_, refl, sym, ap, _∙_}

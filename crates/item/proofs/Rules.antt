@@ -1,14 +1,14 @@
--- From the tests and values that the code finds to what a rule says of a pair. Assumes nothing.
+-- From the tests and values that the code finds to what a rule says of a pair.
 use Prim.Native.Nat.{ℕ, _≤_}
 use native.Mathlib.Omega.{arith}
-use mathlib.Core.Path.{_≡_, refl, sym, ap, _∙_}
+use mathlib.Core.Path.{_≡_, refl, ap, _∙_}
 use mathlib.Core.Bool.{Bool, true, false, not, _&&_, _||_, cond}
-use mathlib.Core.List.{List, [], _∷_, map}
-use mathlib.Core.Option.{Option, none, some}
+use mathlib.Core.List.{List, []}
+use mathlib.Core.Option.{none, some}
 use lib.ListN.{length}
 use lib.Ieee.{Float, ne}
-use Rattle.words.specs.Words.{_>>=_, each, when, whenAbove, unless, isEmpty, contains}
-use Rattle.words.proofs.Lengths.{few-when, few-bind, few-above, few-unless}
+use Rattle.words.specs.Words.{each, when, isEmpty, contains}
+use Rattle.words.proofs.Lengths.{few-when, few-bind, few-unless}
 use Rattle.floats.specs.Floats.{zeroF, toU}
 use Rattle.catalogue.specs.Catalogue.{Id}
 use Rattle.catalogue.specs.Lookups.{nameId}
@@ -43,11 +43,11 @@ module _ (x : Context) (ps : List Pair) where
   unfolding rigSize
   rig-no-name e = wrote-bind-none _ e
 
-  pub rig-no-ship : {b : List ℕ} {n : ℕ} (id : Id) → nameId (x .names) 33 ≡ some id → value (x .hull) id ≡ none → Wrote b n b n (rigSize x ps)
+  pub rig-no-ship : {b : List ℕ} {n : ℕ} (id : Id) → nameId (x .names) 33 ≡ some id → value (x .shipResult) id ≡ none → Wrote b n b n (rigSize x ps)
   unfolding rigSize
   rig-no-ship id e q = wrote-bind _ e (wrote-bind-none _ q)
 
-  pub rig-each : {b a : List ℕ} {n k : ℕ} (id : Id) (ship : Float) → nameId (x .names) 33 ≡ some id → value (x .hull) id ≡ some ship
+  pub rig-each : {b a : List ℕ} {n k : ℕ} (id : Id) (ship : Float) → nameId (x .names) 33 ≡ some id → value (x .shipResult) id ≡ some ship
       → Wrote b n a k (each ps (rigSizeAt id ship)) → Wrote b n a k (rigSize x ps)
   unfolding rigSize rigSizeAt
   rig-each id ship e q w = wrote-bind _ e (wrote-bind _ q w)
@@ -107,12 +107,12 @@ module _ (x : Context) (ps : List Pair) where
   capital-no-capital volume e q = wrote-bind _ e (wrote-bind-none _ q)
 
   pub capital-taken : {b : List ℕ} {n : ℕ} (volume capital : Id) → nameId (x .names) 67 ≡ some volume → nameId (x .names) 68 ≡ some capital
-      → ne (amount (x .hull) capital) zeroF || isStructure x ≡ true → Wrote b n b n (capitalItem x ps)
+      → ne (amount (x .shipResult) capital) zeroF || isStructure x ≡ true → Wrote b n b n (capitalItem x ps)
   unfolding capitalItem
   capital-taken volume capital e q t = wrote-bind _ e (wrote-bind _ q (wrote-return _ t))
 
   pub capital-each : {b a : List ℕ} {n k : ℕ} (volume capital : Id) → nameId (x .names) 67 ≡ some volume → nameId (x .names) 68 ≡ some capital
-      → ne (amount (x .hull) capital) zeroF || isStructure x ≡ false → Wrote b n a k (each ps (capitalItemAt volume)) → Wrote b n a k (capitalItem x ps)
+      → ne (amount (x .shipResult) capital) zeroF || isStructure x ≡ false → Wrote b n a k (each ps (capitalItemAt volume)) → Wrote b n a k (capitalItem x ps)
   unfolding capitalItem capitalItemAt
   capital-each volume capital e q t w = wrote-bind _ e (wrote-bind _ q (wrote-past t w))
 

@@ -1,8 +1,7 @@
 -- validate/item.rs.
 use Prim.Native.Nat.{ℕ}
-use mathlib.Core.Bool.{Bool, true, false, not, _&&_, _||_, cond}
-use mathlib.Core.List.{List, [], _∷_, _++_}
-use mathlib.Core.Option.{Option}
+use mathlib.Core.Bool.{Bool, false, not, _&&_, _||_, cond}
+use mathlib.Core.List.{List, [], _∷_}
 use lib.IntN.{pos}
 use lib.Dec.{leb}
 use lib.Ieee.{lt, ne}
@@ -55,7 +54,7 @@ module _ (x : Context) where
   unfoldable pub rigSize : List Pair → List Entry
   rigSize ps = do
     id ← nameId (x .names) 33
-    ship ← value (x .hull) id
+    ship ← value (x .shipResult) id
     each ps λ p. do
       size ← value (p .result) id
       when (isIn rig p && ne size ship) (on p (RigSize (toU 8 ship) (toU 8 size)))
@@ -73,7 +72,7 @@ module _ (x : Context) where
   capitalItem ps = do
     volume ← nameId (x .names) 67
     capital ← nameId (x .names) 68
-    unless (ne (amount (x .hull) capital) zeroF || isStructure) (each ps λ p.
+    unless (ne (amount (x .shipResult) capital) zeroF || isStructure) (each ps λ p.
         when (isFitted p && not (isIn rig p) && lt (ofNat 3500) (amount (p .result) volume)) (on p CapitalItem))
 
   unfoldable pub standup : List Pair → List Entry

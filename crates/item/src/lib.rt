@@ -191,7 +191,7 @@ fn rig_size_at(
     entry::emit_when(
         out,
         n,
-        image::both(is_in_rig(fit, i), size != ship),
+        words::both(is_in_rig(fit, i), size != ship),
         Entry {
             target: Target::Item(i as u32),
             rule: Rule::RigSize(floats::to_u8(ship), floats::to_u8(size)),
@@ -254,7 +254,7 @@ fn any_flagged(ids: &[u8], flags: &[bool; 8192]) -> bool
     let mut found = false;
     let mut k = 0;
     while k < count {
-        found = image::either(found, flag_at(ids, k, flags));
+        found = words::either(found, flag_at(ids, k, flags));
         k += 1;
     }
     found
@@ -288,7 +288,7 @@ fn listed_under(fit: &[u8], starts: &[u32; 259], j: usize, code: u64, id: i32) -
     };
     Listing {
         any: true,
-        has: context::same_id(id, floats::to_i32(value)),
+        has: words::same_id(id, floats::to_i32(value)),
     }
 }
 
@@ -302,8 +302,8 @@ fn listed(fit: &[u8], starts: &[u32; 259], j: usize, codes: &[u64], id: i32) -> 
     let mut k = 0;
     while k < codes.len() {
         let one = listed_under(fit, starts, j, codes[k], id);
-        any = image::either(any, one.any);
-        has = image::either(has, one.has);
+        any = words::either(any, one.any);
+        has = words::either(has, one.has);
         k += 1;
     }
     Listing { any, has }
@@ -319,7 +319,7 @@ fn is_restricted(types: Listing, groups: Listing) -> bool
     if groups.has {
         return false;
     }
-    image::either(types.any, groups.any)
+    words::either(types.any, groups.any)
 }
 
 fn ship_restricted_at(
@@ -408,12 +408,12 @@ fn takes_capitals(
     category: i32,
 ) -> bool
     requires { ⌜ Ready (now catalogue) (now fit) (now starts) × (category ≡ contextOf (now catalogue) (now fit) .category) ⌝ }
-    ensures { λ r. ⌜ r ≡ (ne (amount (contextOf (now (catalogue .entry)) (now (fit .entry)) .hull) capital) zeroF || isStructure (contextOf (now (catalogue .entry)) (now (fit .entry)))) ⌝ }
+    ensures { λ r. ⌜ r ≡ (ne (amount (contextOf (now (catalogue .entry)) (now (fit .entry)) .shipResult) capital) zeroF || isStructure (contextOf (now (catalogue .entry)) (now (fit .entry)))) ⌝ }
 {
     if fit::amount(fit, starts, 0, capital) != 0.0 {
         return true;
     }
-    context::same_id(category, 65)
+    words::same_id(category, 65)
 }
 
 // A capital rig is held apart by its rig size instead.
@@ -522,7 +522,7 @@ fn is_standup(
     requires { ⌜ IdsOf (catalogueOf (now catalogue) .names) STANDUP-FIGHTERS (now markers) × Categories (now catalogue) (now fit) (now categories) ⌝ }
     ensures { λ r. ⌜ r ≡ isStandup (contextOf (now (catalogue .entry)) (now (fit .entry))) (pairAt (now (catalogue .entry)) (now (fit .entry)) i) ⌝ }
 {
-    if context::same_id(id_at(categories, i), 66) {
+    if words::same_id(id_at(categories, i), 66) {
         return true;
     }
     is_marked(fit, starts, i + 2, markers)
@@ -583,7 +583,7 @@ pub fn standup(
     ensures { λ r. ⌜ Wrote (now (out .entry)) n (now (out .exit)) r (Item.standup (contextOf (now (catalogue .entry)) (now (fit .entry))) (pairsOf (now (catalogue .entry)) (now (fit .entry)))) × (r ≤ n + 256) ⌝ }
 {
     let markers = standup_ids(catalogue);
-    let structure = context::same_id(category, 65);
+    let structure = words::same_id(category, 65);
     let count = fit::pair_count(fit);
     let mut m = n;
     let mut i = 0;

@@ -1,20 +1,20 @@
--- From an order of neighbours to one of any two, and what a search of ordered keys finds. Assumes nothing.
-use Prim.Native.Nat.{ℕ, zero, suc, _+_, _-_, _*_, _%_, _≤_, _<_, max, zero-le, suc-le-suc}
+-- From an order of neighbours to one of any two, and what a search of ordered keys finds.
+use Prim.Native.Nat.{ℕ, zero, suc, _+_, _-_, _*_, _≤_, _<_, max, zero-le, suc-le-suc}
 use native.Mathlib.Nat.{not-suc-le-zero, le-of-suc-le-suc, eq-or-lt-of-le}
 use native.Mathlib.Numerals.{add-one}
 use native.Mathlib.Omega.{arith}
 use mathlib.Core.Path.{_≡_, refl, sym, ap, _∙_, subst}
 use mathlib.Core.Bool.{Bool, true, false, cond, _&&_}
 use mathlib.Core.List.{List}
-use mathlib.Core.Option.{Option, none, some}
+use mathlib.Core.Option.{none, some}
 use mathlib.Core.Logic.{_⊎_, inl, inr, ⊎-elim}
-use lib.Dec.{ltb, leb, eqb}
+use lib.Dec.{ltb}
 use lib.IntN.{ℤ}
 use lib.Signed.{ltZ, leZ, mag}
 use borrow.Author.Tests.{ltb-true, leb-true, eq-eqb, ne-eqb, eqb-false}
-use Rattle.words.specs.Words.{tableFrom, table, inOrder, same}
+use Rattle.words.specs.Words.{table, inOrder, same}
 use Rattle.words.proofs.Tables.{order-more, order-one, order-none, order-same, table-same, find-at, find-none}
-use Rattle.image.specs.Bytes.{u32At, i32At, signed32}
+use Rattle.image.specs.Bytes.{u32At, i32At}
 use Rattle.keys.specs.Keys.{keyAt, rankOf, Sorted, Parts, placeOf, biased, stands}
 use Rattle.keys.proofs.Ranks.{rank-lt, rank-le, rank-same, signed-range, rank-signed}
 

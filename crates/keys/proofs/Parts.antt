@@ -1,4 +1,4 @@
--- Keys in a part of a slice, which are those of the whole from that place on; and where a key can stand. Assumes nothing.
+-- Keys in a part of a slice, which are those of the whole from that place on; and where a key can stand.
 use Prim.Native.Nat.{ℕ, _+_, _*_, _≤_, _<_}
 use native.Mathlib.Omega.{arith}
 use mathlib.Core.Path.{_≡_, _∙_, ap, ap₂, sym, subst}

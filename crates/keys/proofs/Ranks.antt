@@ -1,10 +1,9 @@
--- The order of signed numbers of 32 bits is that of their ranks. Assumes nothing.
-use Prim.Native.Nat.{ℕ, zero, suc, _+_, _-_, _*_, _%_, _≤_, _<_, _^_}
+-- The order of signed numbers of 32 bits is that of their ranks.
+use Prim.Native.Nat.{ℕ, _+_, _-_, _%_, _≤_, _<_}
 use native.Mathlib.Omega.{arith}
-use mathlib.Core.Path.{_≡_, refl, sym, ap, _∙_, subst}
+use mathlib.Core.Path.{_≡_, refl, sym, _∙_}
 use mathlib.Core.Bool.{Bool, true, false, cond}
 use mathlib.Core.List.{List}
-use mathlib.Core.Logic.{⊎-elim}
 use lib.ListN.{getD}
 use lib.Dec.{ltb, leb, eqb}
 use lib.IntN.{ℤ, pos, negsuc}
@@ -13,7 +12,7 @@ use mir.Val.{Fits}
 use lib.Signed.{ltZ, leZ, mag}
 use borrow.Author.Tests.{lt-ltb, le-ltb, le-leb, lt-leb, eq-eqb, ne-eqb, ltb-true, ltb-false, leb-true, leb-false, eqb-true, eqb-false}
 use Rattle.words.specs.Words.{same}
-use Rattle.image.specs.Bytes.{u8At, u32At, signed32, bits32}
+use Rattle.image.specs.Bytes.{u32At, signed32, bits32}
 use Rattle.keys.specs.Keys.{rankOf, biased}
 
 -- two tests of numbers agree where each follows from the other

@@ -1,4 +1,4 @@
--- A search that skips half of what is left, or nothing; and a guess that needs no search. Assumes nothing.
+-- A search that skips half of what is left, or nothing; and a guess that needs no search.
 use Prim.Native.Nat.{ℕ, _+_, _-_, _*_, _/_, _≤_, _<_}
 use native.Mathlib.Omega.{arith}
 use mathlib.Core.Path.{_≡_, refl}

@@ -6,7 +6,7 @@ use mathlib.Core.Option.{Option, none, some}
 use lib.Dec.{ltb, leb}
 use lib.IntN.{ℤ, pos, negsuc}
 use Rattle.words.specs.Words.{find, from, same}
-use Rattle.image.specs.Bytes.{u32At, i32At}
+use Rattle.image.specs.Bytes.{i32At}
 use Rattle.keys.specs.declared.Found.{Found}
 use Rattle.keys.specs.declared.Found.the-variants.{At, Nothing}
 

@@ -1,12 +1,12 @@
 // Keys in an image: whether they are in order, and where an id stands among them.
 ghost use mathlib.Core.Path.{_≡_};
-ghost use mathlib.Core.Bool.{_&&_, _||_, cond};
-ghost use Prim.Native.Nat.{ℕ, _+_, _-_, _*_, _<_, _≤_};
+ghost use mathlib.Core.Bool.{_||_, cond};
+ghost use Prim.Native.Nat.{_+_, _-_, _*_, _<_, _≤_};
 ghost use lib.ListN.{length};
 ghost use lib.Dec.{eqb, ltb, leb};
 ghost use lib.Signed.{ltZ, leZ};
-ghost use Rattle.words.specs.Words.{table, inOrder, anyOf};
-ghost use Rattle.image.specs.Bytes.{u32At, i32At};
+ghost use Rattle.words.specs.Words.{table, inOrder};
+ghost use Rattle.image.specs.Bytes.{u32At};
 ghost use Rattle.keys.specs.Keys.{keyAt, rankOf, Sorted, Parts, placeOf, foundOf, biased, stands};
 
 // A place in a slice, or none.
@@ -48,7 +48,7 @@ fn ordered(keys: &[u8], n: usize, bias: u32, strict: bool) -> bool
     while i < n {
         let x = biased_at(keys, i - 1, bias);
         let y = biased_at(keys, i, bias);
-        ok = image::both(ok, stand(x, y, strict));
+        ok = words::both(ok, stand(x, y, strict));
         i += 1;
     }
     ok
@@ -93,8 +93,8 @@ fn rank(id: i32) -> u32
     std::num::wrapping_add_u32(image::bits(id), 2147483648)
 }
 
-// 3 where x is under y, else 2. By arithmetic, and not 1 and 0: as a test, which the compiler sees in 1 and 0 too, it would be a branch, and
-// a search guesses half of those wrong.
+// 3 where x is under y, else 2. By arithmetic, and not 1 and 0: as a test, which the compiler sees in 1 and 0 too, it would be a
+// branch, and a search guesses half of those wrong.
 fn under(x: u32, y: u32) -> usize
     ensures { λ r. ⌜ r ≡ cond (ltb x y) 3 2 ⌝ }
 {
@@ -131,7 +131,9 @@ pub fn first_from(keys: &[u8], n: usize, id: i32) -> usize
 // `first_from` of four ids, whose steps do not wait for one another.
 pub fn four_from(keys: &[u8], n: usize, i: i32, j: i32, k: i32, l: i32) -> Four
     requires { ⌜ (4 * n ≤ length (now keys)) × Sorted (now keys) n ⌝ }
-    ensures { λ r. ⌜ Parts (now (keys .entry)) n i (r .a) × Parts (now (keys .entry)) n j (r .b) × Parts (now (keys .entry)) n k (r .c) × Parts (now (keys .entry)) n l (r .d) ⌝ }
+    ensures { λ r.
+        let p = Parts (now (keys .entry)) n in
+        ⌜ p i (r .a) × p j (r .b) × p k (r .c) × p l (r .d) ⌝ }
 {
     let p = rank(i);
     let q = rank(j);

@@ -1,4 +1,4 @@
--- A loop that counts the pairs that pass a test. Assumes nothing.
+-- A loop that counts the pairs that pass a test.
 use Prim.Native.Nat.{ℕ, _+_, _≤_, _<_}
 use native.Mathlib.Omega.{arith}
 use mathlib.Core.Path.{_≡_, sym, ap, _∙_}
@@ -6,7 +6,6 @@ use mathlib.Core.Bool.{Bool, cond}
 use mathlib.Core.List.{List}
 use Rattle.words.specs.Words.{countOf, table}
 use Rattle.words.proofs.Tables.{count-none, count-more}
-use Rattle.fit.specs.Fit.{itemCount, resultCount}
 use Rattle.context.specs.Context.{Pair}
 use Rattle.context.specs.Gathered.{pairCount, pairAt, pairsOf}
 use Rattle.context.proofs.Pairs.{pairs-table}

@@ -5,7 +5,6 @@ use entry::Rule;
 use entry::Target;
 use floats::Value;
 ghost use mathlib.Core.Path.{_≡_};
-ghost use mathlib.Core.Bool.{cond};
 ghost use mathlib.Core.List.{List};
 ghost use Prim.Native.Nat.{ℕ, _+_, _<_, _≤_};
 ghost use Rattle.words.specs.Words.{countOf};
@@ -33,9 +32,9 @@ fn in_group(
     ensures { λ r. ⌜ r ≡ inGroup group limit (pairAt (now (catalogue .entry)) (now (fit .entry)) i) ⌝ }
 {
     let fitted = item::is_fitted(fit, i);
-    let alike = context::same_id(item::id_at(groups, i), group);
+    let alike = words::same_id(item::id_at(groups, i), group);
     let state = fit::result_state(fit, i + 2);
-    image::both(image::both(fitted, alike), limit <= state)
+    words::both(words::both(fitted, alike), limit <= state)
 }
 
 fn count_in_group(catalogue: &[u8], fit: &[u8], groups: &[i32; 256], group: i32, limit: u8) -> u32
@@ -46,7 +45,7 @@ fn count_in_group(catalogue: &[u8], fit: &[u8], groups: &[i32; 256], group: i32,
     let mut used: u32 = 0;
     let mut i = 0;
     while i < count {
-        used += image::one_if(in_group(catalogue, fit, groups, group, limit, i));
+        used += words::one_if(in_group(catalogue, fit, groups, group, limit, i));
         i += 1;
     }
     used
@@ -141,8 +140,8 @@ fn of_type(fit: &[u8], id: i32, i: usize) -> bool
     ensures { λ r. ⌜ ((k : List ℕ) → r ≡ ofType id (pairAt k (now (fit .entry)) i)) ⌝ }
 {
     let fitted = item::is_fitted(fit, i);
-    let alike = context::same_id(fit::item_type(fit, i), id);
-    image::both(fitted, alike)
+    let alike = words::same_id(fit::item_type(fit, i), id);
+    words::both(fitted, alike)
 }
 
 fn count_of_type(fit: &[u8], id: i32) -> u32
@@ -153,7 +152,7 @@ fn count_of_type(fit: &[u8], id: i32) -> u32
     let mut used: u32 = 0;
     let mut i = 0;
     while i < count {
-        used += image::one_if(of_type(fit, id, i));
+        used += words::one_if(of_type(fit, id, i));
         i += 1;
     }
     used

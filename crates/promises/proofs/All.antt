@@ -1,4 +1,4 @@
--- A property of every element of a list, and what the words of the definitions do to it. By induction on the list. Assumes nothing.
+-- A property of every element of a list, and what the words of the definitions do to it. By induction on the list.
 use Prim.Native.Nat.{ℕ, zero, suc, _<_}
 use native.Mathlib.Nat.{le-of-suc-le-suc, not-suc-le-zero}
 use mathlib.Core.Path.{sym, subst}

@@ -1,4 +1,4 @@
--- What a call gives, from the first of its conditions that holds. By cases on that number. Assumes nothing.
+-- What a call gives, from the first of its conditions that holds. By cases on that number.
 use Prim.Native.Nat.{ℕ, zero, suc, _+_, _*_, _-_, _^_, _≤_, _<_, suc-le-suc, zero-le}
 use native.Mathlib.Nat.{le-of-suc-le-suc, not-suc-le-zero}
 use native.Mathlib.Omega.{arith}

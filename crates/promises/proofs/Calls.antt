@@ -1,4 +1,4 @@
--- The list call and the skill call: their conditions, and what they list. By the lengths of the two lists. Assumes nothing.
+-- The list call and the skill call: their conditions, and what they list. By the lengths of the two lists.
 use Prim.Native.Nat.{ℕ, _+_, _*_, _≤_}
 use native.Mathlib.Omega.{arith}
 use mathlib.Core.Path.{_≡_}

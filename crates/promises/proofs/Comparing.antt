@@ -1,4 +1,4 @@
--- Two fits compared: demand 3, of the list call and of the skill call. From `Growth` by the bytes of the entries. Assumes nothing.
+-- Two fits compared: demand 3, of the list call and of the skill call. From `Growth` by the bytes of the entries.
 use Prim.Native.Nat.{ℕ, zero, suc, _+_, _*_, _^_, _≤_, _<_, zero-le, suc-le-suc}
 use native.Mathlib.Nat.{le-trans, le-of-suc-le-suc, not-suc-le-zero}
 use native.Mathlib.Omega.{arith}
@@ -99,7 +99,7 @@ get-append (x ∷ l) m (suc n) h = get-append l m n (le-of-suc-le-suc h)
 
 module _ (old new : Fit) (g : Grown old new) where
   all-results : allResults new ≡ allResults old ++ drop (length (old .results)) (new .results)
-  all-results = ap₂ (λ (k : Frame) (l : List Result). k .hull ∷ k .character ∷ l) (g .frame) (begins (old .results) (new .results) (g .results))
+  all-results = ap₂ (λ (k : Frame) (l : List Result). k .shipResult ∷ k .characterResult ∷ l) (g .frame) (begins (old .results) (new .results) (g .results))
 
   same-result : (n : ℕ) → n ≤ length (old .results) + 1 → resultAt new n ≡ resultAt old n
   unfolding resultAt

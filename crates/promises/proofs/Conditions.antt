@@ -1,4 +1,4 @@
--- Numbers with conditions: which is the first that holds. By cases on the conditions, one after the other. Assumes nothing.
+-- Numbers with conditions: which is the first that holds. By cases on the conditions, one after the other.
 use Prim.Native.Nat.{ℕ, _≤_, _<_, pred}
 use native.Mathlib.Omega.{arith}
 use mathlib.Core.Path.{_≡_, refl}

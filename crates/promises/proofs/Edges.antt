@@ -1,4 +1,4 @@
--- The edges: every outcome of the table, by computation. Assumes nothing.
+-- The edges: every outcome of the table, by computation.
 use mathlib.Core.Path.{refl, sym, ap₂, _∙_}
 use mathlib.Core.List.{List, _++_, map-append}
 use lib.Ieee.{ofInt, toUnsigned, toSigned, ofBits, lt, add, mul, round, odd, units, size, span, climb, sum, ofFields, eq, ne, toBits}

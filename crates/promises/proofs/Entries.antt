@@ -1,4 +1,4 @@
--- Entry i of a written buffer is where it is read. By induction on the entries, of which each has 24 bytes. Assumes nothing.
+-- Entry i of a written buffer is where it is read. By induction on the entries, of which each has 24 bytes.
 use Prim.Native.Nat.{ℕ, zero, suc, _+_, _*_, _<_}
 use native.Mathlib.Nat.{le-of-suc-le-suc, not-suc-le-zero}
 use native.Mathlib.Omega.{arith}

@@ -1,5 +1,5 @@
 -- The list of a fit into which pairs are put: every old entry has its place. Rule by rule, by what the words do to `Placed`; drones and
--- cargo by the laws of floats. Assumes nothing.
+-- cargo by the laws of floats.
 use Prim.Native.Nat.{ℕ, suc, _+_, _^_, _≤_, _<_}
 use native.Mathlib.Omega.{arith}
 use mathlib.Core.Path.{_≡_, refl, sym, ap, ap₂, _∙_, subst}

@@ -1,5 +1,5 @@
 -- The hall number: three counts that part the fits, packed into one word; and each fit beside its own list call. By cases on the
--- refusals. Assumes nothing.
+-- refusals.
 use Prim.Native.Nat.{ℕ, zero, suc, _+_, _*_, _/_, _%_, _≤_, _<_}
 use native.Mathlib.Decide.{decLe}
 use native.Mathlib.Omega.{arith}

@@ -1,4 +1,4 @@
--- How many entries a list has at most. Rule by rule, by what the words do to a list's length. Assumes nothing.
+-- How many entries a list has at most. Rule by rule, by what the words do to a list's length.
 use Prim.Native.Nat.{ℕ, suc, _+_, _*_, _≤_, zero-le, suc-le-suc}
 use native.Mathlib.Nat.{le-trans}
 use native.Mathlib.Omega.{arith}

@@ -1,4 +1,4 @@
--- The order of the walk: its skills stand in the order in which walking them meets them. By what noting does to the ids. Assumes nothing.
+-- The order of the walk: its skills stand in the order in which walking them meets them. By what noting does to the ids.
 use Prim.Native.Nat.{ℕ, zero, suc, max, _≤_}
 use native.Mathlib.Omega.{arith}
 use mathlib.Core.Path.{_≡_, refl, sym, ap, _∙_}

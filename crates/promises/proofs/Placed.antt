@@ -1,5 +1,5 @@
 -- `Placed`: each old element has a place of its own in the new list, in order. What the words of the definitions do to it, and the
--- places. By induction on it. Assumes nothing.
+-- places. By induction on it.
 use Prim.Native.Nat.{ℕ, zero, suc, _≤_, _<_, zero-le, suc-le-suc}
 use native.Mathlib.Nat.{le-trans, le-of-suc-le-suc, not-suc-le-zero}
 use native.Mathlib.Omega.{arith}

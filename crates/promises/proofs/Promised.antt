@@ -1,4 +1,4 @@
--- The promises, all of them. Each is proved in a file of its own. Assumes nothing.
+-- The promises, all of them. Each is proved in a file of its own.
 use mathlib.Core.Path.{refl}
 use Rattle.words.specs.Words.{each, tableFrom}
 use Rattle.promises.specs.Promises.{Names, Promises}

@@ -1,4 +1,4 @@
--- Refusal 9: the walk is too long exactly where more than the limit of distinct skills are wanted. By counting lists of ids. Assumes nothing.
+-- Refusal 9: the walk is too long exactly where more than the limit of distinct skills are wanted. By counting lists of ids.
 use Prim.Native.Nat.{ℕ, suc, _≤_, _<_, zero-le, suc-le-suc}
 use native.Mathlib.Nat.{le-trans}
 use mathlib.Core.Path.{_≡_, refl, sym, ap, _∙_, subst}

@@ -1,5 +1,5 @@
 -- An entry that rises: the same numbers, but that a used one may be higher and a trained level lower. In bytes that is `Stays`, where the
--- numbers fit their places. By computing both entries' bytes. Assumes nothing.
+-- numbers fit their places. By computing both entries' bytes.
 use Prim.Native.Nat.{ℕ, _+_, _*_, _/_, _%_, _^_, _≤_, _<_}
 use native.Mathlib.Nat.{le-refl}
 use native.Mathlib.Omega.{arith}

@@ -1,5 +1,5 @@
 -- Every entry of a list has numbers that fit its bytes, and no used number that is a NaN. Rule by rule, by what the words do to `All`.
--- Assumes nothing.
+--
 use Prim.Native.Nat.{ℕ, zero, suc, _^_, _≤_, _<_, max, zero-le, suc-le-suc}
 use native.Mathlib.Omega.{arith}
 use mathlib.Core.Bool.{Bool, true, false, cond}
@@ -64,7 +64,7 @@ module _ (c : Catalogue) where
   notASkill-sound ids = all-each ids λ _. all-when _ _ (λ _. tt)
 
 module _ (x : Context) where
-  loads-sound : ((id : Id) → T (fits binary64 (amount (x .hull) id))) → AllSound (loads x)
+  loads-sound : ((id : Id) → T (fits binary64 (amount (x .shipResult) id))) → AllSound (loads x)
   unfolding loads
   loads-sound h = all-each LOADS λ l. all-bind _ λ load. all-bind _ λ output. resource-sound (l .0) _ _ (h load)
 
@@ -129,7 +129,7 @@ module _ (x : Context) where
     unfolding typeLimit
     typeLimit-sound = all-bind _ λ id. all-each ps λ p. all-bind _ λ allowed. above-sound _ _ _ _ (few-of _)
 
-    hullRules-sound : ((id : Id) → T (fits binary64 (amount (x .hull) id))) → AllSound (hullRules x ps)
+    hullRules-sound : ((id : Id) → T (fits binary64 (amount (x .shipResult) id))) → AllSound (hullRules x ps)
     unfolding hullRules
     hullRules-sound h =
         all-join (all-join (all-join (all-join (all-join (all-join (all-join (all-join (all-join (all-join (all-join
@@ -146,7 +146,7 @@ module _ (x : Context) where
         groupLimits-sound)
         typeLimit-sound
 
-pub listWith-sound : (c : Catalogue) (k : Frame) (ids : List Id) (ps : List Pair) → length ps < 2 ^ 32 → ((id : Id) → T (fits binary64 (amount (k .hull) id)))
+pub listWith-sound : (c : Catalogue) (k : Frame) (ids : List Id) (ps : List Pair) → length ps < 2 ^ 32 → ((id : Id) → T (fits binary64 (amount (k .shipResult) id)))
     → AllSound (listWith c k ids ps)
 unfolding listWith context
 listWith-sound c k ids ps few h =

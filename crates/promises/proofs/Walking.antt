@@ -1,4 +1,4 @@
--- The walk's list is what `Walked` says, where it is not refused. By induction on the demands noted and on the steps walked. Assumes nothing.
+-- The walk's list is what `Walked` says, where it is not refused. By induction on the demands noted and on the steps walked.
 use Prim.Native.Nat.{ℕ, zero, suc, max, _≤_, _<_, zero-le, suc-le-suc}
 use native.Mathlib.Nat.{le-refl, le-trans, le-of-suc-le-suc, not-suc-le-zero, eq-or-lt-of-le}
 use native.Mathlib.Decide.{decLe}

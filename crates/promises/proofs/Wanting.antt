@@ -1,4 +1,4 @@
--- The list of wanted skills and the entries made of it, said without the walk. From `Walking`, `Refusing` and `Meeting`. Assumes nothing.
+-- The list of wanted skills and the entries made of it, said without the walk. From `Walking`, `Refusing` and `Meeting`.
 use Prim.Native.Nat.{ℕ, _+_, _≤_}
 use native.Mathlib.Nat.{le-antisymm}
 use native.Mathlib.Omega.{arith}
@@ -139,7 +139,7 @@ skill-lists catalogue fit n buffer h =
     let f = fitOf fit in
     let a = skill-answers catalogue fit n buffer .answered .0 h .1 .1 .1 .1 .1 .1 in
     let l = nltb→le (length (f .results) + 1) n (a .0) in
-    let r = getD (allResults f) n (f .frame .hull) in
-    let e : getElem? (allResults f) n ≡ some r = elem-of (f .frame .hull) (allResults f) n (omega arith) in
+    let r = getD (allResults f) n (f .frame .shipResult) in
+    let e : getElem? (allResults f) n ≡ some r = elem-of (f .frame .shipResult) (allResults f) n (omega arith) in
     let few : T (not (tooMany 512 c r)) = subst (λ (o : Option Result). T (not (given o false (tooMany 512 c)))) e (a .1 .0) in
     record { result = r; found = e; walk = walk-of 512 c r few; entries = lacks c f n r e few }

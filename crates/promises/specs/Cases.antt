@@ -108,7 +108,7 @@ abbrev pub has : ℕ → Float → Attribute
 has n v = record { id = attribute n; value = v }
 
 abbrev pub result : ℕ → List Attribute → Result
-result state attributes = record { state = state; zero = 0; attributes = attributes }
+result state attributes = record { state = state; reserved = 0; attributes = attributes }
 
 -- an item and its result
 abbrev pub Thing : Type 0
@@ -116,7 +116,7 @@ Thing = Item × Result
 
 -- so many of a type in a slot, in a state
 abbrev pub stack : (quantity : ℕ) → Id → (slot index state : ℕ) → List Attribute → Thing
-stack quantity type slot index state attributes = (record { type = type; quantity = quantity; slot = slot; zero = 0; index = index }, result state attributes)
+stack quantity type slot index state attributes = (record { type = type; quantity = quantity; slot = slot; reserved = 0; index = index }, result state attributes)
 
 -- one, online
 abbrev pub one : Id → (slot index : ℕ) → List Attribute → Thing
@@ -125,7 +125,7 @@ one type slot index attributes = stack 1 type slot index 1 attributes
 -- no mode, no skills; attributes of the hull and of the character
 abbrev pub fitWith : Id → List Attribute → List Attribute → List Thing → Fit
 fitWith hull attributes character things = record {
-  frame = record { ship = hull; modeFlag = 0; mode = pos 0; hull = result 0 attributes; character = result 0 character };
+  frame = record { ship = hull; modeFlag = 0; mode = pos 0; shipResult = result 0 attributes; characterResult = result 0 character };
   skills = [];
   levels = [];
   items = map (λ t. t .0) things;

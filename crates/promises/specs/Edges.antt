@@ -45,7 +45,7 @@ asks id level = result 0 (has 76 (ofNat id) ∷ has 77 (ofNat level) ∷ [])
 -- the ship, the character and one item ask for skill 1 at 3; skill 1 is trained to a level
 abbrev pilot : ℕ → Fit
 pilot level = record {
-  frame = record { ship = ship; modeFlag = 0; mode = pos 0; hull = asks 1 3; character = asks 1 3 };
+  frame = record { ship = ship; modeFlag = 0; mode = pos 0; shipResult = asks 1 3; characterResult = asks 1 3 };
   skills = pos 1 ∷ [];
   levels = level ∷ [];
   items = [];

@@ -33,7 +33,7 @@ alone a = a ∷ []
 -- a mode flag, a mode and skill ids on the ship
 abbrev kinds : ℕ → Id → List Id → Fit
 kinds flag mode ids = record {
-  frame = record { ship = ship; modeFlag = flag; mode = mode; hull = result 0 []; character = result 0 [] };
+  frame = record { ship = ship; modeFlag = flag; mode = mode; shipResult = result 0 []; characterResult = result 0 [] };
   skills = ids;
   levels = map (λ _. 5) ids;
   items = [];
@@ -43,7 +43,7 @@ kinds flag mode ids = record {
 -- two items in High slots that are no modules, and one result
 abbrev unpaired : Fit
 unpaired = record {
-  frame = record { ship = ship; modeFlag = 0; mode = pos 0; hull = result 0 []; character = result 0 [] };
+  frame = record { ship = ship; modeFlag = 0; mode = pos 0; shipResult = result 0 []; characterResult = result 0 [] };
   skills = [];
   levels = [];
   items = one drone 0 0 [] .0 ∷ one drone 0 1 [] .0 ∷ [];
@@ -263,7 +263,7 @@ manifest =
 
 abbrev broken : Fit
 broken = record {
-  frame = record { ship = ship; modeFlag = 1; mode = gun; hull = result 0 (has 0 (ofNat 5) ∷ has 33 (ofNat 1) ∷ []); character = result 0 (has 20 (ofNat 1) ∷ []) };
+  frame = record { ship = ship; modeFlag = 1; mode = gun; shipResult = result 0 (has 0 (ofNat 5) ∷ has 33 (ofNat 1) ∷ []); characterResult = result 0 (has 20 (ofNat 1) ∷ []) };
   skills = gun ∷ [];
   levels = 5 ∷ [];
   items = map (λ t. t .0) manifest;

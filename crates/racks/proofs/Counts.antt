@@ -1,4 +1,4 @@
--- Counts of pairs, one pair a turn, and the test of a hardpoint. Assumes nothing.
+-- Counts of pairs, one pair a turn, and the test of a hardpoint.
 use Prim.Native.Nat.{ℕ, _+_, _<_, _≤_}
 use native.Mathlib.Omega.{arith}
 use mathlib.Core.Path.{_≡_, refl, sym, ap, _∙_}

@@ -1,9 +1,9 @@
--- Racks and hardpoints: what is reported of each, and the tables row by row. Assumes nothing.
+-- Racks and hardpoints: what is reported of each, and the tables row by row.
 use Prim.Native.Nat.{ℕ, zero, suc, _<_}
 use native.Mathlib.Omega.{arith}
-use mathlib.Core.Path.{_≡_, refl, sym, ap, _∙_}
+use mathlib.Core.Path.{_≡_, refl}
 use mathlib.Core.List.{List, []}
-use mathlib.Core.Option.{Option, none, some}
+use mathlib.Core.Option.{none, some}
 use lib.Dec.{ltb}
 use Rattle.words.specs.Words.{_>>=_, each, when, whenAbove, countOf, tableFrom, table}
 use Rattle.floats.specs.Floats.{toU}
@@ -11,12 +11,11 @@ use Rattle.catalogue.specs.Catalogue.{Id, catalogueOf}
 use Rattle.catalogue.specs.Lookups.{nameId}
 use Rattle.fit.specs.Fit.{fitOf, resultOf}
 use Rattle.fit.specs.Lookups.{amount}
-use Rattle.entry.specs.declared.Entry.{Entry}
 use Rattle.entry.specs.declared.Rule.the-variants.{Slots}
 use Rattle.entry.specs.Entries.{onShip}
 use Rattle.context.specs.Context.{Pair, Context, context, isIn}
 use Rattle.context.specs.Gathered.{contextOf}
-use Rattle.slot.specs.Slot.{RACKS, HARDPOINTS, slots, racks, hardpoints, takesHardpoint}
+use Rattle.slot.specs.Slot.{slots, racks, hardpoints, takesHardpoint}
 use Rattle.slot.specs.Tables.{rackNumbers, hardpointNumbers, rowAt, inRack, onHardpoint}
 
 module _ (catalogue fit : List ℕ) (slot name used : ℕ) where

@@ -57,7 +57,7 @@ fn in_rack(fit: &[u8], slot: u8) -> u32
     let mut used: u32 = 0;
     let mut i = 0;
     while i < count {
-        used += image::one_if(context::is_in(fit, i, slot));
+        used += words::one_if(context::is_in(fit, i, slot));
         i += 1;
     }
     used
@@ -68,7 +68,7 @@ fn takes_hardpoint(fit: &[u8], hardpoints: &[u8; 256], i: usize, slot: u8) -> bo
     requires { ⌜ Fit.Sound (now fit) × (i < pairCount (now fit)) × (slot < 8) ⌝ }
     ensures { λ r. ⌜ ((catalogue : List ℕ) → Hardpoints catalogue (now (fit .entry)) (now (hardpoints .entry)) → r ≡ Slot.takesHardpoint slot (pairAt catalogue (now (fit .entry)) i)) ⌝ }
 {
-    image::both(
+    words::both(
         context::is_fitted(fit::item_slot(fit, i)),
         context::slot_at(hardpoints, i) == slot,
     )
@@ -83,7 +83,7 @@ fn on_hardpoint(fit: &[u8], hardpoints: &[u8; 256], slot: u8) -> u32
     let mut used: u32 = 0;
     let mut i = 0;
     while i < count {
-        used += image::one_if(takes_hardpoint(fit, hardpoints, i, slot));
+        used += words::one_if(takes_hardpoint(fit, hardpoints, i, slot));
         i += 1;
     }
     used

@@ -1,8 +1,8 @@
--- The rules of resource.rs by whether their names have ids. Assumes nothing.
+-- The rules of resource.rs by whether their names have ids.
 use Prim.Native.Nat.{ℕ}
-use mathlib.Core.Path.{_≡_, refl, sym, ap, ap₂, _∙_}
-use mathlib.Core.List.{List, []}
-use mathlib.Core.Option.{Option, none, some}
+use mathlib.Core.Path.{_≡_, sym, ap, ap₂, _∙_}
+use mathlib.Core.List.{List}
+use mathlib.Core.Option.{none, some}
 use lib.Ieee.{Float}
 use Rattle.words.specs.Words.{_>>=_}
 use Rattle.floats.specs.Floats.{ofNat}
@@ -10,7 +10,6 @@ use Rattle.catalogue.specs.Catalogue.{Id, catalogueOf}
 use Rattle.catalogue.specs.Lookups.{nameId}
 use Rattle.fit.specs.Fit.{fitOf, resultOf}
 use Rattle.fit.specs.Lookups.{amount}
-use Rattle.entry.specs.declared.Entry.{Entry}
 use Rattle.entry.specs.Wrote.{Wrote}
 use Rattle.entry.proofs.Wrote.{wrote-same, wrote-bind, wrote-bind-none}
 use Rattle.context.specs.Context.{context}

@@ -1,7 +1,7 @@
--- The table of loads, row by row, and how many entries each rule lists. Assumes nothing.
+-- The table of loads, row by row, and how many entries each rule lists.
 use Prim.Native.Nat.{ℕ, _+_, _*_, _<_, _≤_}
-use mathlib.Core.Path.{_≡_, refl, sym, ap, _∙_, subst}
-use mathlib.Core.Bool.{Bool, true, false, not, _&&_}
+use mathlib.Core.Path.{_≡_, refl, ap, _∙_}
+use mathlib.Core.Bool.{Bool, false, not}
 use mathlib.Core.List.{List, [], _∷_}
 use lib.Dec.{eqb}
 use lib.ListN.{length, getD}
@@ -10,7 +10,6 @@ use Rattle.words.specs.Words.{table, tableFrom, anyOf}
 use Rattle.words.proofs.Tables.{any-false}
 use Rattle.words.proofs.Lengths.{few-when, few-bind}
 use Rattle.floats.specs.Floats.{over}
-use Rattle.entry.specs.declared.Entry.{Entry}
 use Rattle.context.specs.Context.{Pair, Context}
 use Rattle.resource.specs.Resource.{LOADS, resource, launchedDrones, cargo}
 use Rattle.resource.specs.Rows.{loadOf}

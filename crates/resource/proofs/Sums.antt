@@ -1,18 +1,16 @@
--- The drones in space and the cargo, summed by the pairs' numbers. Assumes nothing.
-use Prim.Native.Nat.{ℕ, zero, suc, _+_, _*_, _<_, _≤_}
+-- The drones in space and the cargo, summed by the pairs' numbers.
+use Prim.Native.Nat.{ℕ, zero, suc, _+_, _<_}
 use native.Mathlib.Nat.{zero-add}
-use native.Mathlib.Numerals.{add-one}
 use native.Mathlib.Omega.{arith}
 use mathlib.Core.Path.{_≡_, refl, sym, ap, _∙_}
-use mathlib.Core.Bool.{Bool, true, false, _&&_, cond}
-use mathlib.Core.List.{List, [], _∷_, _++_, foldl, foldl-append}
-use lib.Dec.{eqb, leb}
-use lib.ListN.{getD}
-use lib.Ieee.{Float, nan, binary64, add, mul}
-use Rattle.words.specs.Words.{tableFrom, table, from, only, sumOf}
+use mathlib.Core.Bool.{Bool, true, false, cond}
+use mathlib.Core.List.{List, _∷_, foldl}
+use lib.Dec.{eqb}
+use lib.Ieee.{Float, binary64, add, mul}
+use Rattle.words.specs.Words.{tableFrom, from, only, sumOf}
 use Rattle.words.proofs.Tables.{sum-more, foldl-more}
 use Rattle.floats.specs.Floats.{zeroF, ofNat}
-use Rattle.fit.specs.Fit.{itemAt, resultOf}
+use Rattle.fit.specs.Fit.{itemAt}
 use Rattle.context.specs.Context.{Pair, isIn}
 use Rattle.context.specs.Gathered.{pairCount, pairAt, pairsOf, Volumes}
 use Rattle.context.proofs.Pairs.{pairs-table}

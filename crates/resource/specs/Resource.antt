@@ -2,7 +2,6 @@
 use Prim.Native.Nat.{ℕ}
 use mathlib.Core.Bool.{Bool, _&&_}
 use mathlib.Core.List.{List, [], _∷_, foldl}
-use mathlib.Core.Option.{Option}
 use lib.Dec.{leb}
 use lib.Ieee.{Float, binary64, add, mul}
 use Rattle.words.specs.Words.{_>>=_, each, when, only, sumOf}
@@ -42,14 +41,14 @@ module _ (x : Context) where
   loads = each LOADS λ l. do
     load ← nameId (x .names) (l .1)
     output ← nameId (x .names) (l .2)
-    resource (l .0) (amount (x .hull) load) (amount (x .hull) output)
+    resource (l .0) (amount (x .shipResult) load) (amount (x .shipResult) output)
 
   unfoldable pub launchedDrones : List Pair → List Entry
   launchedDrones ps = do
     maxActive ← nameId (x .names) 20
-    resource 5 (ofNat (launched ps)) (amount (x .character) maxActive)
+    resource 5 (ofNat (launched ps)) (amount (x .characterResult) maxActive)
 
   unfoldable pub cargo : List Pair → List Entry
   cargo ps = do
     capacity ← nameId (x .names) 21
-    resource 11 (cargoUsed ps) (amount (x .hull) capacity)
+    resource 11 (cargoUsed ps) (amount (x .shipResult) capacity)

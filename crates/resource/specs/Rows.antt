@@ -1,7 +1,7 @@
 -- validate/resource.rs, by rows and pairs: what its loops do in one turn.
-use Prim.Native.Nat.{ℕ, _+_, _*_}
-use mathlib.Core.Bool.{Bool, _&&_, cond}
-use mathlib.Core.List.{List, [], _∷_, _++_, foldl}
+use Prim.Native.Nat.{ℕ, _+_}
+use mathlib.Core.Bool.{_&&_, cond}
+use mathlib.Core.List.{List, _++_, foldl}
 use lib.Dec.{eqb, leb}
 use lib.ListN.{getD}
 use lib.Ieee.{Float, nan, binary64, add, mul}
@@ -21,7 +21,7 @@ abbrev pub loadOf : Context → ℕ × ℕ × ℕ → List Entry
 loadOf x l = do
   load ← nameId (x .names) (l .1)
   output ← nameId (x .names) (l .2)
-  resource (l .0) (amount (x .hull) load) (amount (x .hull) output)
+  resource (l .0) (amount (x .shipResult) load) (amount (x .shipResult) output)
 
 -- what pair i adds to the launched drones, and all that the pairs add
 abbrev pub launchedAt : List ℕ → ℕ → ℕ

@@ -1,4 +1,4 @@
--- Laws of `Notes`: nothing noted, no room, one demand, one list after another; and the steps of the walk. Assumes nothing.
+-- Laws of `Notes`: nothing noted, no room, one demand, one list after another; and the steps of the walk.
 use Prim.Native.Nat.{ℕ, _+_, _≤_, _<_}
 use native.Mathlib.Decide.{decLe}
 use native.Mathlib.Omega.{arith}

@@ -1,4 +1,4 @@
--- What noting a skill does to the list that two arrays hold, by the skill's place. Assumes nothing.
+-- What noting a skill does to the list that two arrays hold, by the skill's place.
 use mathlib.Core.Path.{_≡_, refl, ap, ap₂, sym, _∙_}
 use mathlib.Core.Logic.{_⊎_, inl, inr, ⊎-elim}
 use mathlib.Core.Bool.{Bool, true, false, cond}
@@ -8,9 +8,9 @@ use native.Mathlib.Omega.{arith}
 use native.Mathlib.Nat.{le-of-suc-le-suc, not-suc-le-zero, max-eq-left, max-eq-right, ne-of-lt}
 use lib.ListN.{length, getD, set, length-append, length-set}
 use lib.Seq.{ext-getD, getD-set-same, getD-set-other}
-use lib.IntN.{ℤ, pos, negsuc}
+use lib.IntN.{ℤ, pos}
 use lib.Dec.{eqb}
-use borrow.Author.Tests.{eq-eqb, ne-eqb, eqb-true, eqb-false}
+use borrow.Author.Tests.{eqb-true, eqb-false}
 use Rattle.words.specs.Words.{same, table}
 use Rattle.words.proofs.Sames.{same-refl, same-not}
 use Rattle.words.proofs.Tables.{length-table, getD-table, table-more, table-same}

@@ -1,4 +1,4 @@
--- The entries of `report`: how many, and that those of a walk that has ended are the skill list. Assumes nothing.
+-- The entries of `report`: how many, and that those of a walk that has ended are the skill list.
 use Prim.Native.Nat.{ℕ, zero, suc, _+_, _≤_, _<_}
 use native.Mathlib.Omega.{arith}
 use mathlib.Core.Path.{_≡_, refl, sym, ap, _∙_}

@@ -1,4 +1,4 @@
--- The pairs of `REQUIRED` that count: the table of names, pairs kept in two arrays, and what they ask for. Assumes nothing.
+-- The pairs of `REQUIRED` that count: the table of names, pairs kept in two arrays, and what they ask for.
 use Prim.Native.Nat.{ℕ, _+_, _*_, _<_}
 use native.Mathlib.Nat.{ne-of-lt}
 use native.Mathlib.Numerals.{add-one}

@@ -1,4 +1,4 @@
--- The walk's list grows, and stays once every skill of it has been walked. By induction on the demands noted and on the steps. Assumes nothing.
+-- The walk's list grows, and stays once every skill of it has been walked. By induction on the demands noted and on the steps.
 use Prim.Native.Nat.{ℕ, zero, suc, _+_, _-_, _≤_, max}
 use native.Mathlib.Nat.{le-refl, le-trans, add-zero, add-suc, not-suc-le-zero, le-of-suc-le-suc}
 use native.Mathlib.Numerals.{add-one}

@@ -1,6 +1,6 @@
 -- Document 01, "Skill walk": what a wanted skill is, without a walk, and what the walk's list is.
 use Prim.Native.Nat.{ℕ, _≤_}
-use mathlib.Core.Bool.{Bool, not}
+use mathlib.Core.Bool.{not}
 use mathlib.Core.List.{List, [], _∷_, map, List·Memᴰ}
 use mathlib.Core.Logic.{_⊎_}
 use lib.Dec.{T}

@@ -8,7 +8,6 @@ use floats::Value;
 ghost use mathlib.Core.Path.{_≡_};
 ghost use mathlib.Core.List.{[], _∷_};
 ghost use Prim.Native.Nat.{_+_, _<_, _≤_};
-ghost use mathlib.Core.Bool.{_||_};
 ghost use lib.ListN.{length, getD};
 ghost use lib.IntN.{pos};
 ghost use Rattle.words.specs.Words.{each, table, anyOf, same};
@@ -67,7 +66,7 @@ fn is_among(ids: &[i32; 512], len: usize, id: i32) -> bool
     let mut i: usize = 0;
     while i < len {
         let x = ids[i];
-        found = image::either(found, context::same_id(x, id));
+        found = words::either(found, words::same_id(x, id));
         i += 1;
     }
     found

@@ -1,14 +1,13 @@
--- What the code of each check tells of an item is what the check's definition says of the pair. Assumes nothing.
+-- What the code of each check tells of an item is what the check's definition says of the pair.
 use Prim.Native.Nat.{ℕ, _+_, _≤_}
 use native.Mathlib.Omega.{arith}
 use mathlib.Core.Path.{_≡_, refl, sym, ap, _∙_}
 use mathlib.Core.Bool.{Bool, true, false, not, _&&_, _||_, cond}
 use mathlib.Core.List.{List, []}
-use mathlib.Core.Option.{Option, none, some}
+use mathlib.Core.Option.{none, some}
 use lib.Dec.{eqb, leb, ltb}
 use lib.IntN.{pos}
 use Rattle.words.specs.Words.{_>>=_, table, when, whenAny, anyOf, same}
-use Rattle.fit.specs.Refusals.{fighterTube, fighterBay, implant, booster, droneBay, cargoHold}
 use Rattle.entry.specs.declared.Entry.{Entry}
 use Rattle.entry.specs.declared.Rule.the-variants.{WrongSlot, NotAModule, NotADrone, NotAFighter, NotAnImplant, SlotTaken}
 use Rattle.entry.specs.Entries.{onItem}
@@ -32,27 +31,27 @@ slot-shown code t e = go (ltb code 8)
 
 -- ---- checks that look at one pair
 module _ (x : Context) {p : Pair} {item : Item} (h : Holds p item) where
-  pub wrong-slot-is : when (ltb (item .rack) 8 && (leb (item .slot) 5 && not (eqb (item .slot) (item .rack)))) (onItem (item .at) (WrongSlot (item .rack))) ≡ wrongSlot x p
+  pub wrong-slot-is : when (ltb (item .rack) 8 && (leb (item .slot) 5 && not (eqb (item .slot) (item .rack)))) (onItem (item .position) (WrongSlot (item .rack))) ≡ wrongSlot x p
   unfolding wrongSlot isFitted isIn
   wrong-slot-is =
-      slot-shown (item .rack) (λ s. leb (item .slot) 5 && not (eqb (item .slot) s)) (λ s. onItem (item .at) (WrongSlot s))
-      ∙ rw (h .rack, h .slot, h .at)
+      slot-shown (item .rack) (λ s. leb (item .slot) 5 && not (eqb (item .slot) s)) (λ s. onItem (item .position) (WrongSlot s))
+      ∙ rw (h .rack, h .slot, h .position)
 
-  pub not-a-module-is : when (leb (item .slot) 5 && not (isModuleCategory (item .category))) (onItem (item .at) NotAModule) ≡ notAModule x p
+  pub not-a-module-is : when (leb (item .slot) 5 && not (isModuleCategory (item .category))) (onItem (item .position) NotAModule) ≡ notAModule x p
   unfolding notAModule isFitted
-  not-a-module-is = rw (h .slot, h .category, h .at)
+  not-a-module-is = rw (h .slot, h .category, h .position)
 
-  pub not-a-drone-is : when (eqb (item .slot) 10 && not (same (item .category) (pos 18))) (onItem (item .at) NotADrone) ≡ notADrone x p
+  pub not-a-drone-is : when (eqb (item .slot) 10 && not (same (item .category) (pos 18))) (onItem (item .position) NotADrone) ≡ notADrone x p
   unfolding notADrone isIn
-  not-a-drone-is = rw (h .slot, h .category, h .at)
+  not-a-drone-is = rw (h .slot, h .category, h .position)
 
-  pub not-a-fighter-is : when ((eqb (item .slot) 6 || eqb (item .slot) 7) && not (same (item .category) (pos 87))) (onItem (item .at) NotAFighter) ≡ notAFighter x p
+  pub not-a-fighter-is : when ((eqb (item .slot) 6 || eqb (item .slot) 7) && not (same (item .category) (pos 87))) (onItem (item .position) NotAFighter) ≡ notAFighter x p
   unfolding notAFighter isFighterSlot isIn
-  not-a-fighter-is = rw (h .slot, h .category, h .at)
+  not-a-fighter-is = rw (h .slot, h .category, h .position)
 
-  pub not-an-implant-is : when ((eqb (item .slot) 8 || eqb (item .slot) 9) && not (same (item .category) (pos 20))) (onItem (item .at) NotAnImplant) ≡ notAnImplant x p
+  pub not-an-implant-is : when ((eqb (item .slot) 8 || eqb (item .slot) 9) && not (same (item .category) (pos 20))) (onItem (item .position) NotAnImplant) ≡ notAnImplant x p
   unfolding notAnImplant isIn
-  not-an-implant-is = rw (h .slot, h .category, h .at)
+  not-an-implant-is = rw (h .slot, h .category, h .position)
 
 -- ---- code that writes an entry or none
 module _ {b : List ℕ} {n : ℕ} {item : Item} (check : Context → Pair → List Entry) where
@@ -73,9 +72,9 @@ holds-one-is p e = rw e
 
 -- ---- a slot that another pair has
 module _ (x : Context) (ps : List Pair) where
-  pub slot-taken-is : {p : Pair} {item : Item} {found : Bool} → Holds p item → holdsOne p ≡ true → found ≡ anyOf (sharesSlot p) ps → when found (onItem (item .at) SlotTaken) ≡ slotTaken x ps p
+  pub slot-taken-is : {p : Pair} {item : Item} {found : Bool} → Holds p item → holdsOne p ≡ true → found ≡ anyOf (sharesSlot p) ps → when found (onItem (item .position) SlotTaken) ≡ slotTaken x ps p
   unfolding slotTaken whenAny sharesSlot
-  slot-taken-is h e q = rw (h .at, e, q)
+  slot-taken-is h e q = rw (h .position, e, q)
 
   pub slot-free : (p : Pair) → holdsOne p ≡ false → [] ≡ slotTaken x ps p
   unfolding slotTaken whenAny when

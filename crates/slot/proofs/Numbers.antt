@@ -1,7 +1,7 @@
--- The checks that read an attribute: of a slot's own number, and of a subsystem's part. Assumes nothing.
+-- The checks that read an attribute: of a slot's own number, and of a subsystem's part.
 use Prim.Native.Nat.{ℕ}
-use mathlib.Core.Path.{_≡_, refl, sym, ap, _∙_}
-use mathlib.Core.Bool.{Bool, true, false, not, _&&_, cond}
+use mathlib.Core.Path.{_≡_, refl, sym, _∙_}
+use mathlib.Core.Bool.{Bool, true, false, not}
 use mathlib.Core.List.{List, []}
 use mathlib.Core.Option.{Option, none, some}
 use lib.Dec.{eqb}
@@ -12,8 +12,7 @@ use Rattle.floats.specs.Floats.{toU}
 use Rattle.catalogue.specs.Catalogue.{Id, catalogueOf}
 use Rattle.catalogue.specs.Lookups.{nameId}
 use Rattle.fit.specs.Lookups.{value}
-use Rattle.fit.specs.Refusals.{subsystem, implant, booster}
-use Rattle.entry.specs.declared.Entry.{Entry}
+use Rattle.fit.specs.Refusals.{subsystem}
 use Rattle.entry.specs.declared.Rule.the-variants.{WrongSlotIndex, SubsystemTaken}
 use Rattle.entry.specs.Entries.{onItem}
 use Rattle.context.specs.Context.{Pair, Context, context, isIn, isOther}
@@ -43,7 +42,7 @@ module _ (p : Pair) {s : ℕ} (e : s ≡ p .slot) where
   number-none h k = rw (← e, ne-eqb s 8 h, ne-eqb s 9 k)
 
 module _ (item : Item) where
-  pub index-given : {o : Option Float} {r : ℕ} (v : Float) → o ≡ some v → r ≡ toU 16 v → when (not (eqb r (item .index))) (onItem (item .at) (WrongSlotIndex r)) ≡ indexNamed item o
+  pub index-given : {o : Option Float} {r : ℕ} (v : Float) → o ≡ some v → r ≡ toU 16 v → when (not (eqb r (item .index))) (onItem (item .position) (WrongSlotIndex r)) ≡ indexNamed item o
   unfolding indexNamed _>>=_
   index-given v p q = rw (p, q)
 
@@ -58,13 +57,13 @@ bind-given none f g = refl
 bind-given (some a) f g = refl
 
 module _ (x : Context) where
-  by-id : (p : Pair) → wrongSlotIndex x p ≡ _>>=_ (given (slotNumberName p) none (nameId (x .names))) (λ id. _>>=_ (value (p .result) id) (λ v. when (not (eqb (toU 16 v) (p .index))) (onItem (p .at) (WrongSlotIndex (toU 16 v)))))
+  by-id : (p : Pair) → wrongSlotIndex x p ≡ _>>=_ (given (slotNumberName p) none (nameId (x .names))) (λ id. _>>=_ (value (p .result) id) (λ v. when (not (eqb (toU 16 v) (p .index))) (onItem (p .position) (WrongSlotIndex (toU 16 v)))))
   unfolding wrongSlotIndex
   by-id p = bind-given (slotNumberName p) (nameId (x .names)) _
 
   pub wrong-index-is : {p : Pair} {item : Item} {o : Option Float} → Holds p item → (id : Id) → given (slotNumberName p) none (nameId (x .names)) ≡ some id → o ≡ value (p .result) id → indexNamed item o ≡ wrongSlotIndex x p
   unfolding indexNamed _>>=_
-  wrong-index-is {p} {item} h id e q = rw (q, h .at, h .index) (sym (by-id p ∙ rw e))
+  wrong-index-is {p} {item} h id e q = rw (q, h .position, h .index) (sym (by-id p ∙ rw e))
 
   pub wrong-index-none : (p : Pair) → given (slotNumberName p) none (nameId (x .names)) ≡ none → [] ≡ wrongSlotIndex x p
   unfolding _>>=_
@@ -72,18 +71,18 @@ module _ (x : Context) where
 
 -- ---- the part of a subsystem
 module _ (id : Id) (part : Float) (o : Pair) {p : Pair} {item : Item} (h : Holds p item) where
-  pub part-own : o .at ≡ item .at → false ≡ sharesPart id part p o
+  pub part-own : o .position ≡ item .position → false ≡ sharesPart id part p o
   unfolding sharesPart isOther
-  part-own e = rw (eq-eqb (o .at) (p .at) (e ∙ h .at))
+  part-own e = rw (eq-eqb (o .position) (p .position) (e ∙ h .position))
 
-  other : (o .at ≡ item .at → ⊥) → eqb (o .at) (p .at) ≡ false
-  other n = ne-eqb (o .at) (p .at) (λ e. n (e ∙ sym (h .at)))
+  other : (o .position ≡ item .position → ⊥) → eqb (o .position) (p .position) ≡ false
+  other n = ne-eqb (o .position) (p .position) (λ e. n (e ∙ sym (h .position)))
 
-  pub part-elsewhere : (o .at ≡ item .at → ⊥) → isIn subsystem o ≡ false → false ≡ sharesPart id part p o
+  pub part-elsewhere : (o .position ≡ item .position → ⊥) → isIn subsystem o ≡ false → false ≡ sharesPart id part p o
   unfolding sharesPart isOther
   part-elsewhere n e = rw (other n, e)
 
-  pub part-is : {t : Bool} → (o .at ≡ item .at → ⊥) → isIn subsystem o ≡ true → t ≡ given (value (o .result) id) false (λ v. eq v part) → t ≡ sharesPart id part p o
+  pub part-is : {t : Bool} → (o .position ≡ item .position → ⊥) → isIn subsystem o ≡ true → t ≡ given (value (o .result) id) false (λ v. eq v part) → t ≡ sharesPart id part p o
   unfolding sharesPart isOther
   part-is n e q = rw (other n, e) q
 
@@ -94,9 +93,9 @@ bind-nil none f h = refl
 bind-nil (some a) f h = h a
 
 module _ (ps : List Pair) where
-  pub part-shared : {p : Pair} {item : Item} {t : Bool} {o : Option Float} (id : Id) (part : Float) → Holds p item → o ≡ some part → t ≡ anyOf (sharesPart id part p) ps → when t (onItem (item .at) SubsystemTaken) ≡ partShared ps p id o
+  pub part-shared : {p : Pair} {item : Item} {t : Bool} {o : Option Float} (id : Id) (part : Float) → Holds p item → o ≡ some part → t ≡ anyOf (sharesPart id part p) ps → when t (onItem (item .position) SubsystemTaken) ≡ partShared ps p id o
   unfolding partShared whenAny _>>=_
-  part-shared id part h e q = rw (h .at, e, q)
+  part-shared id part h e q = rw (h .position, e, q)
 
   pub part-missing : (p : Pair) (id : Id) {o : Option Float} → o ≡ none → [] ≡ partShared ps p id o
   unfolding partShared _>>=_

@@ -26,7 +26,7 @@ use Rattle.slot.specs.declared.Ids.{Ids}
 
 -- an item holds what the checks read of a pair
 pub record Holds (p : Pair) (item : Item) : Type 0 where
-  pub at : item .at ≡ p .at
+  pub position : item .position ≡ p .position
   pub slot : item .slot ≡ p .slot
   pub index : item .index ≡ p .index
   pub category : item .category ≡ p .category
@@ -56,7 +56,7 @@ Places fit places = (i : ℕ) → i < pairCount fit → Sits (itemAt fit i .slot
 unfoldable pub indexNamed : Item → Option Float → List Entry
 indexNamed item value = do
   v ← value
-  when (not (eqb (toU 16 v) (item .index))) (onItem (item .at) (WrongSlotIndex (toU 16 v)))
+  when (not (eqb (toU 16 v) (item .index))) (onItem (item .position) (WrongSlotIndex (toU 16 v)))
 
 -- `shares_slot`: another pair, in the same slot
 unfoldable pub sharesSlot : Pair → Pair → Bool

@@ -32,7 +32,7 @@ module _ (x : Context) where
   unfoldable pub slots : ℕ → ℕ → ℕ → List Entry
   slots slot name used = do
     id ← nameId (x .names) name
-    let available = toU 32 (amount (x .hull) id) in
+    let available = toU 32 (amount (x .shipResult) id) in
         whenAbove true available used λ n. onShip (Slots slot n available)
 
   unfoldable pub racks : List Pair → List Entry

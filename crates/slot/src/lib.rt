@@ -49,7 +49,7 @@ const CATEGORY_FIGHTER: i32 = 87;
 
 // What the checks read of a pair. A rack of 8 or above is none.
 struct Item {
-    at: u32,
+    position: u32,
     slot: u8,
     index: u16,
     category: i32,
@@ -72,10 +72,10 @@ fn category_at(categories: &[i32; 256], i: usize) -> i32
 
 fn item_at(fit: &[u8], categories: &[i32; 256], racks: &[u8; 256], i: usize) -> Item
     requires { ⌜ Fit.Sound (now fit) × (i < pairCount (now fit)) ⌝ }
-    ensures { λ r. ⌜ (r .at ≡ i) × ((catalogue : List ℕ) → Categories catalogue (now (fit .entry)) (now (categories .entry)) → Racks catalogue (now (fit .entry)) (now (racks .entry)) → Holds (pairAt catalogue (now (fit .entry)) i) r) ⌝ }
+    ensures { λ r. ⌜ (r .position ≡ i) × ((catalogue : List ℕ) → Categories catalogue (now (fit .entry)) (now (categories .entry)) → Racks catalogue (now (fit .entry)) (now (racks .entry)) → Holds (pairAt catalogue (now (fit .entry)) i) r) ⌝ }
 {
     Item {
-        at: i as u32,
+        position: i as u32,
         slot: fit::item_slot(fit, i),
         index: fit::item_index(fit, i),
         category: category_at(categories, i),
@@ -86,14 +86,14 @@ fn item_at(fit: &[u8], categories: &[i32; 256], racks: &[u8; 256], i: usize) -> 
 // An entry about an item, where a test holds.
 fn push_when(item: Item, test: bool, rule: Rule, out: &mut [u8], n: usize) -> usize
     requires { ⌜ n < 4294967296 ⌝ }
-    ensures { λ r. ⌜ (r ≤ n + 1) × Wrote (now (out .entry)) n (now (out .exit)) r (when test (onItem (item .at) rule)) ⌝ }
+    ensures { λ r. ⌜ (r ≤ n + 1) × Wrote (now (out .entry)) n (now (out .exit)) r (when test (onItem (item .position) rule)) ⌝ }
 {
     entry::emit_when(
         out,
         n,
         test,
         Entry {
-            target: Target::Item(item.at),
+            target: Target::Item(item.position),
             rule,
         },
     )
@@ -109,9 +109,9 @@ fn push_unless(
     n: usize,
 ) -> usize
     requires { ⌜ n < 4294967296 ⌝ }
-    ensures { λ r. ⌜ (r ≤ n + 1) × Wrote (now (out .entry)) n (now (out .exit)) r (when (there && not (same (item .category) category)) (onItem (item .at) rule)) ⌝ }
+    ensures { λ r. ⌜ (r ≤ n + 1) × Wrote (now (out .entry)) n (now (out .exit)) r (when (there && not (same (item .category) category)) (onItem (item .position) rule)) ⌝ }
 {
-    let test = image::both(there, !context::same_id(item.category, category));
+    let test = words::both(there, !words::same_id(item.category, category));
     push_when(item, test, rule, out, n)
 }
 
@@ -120,10 +120,10 @@ fn wrong_slot(item: Item, out: &mut [u8], n: usize) -> usize
     ensures { λ r. ⌜ Checked item Slot.wrongSlot (now (out .entry)) n (now (out .exit)) r ⌝ }
 {
     let rack = item.rack;
-    let misplaced = image::both(context::is_fitted(item.slot), item.slot != rack);
+    let misplaced = words::both(context::is_fitted(item.slot), item.slot != rack);
     push_when(
         item,
-        image::both(rack < 8, misplaced),
+        words::both(rack < 8, misplaced),
         Rule::WrongSlot(rack),
         out,
         n,
@@ -134,7 +134,7 @@ fn not_a_module(item: Item, out: &mut [u8], n: usize) -> usize
     requires { ⌜ n < 4294967296 ⌝ }
     ensures { λ r. ⌜ Checked item Slot.notAModule (now (out .entry)) n (now (out .exit)) r ⌝ }
 {
-    let test = image::both(
+    let test = words::both(
         context::is_fitted(item.slot),
         !context::is_module_category(item.category),
     );
@@ -153,7 +153,7 @@ fn not_a_fighter(item: Item, out: &mut [u8], n: usize) -> usize
     requires { ⌜ n < 4294967296 ⌝ }
     ensures { λ r. ⌜ Checked item Slot.notAFighter (now (out .entry)) n (now (out .exit)) r ⌝ }
 {
-    let there = image::either(item.slot == FIGHTER_TUBE, item.slot == FIGHTER_BAY);
+    let there = words::either(item.slot == FIGHTER_TUBE, item.slot == FIGHTER_BAY);
     push_unless(item, there, CATEGORY_FIGHTER, Rule::NotAFighter, out, n)
 }
 
@@ -161,7 +161,7 @@ fn not_an_implant(item: Item, out: &mut [u8], n: usize) -> usize
     requires { ⌜ n < 4294967296 ⌝ }
     ensures { λ r. ⌜ Checked item Slot.notAnImplant (now (out .entry)) n (now (out .exit)) r ⌝ }
 {
-    let there = image::either(item.slot == IMPLANT, item.slot == BOOSTER);
+    let there = words::either(item.slot == IMPLANT, item.slot == BOOSTER);
     push_unless(item, there, CATEGORY_IMPLANT, Rule::NotAnImplant, out, n)
 }
 
@@ -169,14 +169,14 @@ fn not_an_implant(item: Item, out: &mut [u8], n: usize) -> usize
 fn holds_one(slot: u8) -> bool
     ensures { λ r. ⌜ ((p : Pair) → slot ≡ p .slot → r ≡ Slot.holdsOne p) ⌝ }
 {
-    let bay = image::either(slot == DRONE_BAY, slot == FIGHTER_BAY);
-    !image::either(bay, slot == CARGO)
+    let bay = words::either(slot == DRONE_BAY, slot == FIGHTER_BAY);
+    !words::either(bay, slot == CARGO)
 }
 
 fn position(item: Item) -> usize
-    ensures { λ r. ⌜ r ≡ item .at ⌝ }
+    ensures { λ r. ⌜ r ≡ item .position ⌝ }
 {
-    item.at as usize
+    item.position as usize
 }
 
 // A slot and an index as one number, so that one comparison tells both.
@@ -204,7 +204,7 @@ fn places(fit: &[u8]) -> [u32; 256]
 // Whether another pair is in the item's slot. The pair itself is counted too, and the loop runs to its end, so that the
 // compiler can take many pairs at once.
 fn shares_slot(fit: &[u8], places: &[u32; 256], item: Item) -> bool
-    requires { ⌜ Fit.Sound (now fit) × Places (now fit) (now places) × (item .at < pairCount (now fit)) ⌝ }
+    requires { ⌜ Fit.Sound (now fit) × Places (now fit) (now places) × (item .position < pairCount (now fit)) ⌝ }
     ensures { λ r. ⌜ ((catalogue : List ℕ) (i : ℕ) → Holds (pairAt catalogue (now (fit .entry)) i) item → r ≡ anyOf (sharesSlot (pairAt catalogue (now (fit .entry)) i)) (pairsOf catalogue (now (fit .entry)))) ⌝ }
 {
     let pairs = fit::pair_count(fit);
@@ -212,14 +212,14 @@ fn shares_slot(fit: &[u8], places: &[u32; 256], item: Item) -> bool
     let mut there: u32 = 0;
     let mut j: usize = 0;
     while j < pairs {
-        there += image::one_if(places[j] == place);
+        there += words::one_if(places[j] == place);
         j += 1;
     }
     1 < there
 }
 
 fn slot_taken(fit: &[u8], places: &[u32; 256], item: Item, out: &mut [u8], n: usize) -> usize
-    requires { ⌜ Fit.Sound (now fit) × Places (now fit) (now places) × (item .at < pairCount (now fit)) × (n < 4294967296) ⌝ }
+    requires { ⌜ Fit.Sound (now fit) × Places (now fit) (now places) × (item .position < pairCount (now fit)) × (n < 4294967296) ⌝ }
     ensures { λ r. ⌜ (r ≤ n + 1) × ((catalogue : List ℕ) (x : Context) (i : ℕ) → Holds (pairAt catalogue (now (fit .entry)) i) item → Wrote (now (out .entry)) n (now (out .exit)) r (Slot.slotTaken x (pairsOf catalogue (now (fit .entry))) (pairAt catalogue (now (fit .entry)) i))) ⌝ }
 {
     if holds_one(item.slot) {
@@ -283,8 +283,8 @@ fn wrong_slot_index(
     out: &mut [u8],
     n: usize,
 ) -> usize
-    requires { ⌜ Fit.Sound (now fit) × Fit.Starts (now fit) (now starts) × (item .at < pairCount (now fit)) × (n < 4294967296) ⌝ }
-    ensures { λ r. ⌜ (r ≤ n + 1) × ((x : Context) (p : Pair) → Named (x .names) ids → Holds p item → p .result ≡ resultOf (now (fit .entry)) (item .at + 2) → Wrote (now (out .entry)) n (now (out .exit)) r (Slot.wrongSlotIndex x p)) ⌝ }
+    requires { ⌜ Fit.Sound (now fit) × Fit.Starts (now fit) (now starts) × (item .position < pairCount (now fit)) × (n < 4294967296) ⌝ }
+    ensures { λ r. ⌜ (r ≤ n + 1) × ((x : Context) (p : Pair) → Named (x .names) ids → Holds p item → p .result ≡ resultOf (now (fit .entry)) (item .position + 2) → Wrote (now (out .entry)) n (now (out .exit)) r (Slot.wrongSlotIndex x p)) ⌝ }
 {
     let number = slot_number(ids, item.slot);
     match number {
@@ -329,7 +329,7 @@ fn shares_part(fit: &[u8], starts: &[u32; 259], item: Item, id: i32, part: f64) 
     let mut found = false;
     let mut j = 0;
     while j < count {
-        found = image::either(found, same_part(fit, starts, item, id, part, j));
+        found = words::either(found, same_part(fit, starts, item, id, part, j));
         j += 1;
     }
     found
@@ -366,8 +366,8 @@ fn subsystem_taken(
     out: &mut [u8],
     n: usize,
 ) -> usize
-    requires { ⌜ Fit.Sound (now fit) × Fit.Starts (now fit) (now starts) × (item .at < pairCount (now fit)) × (n < 4294967296) ⌝ }
-    ensures { λ r. ⌜ (r ≤ n + 1) × ((catalogue : List ℕ) (x : Context) (p : Pair) → Named (x .names) ids → Holds p item → p .result ≡ resultOf (now (fit .entry)) (item .at + 2) → Wrote (now (out .entry)) n (now (out .exit)) r (Slot.subsystemTaken x (pairsOf catalogue (now (fit .entry))) p)) ⌝ }
+    requires { ⌜ Fit.Sound (now fit) × Fit.Starts (now fit) (now starts) × (item .position < pairCount (now fit)) × (n < 4294967296) ⌝ }
+    ensures { λ r. ⌜ (r ≤ n + 1) × ((catalogue : List ℕ) (x : Context) (p : Pair) → Named (x .names) ids → Holds p item → p .result ≡ resultOf (now (fit .entry)) (item .position + 2) → Wrote (now (out .entry)) n (now (out .exit)) r (Slot.subsystemTaken x (pairsOf catalogue (now (fit .entry))) p)) ⌝ }
 {
     if item.slot != SUBSYSTEM {
         return n;

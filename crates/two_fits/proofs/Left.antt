@@ -1,4 +1,4 @@
--- What a call leaves by its contract is the outcome that the promises speak of. Assumes nothing.
+-- What a call leaves by its contract is the outcome that the promises speak of.
 use Prim.Native.Nat.{ℕ, suc, _+_, _≤_, _<_}
 use native.Mathlib.Decide.{decLe}
 use native.Mathlib.Omega.{arith}

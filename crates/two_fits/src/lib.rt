@@ -1,8 +1,6 @@
 // Demand 3 of the two calls as they are exported: an old and a new call, each with its own buffer, and what their contracts say of both.
 // Document 01, "Two fits compared".
-ghost use mathlib.Core.Path.{_≡_};
-ghost use Prim.Native.Nat.{ℕ, _<_, _≤_};
-ghost use lib.ListN.{getD};
+ghost use Prim.Native.Nat.{_<_};
 ghost use Rattle.promises.specs.Compare.{Bytes};
 ghost use Rattle.two_fits.specs.Kept.{left, ListsKept, SkillsKept};
 

@@ -1,4 +1,4 @@
--- The rules of a hull, file by file, are the list of all of them. Assumes nothing.
+-- The rules of a hull, file by file, are the list of all of them.
 use mathlib.Core.Path.{_≡_, sym, ap, _∙_}
 use Prim.Native.Nat.{ℕ}
 use mathlib.Core.Bool.{true, false}

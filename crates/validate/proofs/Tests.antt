@@ -1,4 +1,4 @@
--- From what the catalogue answers of a type to what kind it is, and the rules on the mode and the skills. Assumes nothing.
+-- From what the catalogue answers of a type to what kind it is, and the rules on the mode and the skills.
 use Prim.Native.Nat.{ℕ, _≤_}
 use native.Mathlib.Omega.{arith}
 use mathlib.Core.Path.{_≡_, refl, sym, ap, _∙_}
@@ -6,7 +6,7 @@ use mathlib.Core.Bool.{Bool, true, false, not, _||_}
 use mathlib.Core.List.{List, [], _∷_}
 use mathlib.Core.Option.{Option, none, some}
 use lib.ListN.{length}
-use Rattle.words.specs.Words.{_>>=_, when, anyOf, given, same, contains}
+use Rattle.words.specs.Words.{when, anyOf, given, same, contains}
 use Rattle.words.proofs.Lengths.{few-when, few-bind}
 use Rattle.catalogue.specs.Catalogue.{Id, Catalogue, TypeData}
 use Rattle.catalogue.specs.Lookups.{typeOf}

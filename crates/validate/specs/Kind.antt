@@ -1,6 +1,5 @@
 -- calculate/mod.rs, `is_hull` to `is_skill`, and validate/mod.rs, `kind`.
-use Prim.Native.Nat.{ℕ}
-use mathlib.Core.Bool.{Bool, true, false, not, _||_}
+use mathlib.Core.Bool.{Bool, false, not, _||_}
 use mathlib.Core.List.{List, [], _∷_}
 use mathlib.Core.Option.{Option}
 use lib.IntN.{pos}

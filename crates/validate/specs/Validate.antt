@@ -1,5 +1,4 @@
 -- validate/mod.rs, `validate`: the list of a fit, rule by rule in its order. No charges, no `Rule::Skill` entries.
-use Prim.Native.Nat.{ℕ}
 use mathlib.Core.Bool.{cond}
 use mathlib.Core.List.{List, [], _∷_, _++_}
 use Rattle.words.specs.Words.{each}

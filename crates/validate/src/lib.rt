@@ -34,21 +34,21 @@ const GROUP_SHIP_MODIFIERS: i32 = 1306;
 fn is_container(group: i32) -> bool
     ensures { λ r. ⌜ r ≡ contains group (pos 12 ∷ pos 340 ∷ pos 448 ∷ pos 649 ∷ []) ⌝ }
 {
-    let a = context::same_id(group, GROUP_CONTAINERS[0]);
-    let b = context::same_id(group, GROUP_CONTAINERS[1]);
-    let c = context::same_id(group, GROUP_CONTAINERS[2]);
-    let d = context::same_id(group, GROUP_CONTAINERS[3]);
-    image::either(image::either(a, b), image::either(c, d))
+    let a = words::same_id(group, GROUP_CONTAINERS[0]);
+    let b = words::same_id(group, GROUP_CONTAINERS[1]);
+    let c = words::same_id(group, GROUP_CONTAINERS[2]);
+    let d = words::same_id(group, GROUP_CONTAINERS[3]);
+    words::either(words::either(a, b), words::either(c, d))
 }
 
 // A category of ships or structures, or a group of containers.
 fn is_hull_kind(category: i32, group: i32) -> bool
     ensures { λ r. ⌜ r ≡ (same category (pos 6) || same category (pos 65) || contains group (pos 12 ∷ pos 340 ∷ pos 448 ∷ pos 649 ∷ [])) ⌝ }
 {
-    if context::same_id(category, CATEGORY_SHIP) {
+    if words::same_id(category, CATEGORY_SHIP) {
         return true;
     }
-    if context::same_id(category, CATEGORY_STRUCTURE) {
+    if words::same_id(category, CATEGORY_STRUCTURE) {
         return true;
     }
     is_container(group)
@@ -77,7 +77,7 @@ pub fn is_mode(catalogue: &[u8], id: i32) -> bool
     let TypeAnswer::Known(info) = answer else {
         return false;
     };
-    context::same_id(info.group, GROUP_SHIP_MODIFIERS)
+    words::same_id(info.group, GROUP_SHIP_MODIFIERS)
 }
 
 // Whether the type is a skill. `hints` are those of `catalogue::type_of`.
@@ -89,7 +89,7 @@ pub fn is_skill(catalogue: &[u8], id: i32, hints: &mut [u32]) -> bool
     let TypeAnswer::Known(info) = answer else {
         return false;
     };
-    context::same_id(info.category, CATEGORY_SKILL)
+    words::same_id(info.category, CATEGORY_SKILL)
 }
 
 fn not_a_mode(catalogue: &[u8], fit: &[u8], out: &mut [u8], n: usize) -> usize

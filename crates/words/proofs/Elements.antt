@@ -1,10 +1,10 @@
--- From all of a table to each of its elements, and back: tests of any, sums, tables begun later. Assumes nothing.
+-- From all of a table to each of its elements, and back: tests of any, sums, tables begun later.
 use Prim.Native.Nat.{ℕ, zero, suc, _+_, _≤_, _<_}
 use native.Mathlib.Nat.{not-suc-le-zero, le-of-suc-le-suc, add-zero}
 use native.Mathlib.Omega.{arith}
 use mathlib.Core.Path.{_≡_, refl, sym, ap, _∙_, subst}
 use mathlib.Core.Bool.{Bool, true, false, _||_, cond}
-use mathlib.Core.List.{List, [], _∷_}
+use mathlib.Core.List.{List, _∷_}
 use mathlib.Core.Option.{none, some}
 use lib.ListN.{getElem?}
 use Rattle.words.specs.Words.{tableFrom, table, anyOf, sumOf}

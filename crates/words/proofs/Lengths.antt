@@ -1,9 +1,9 @@
--- How many elements a word lists at most. Assumes nothing.
-use Prim.Native.Nat.{ℕ, suc, _+_, _*_, _≤_}
+-- How many elements a word lists at most.
+use Prim.Native.Nat.{ℕ, _*_, _≤_}
 use native.Mathlib.Nat.{mul-suc}
 use native.Mathlib.Omega.{arith}
 use mathlib.Core.Bool.{Bool, true, false, _&&_}
-use mathlib.Core.List.{List, [], _∷_, _++_}
+use mathlib.Core.List.{List, [], _∷_}
 use mathlib.Core.Option.{Option, none, some}
 use lib.ListN.{length, length-append}
 use lib.Dec.{ltb}
@@ -36,6 +36,6 @@ module _ {A B : Type 0} where
     few-each [] = omega arith
     few-each (x ∷ l) = omega (arith, length-append (f x) (each l f), h x, few-each l, mul-suc c (length l))
 
-pub few-above : {B : Type 0} (b : Bool) (limit used : ℕ) (e : ℕ → B) → length (whenAbove b limit used e) ≤ 1
+pub few-above : {B : Type 0} (b : Bool) (used allowed : ℕ) (e : ℕ → B) → length (whenAbove b used allowed e) ≤ 1
 unfolding whenAbove
-few-above b limit used e = few-when (b && ltb limit used) (e used)
+few-above b used allowed e = few-when (b && ltb allowed used) (e used)

@@ -5,3 +5,4 @@ pub mod Elements
 pub mod Walks
 pub mod Lengths
 pub mod Sames
+pub mod Ids

@@ -1,4 +1,4 @@
--- When two ids are the same. Assumes nothing.
+-- When two ids are the same.
 use mathlib.Core.Path.{_≡_, refl, sym, ap}
 use mathlib.Core.Bool.{true, false, true≢false}
 use lib.IntN.{ℤ, pos, negsuc}

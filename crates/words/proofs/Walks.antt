@@ -1,4 +1,4 @@
--- Walks over a table whose elements that pass stand together: those before, those in the run, those after. Assumes nothing.
+-- Walks over a table whose elements that pass stand together: those before, those in the run, those after.
 use Prim.Native.Nat.{ℕ, zero, suc, _+_, _-_, _≤_, _<_}
 use native.Mathlib.Nat.{add-zero, zero-add, eq-or-lt-of-le, le-of-suc-le-suc}
 use native.Mathlib.Numerals.{add-one}

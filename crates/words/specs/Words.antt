@@ -65,9 +65,9 @@ module _ {A B : Type 0} where
   given none b f = b
   given (some a) b f = f a
 
--- an entry that shows a number, where b holds and the number is above a limit
-unfoldable pub whenAbove : {B : Type 0} → Bool → ℕ → ℕ → (ℕ → B) → List B
-whenAbove b limit used e = when (b && ltb limit used) (e used)
+-- an entry that shows what is used, where b holds and more is used than allowed
+unfoldable pub whenAbove : {B : Type 0} → Bool → (used allowed : ℕ) → (ℕ → B) → List B
+whenAbove b used allowed e = when (b && ltb allowed used) (e used)
 
 -- f at i, i + 1, .., i + n - 1
 unfoldable pub tableFrom : {A : Type 0} → ℕ → ℕ → (ℕ → A) → List A

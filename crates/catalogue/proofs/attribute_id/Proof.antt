@@ -33,31 +33,16 @@ answer c o e =
 returns : tie.Need-returns
 returns c = let s = c .before .before in sym (name-none (s .args .catalogue .now) (s .pre) (s .args .name) (c .if1 .taken))
 
-names-requires : tie.Need-names-requires
-names-requires c κs = search needs
-
-cast-find-key : tie.Need-cast-find-key
-cast-find-key c = search needs
-
-slice-aggregate-find-key : tie.Need-slice-aggregate-find-key
-slice-aggregate-find-key c = search needs
-
 find-key-requires : tie.Need-find-key-requires
 find-key-requires c κs =
     let a = c .before .before .before .before in
     let e = c .before .names .ensures in
     (search needs, rw (e .0, e .1) (names-sorted (a .args .catalogue .now) (a .pre)))
 
-enum-known-found : tie.Need-enum-known-found
-enum-known-found c = search needs
-
 id-at-requires : tie.Need-id-at-requires
 id-at-requires c κs =
     let f = c .before .before .before .before in
     (f .before .before .before .before .before .pre .size, find-below _ _ _ (sym (found f) ∙ ap foundOf (c .before .found .given .1)))
-
-enum-told : tie.Need-enum-told
-enum-told c = search needs
 
 returns-2 : tie.Need-returns-2
 unfolding given
@@ -74,12 +59,12 @@ attribute-id-spec =
     tie.close
     (tie.spec
     returns
-    names-requires
-    cast-find-key
-    slice-aggregate-find-key
+    (λ c κs. search needs)
+    (λ c. search needs)
+    (λ c. search needs)
     find-key-requires
-    enum-known-found
+    (λ c. search needs)
     id-at-requires
-    enum-told
+    (λ c. search needs)
     returns-2
     returns-3)

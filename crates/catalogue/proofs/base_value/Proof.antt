@@ -21,15 +21,6 @@ Inv-loop catalogue attribute at to i₀ i = (i₀ ≤ i) × (i ≤ to) × (spanV
 abbrev μ-loop : tie.MeasureT-loop
 μ-loop catalogue attribute at to i₀ i = to - i
 
-bases-requires : tie.Need-bases-requires Inv-loop μ-loop
-bases-requires c κs = search needs
-
-mul-at : tie.Need-mul-at Inv-loop μ-loop
-mul-at c = search needs
-
-add-at : tie.Need-add-at Inv-loop μ-loop
-add-at c = search needs
-
 loop-holds : tie.Need-loop-holds Inv-loop μ-loop
 loop-holds c = (omega arith, omega arith, refl)
 
@@ -99,9 +90,9 @@ base-value-spec =
     (tie.spec
     Inv-loop
     μ-loop
-    bases-requires
-    mul-at
-    add-at
+    (λ c κs. search needs)
+    (λ c. search needs)
+    (λ c. search needs)
     loop-holds
     mul-is-id
     add-is-id

@@ -8,20 +8,11 @@ use borrow.Author.Needs.{needs}
 use Rattle.catalogue.proofs.bases_of.Statement.{statement}
 use Rattle.catalogue.proofs.bases_of.Tie as tie
 
-bases-requires : tie.Need-bases-requires
-bases-requires c κs = search needs
-
-slice-aggregate-first-key : tie.Need-slice-aggregate-first-key
-slice-aggregate-first-key c = search needs
-
 first-key-requires : tie.Need-first-key-requires
 first-key-requires c κs =
     let a = c .before .before .before in
     let e = c .before .bases .ensures in
     (search needs, rw (e .0, e .1) (bases-sorted (a .args .catalogue .now) (a .pre)))
-
-run-end-requires : tie.Need-run-end-requires
-run-end-requires c κs = search needs
 
 returns : tie.Need-returns
 returns c =
@@ -33,4 +24,4 @@ returns c =
     (c .run-end .result) (rw (e .0, e .1, z) at (c .run-end .ensures))
 
 pub bases-of-spec : {M : Type 1} → statement M
-bases-of-spec = tie.close (tie.spec bases-requires slice-aggregate-first-key first-key-requires run-end-requires returns)
+bases-of-spec = tie.close (tie.spec (λ c κs. search needs) (λ c. search needs) first-key-requires (λ c κs. search needs) returns)

@@ -21,25 +21,16 @@ found c =
     let e = c .before .before .effects .ensures in
     c .find-key .ensures ∙ simp (e .0, e .1, toZ-ofZ w32 (a .args .id) (a .fits .id))
 
-effects-requires : tie.Need-effects-requires
-effects-requires c κs = search needs
-
 find-key-requires : tie.Need-find-key-requires
 find-key-requires c κs =
     let a = c .before .before .before .before in
     let e = c .before .effects .ensures in
     (search needs, rw (e .0, e .1) (effects-sorted (a .args .catalogue .now) (a .pre)))
 
-enum-known-found : tie.Need-enum-known-found
-enum-known-found c = search needs
-
 mark-at-requires : tie.Need-mark-at-requires
 mark-at-requires c κs =
     let f = c .before .before .before .before .before in
     (f .before .before .before .before .before .pre, find-below _ _ _ (sym (found f) ∙ ap foundOf (c .before .found .given .1)))
-
-enum-told : tie.Need-enum-told
-enum-told c = search needs
 
 -- what is made of the answer of the search
 answer : (c : tie.After-find-key) (o : Option ℕ) → foundOf (c .find-key .result) ≡ o → let a = c .before .before .before .before .before .args in given o none (λ j. some (effectAt (a .catalogue .now) j .mark)) ≡ effectMark (catalogueOf (a .catalogue .now)) (a .id)
@@ -47,17 +38,11 @@ answer c o e =
     let a = c .before .before .before .before .before .args in
     sym (effect-search (a .catalogue .now) (a .id) ∙ ap (λ (x : Option ℕ). given x none (λ j. some (effectAt (a .catalogue .now) j .mark))) (sym (found c) ∙ e))
 
-same-length : tie.Need-same-length
-same-length c = search needs
-
 returns : tie.Need-returns
 unfolding given
 returns c =
     let f = c .before .before .before .before .before .before in
     ap some (c .mark-at .ensures) ∙ answer f _ (ap foundOf (c .before .before .found .given .1))
-
-same-length-2 : tie.Need-same-length-2
-same-length-2 c = search needs
 
 returns-2 : tie.Need-returns-2
 unfolding given
@@ -67,12 +52,12 @@ pub effect-mark-spec : {M : Type 1} → statement M
 effect-mark-spec =
     tie.close
     (tie.spec
-    effects-requires
+    (λ c κs. search needs)
     find-key-requires
-    enum-known-found
+    (λ c. search needs)
     mark-at-requires
-    enum-told
-    same-length
+    (λ c. search needs)
+    (λ c. search needs)
     returns
-    same-length-2
+    (λ c. search needs)
     returns-2)

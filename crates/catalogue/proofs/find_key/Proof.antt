@@ -13,12 +13,6 @@ use Rattle.catalogue.proofs.Blocks.{find-part}
 use Rattle.catalogue.proofs.find_key.Statement.{statement}
 use Rattle.catalogue.proofs.find_key.Tie as tie
 
-first-key-requires : tie.Need-first-key-requires
-first-key-requires c κs = search needs
-
-keys-of-requires : tie.Need-keys-of-requires
-keys-of-requires c κs = search needs
-
 place-at-requires : tie.Need-place-at-requires
 place-at-requires c κs =
     let a = c .before .before .before .before .before .before .before in
@@ -28,9 +22,6 @@ place-at-requires c κs =
       subst (λ (l : List ℕ). Parts l (a .args .b .n) (toZ w32 (ofZ w32 (a .args .id))) (c .before .before .before .first-key .result)) e (c .before .before .before .first-key .ensures),
     )
 
-same-length : tie.Need-same-length
-same-length c = search needs
-
 returns : tie.Need-returns
 returns c =
     let a = c .before .before .before .before .before .before .before .before in
@@ -39,4 +30,4 @@ returns c =
     ∙ find-part (a .args .catalogue .now) (a .args .b .at) (a .args .b .n) (a .args .id)
 
 pub find-key-spec : {M : Type 1} → statement M
-find-key-spec = tie.close (tie.spec first-key-requires keys-of-requires place-at-requires same-length returns)
+find-key-spec = tie.close (tie.spec (λ c κs. search needs) (λ c κs. search needs) place-at-requires (λ c. search needs) returns)

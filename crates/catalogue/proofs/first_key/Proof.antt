@@ -10,12 +10,6 @@ use borrow.Author.Needs.{needs}
 use Rattle.catalogue.proofs.first_key.Statement.{statement}
 use Rattle.catalogue.proofs.first_key.Tie as tie
 
-keys-of-requires : tie.Need-keys-of-requires
-keys-of-requires c κs = search needs
-
-hint-of-requires : tie.Need-hint-of-requires
-hint-of-requires c κs = search needs
-
 -- the keys are in order in their part
 sorted : (c : tie.After-keys-of) → Sorted (c .keys-of .result .now) (c .before .before .before .args .b .n)
 sorted c = let a = c .before .before .before in subst (λ (l : List ℕ). Sorted l (a .args .b .n)) (sym (c .keys-of .ensures .0)) (a .pre .1)
@@ -26,23 +20,11 @@ first-from-requires c κs = (omega (arith, c .before .before .keys-of .ensures .
 returns : tie.Need-returns
 returns c = let a = c .before .before .before .before .before .before in rw (c .before .before .before .keys-of .ensures .0, toZ-ofZ w32 (a .args .id) (a .fits .id)) at (c .first-from .ensures)
 
-mul-first-near : tie.Need-mul-first-near
-mul-first-near c = search needs
-
-slice-read-first-near : tie.Need-slice-read-first-near
-slice-read-first-near c = search needs
-
 cast-first-near : tie.Need-cast-first-near
 cast-first-near c = search (needs, c .slice-known2 .given (c .before .before .hint-of .result))
 
 first-near-requires : tie.Need-first-near-requires
 first-near-requires c κs = (omega (arith, c .before .before .before .keys-of .ensures .1), sorted (c .before .before .before))
-
-keep-requires : tie.Need-keep-requires
-keep-requires c κs = search needs
-
-same-length : tie.Need-same-length
-same-length c = search needs
 
 returns-2 : tie.Need-returns-2
 returns-2 c =
@@ -54,14 +36,14 @@ pub first-key-spec : {M : Type 1} → statement M
 first-key-spec =
     tie.close
     (tie.spec
-    keys-of-requires
-    hint-of-requires
+    (λ c κs. search needs)
+    (λ c κs. search needs)
     first-from-requires
     returns
-    mul-first-near
-    slice-read-first-near
+    (λ c. search needs)
+    (λ c. search needs)
     cast-first-near
     first-near-requires
-    keep-requires
-    same-length
+    (λ c κs. search needs)
+    (λ c. search needs)
     returns-2)

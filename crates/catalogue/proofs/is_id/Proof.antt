@@ -9,9 +9,6 @@ use borrow.Author.Needs.{needs}
 use Rattle.catalogue.proofs.is_id.Statement.{statement}
 use Rattle.catalogue.proofs.is_id.Tie as tie
 
-i32-at-requires : tie.Need-i32-at-requires
-i32-at-requires c κs = search needs
-
 returns : tie.Need-returns
 returns c =
     let s = c .before .before in
@@ -20,4 +17,4 @@ returns c =
     ∙ ap (λ (z : ℤ). same z (s .args .id)) (c .i32-at .ensures)
 
 pub is-id-spec : {M : Type 1} → statement M
-is-id-spec = tie.close (tie.spec i32-at-requires returns)
+is-id-spec = tie.close (tie.spec (λ c κs. search needs) returns)

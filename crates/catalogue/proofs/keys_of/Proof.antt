@@ -8,12 +8,6 @@ use Rattle.image.proofs.Parts.{part-length}
 use Rattle.catalogue.proofs.keys_of.Statement.{statement}
 use Rattle.catalogue.proofs.keys_of.Tie as tie
 
-mul-part : tie.Need-mul-part
-mul-part c = search needs
-
-part-requires : tie.Need-part-requires
-part-requires c κs = search needs
-
 returns : tie.Need-returns
 returns c =
     let a = c .before .before .before .args in
@@ -21,4 +15,4 @@ returns c =
     (e, ap (λ (l : List ℕ). length l) e ∙ part-length (a .catalogue .now) (a .b .at) (4 * a .b .n) (search needs))
 
 pub keys-of-spec : {M : Type 1} → statement M
-keys-of-spec = tie.close (tie.spec mul-part part-requires returns)
+keys-of-spec = tie.close (tie.spec (λ c. search needs) (λ c κs. search needs) returns)

@@ -7,24 +7,6 @@ use borrow.Author.Needs.{needs}
 use Rattle.catalogue.proofs.mark_at.Statement.{statement}
 use Rattle.catalogue.proofs.mark_at.Tie as tie
 
-effects-requires : tie.Need-effects-requires
-effects-requires c κs = search needs
-
-mul-u32-at : tie.Need-mul-u32-at
-mul-u32-at c = search needs
-
-add-u32-at : tie.Need-add-u32-at
-add-u32-at c = search needs
-
-mul-u32-at-2 : tie.Need-mul-u32-at-2
-mul-u32-at-2 c = search needs
-
-add-u32-at-2 : tie.Need-add-u32-at-2
-add-u32-at-2 c = search needs
-
-u32-at-requires : tie.Need-u32-at-requires
-u32-at-requires c κs = search needs
-
 read : (c : tie.After-u32-at) → let a = c .before .before .before .before .before .args in c .u32-at .result ≡ effectAt (a .catalogue .now) (a .i) .mark
 read c = let e = c .before .before .before .effects .ensures in c .u32-at .ensures ∙ rw (e .0, e .1)
 
@@ -40,11 +22,11 @@ pub mark-at-spec : {M : Type 1} → statement M
 mark-at-spec =
     tie.close
     (tie.spec
-    effects-requires
-    mul-u32-at
-    add-u32-at
-    mul-u32-at-2
-    add-u32-at-2
-    u32-at-requires
+    (λ c κs. search needs)
+    (λ c. search needs)
+    (λ c. search needs)
+    (λ c. search needs)
+    (λ c. search needs)
+    (λ c κs. search needs)
     cast-result
     returns)

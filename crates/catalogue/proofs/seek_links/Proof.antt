@@ -4,20 +4,11 @@ use borrow.Author.Needs.{needs}
 use Rattle.catalogue.proofs.seek_links.Statement.{statement}
 use Rattle.catalogue.proofs.seek_links.Tie as tie
 
-links-requires : tie.Need-links-requires
-links-requires c κs = search needs
-
 seek-requires : tie.Need-seek-requires
 seek-requires c κs =
     let a = c .before .before .before .before in
     let e = c .before .links .ensures in
     (search needs, rw (e .0, e .1) (links-sorted (a .args .catalogue .now) (a .pre)))
 
-same-length : tie.Need-same-length
-same-length c = search needs
-
-returns : tie.Need-returns
-returns c = search needs
-
 pub seek-links-spec : {M : Type 1} → statement M
-seek-links-spec = tie.close (tie.spec links-requires seek-requires same-length returns)
+seek-links-spec = tie.close (tie.spec (λ c κs. search needs) seek-requires (λ c. search needs) (λ c. search needs))

@@ -29,9 +29,6 @@ Inv-loop catalogue id hints₀ at n found₀ i₀ hints found i =
 abbrev μ-loop : tie.MeasureT-loop
 μ-loop catalogue id hints₀ at n found₀ i₀ hints found i = n - i
 
-links-requires : tie.Need-links-requires Inv-loop μ-loop
-links-requires c κs = search needs
-
 first-key-requires : tie.Need-first-key-requires Inv-loop μ-loop
 first-key-requires c κs =
     let a = c .before .before .before .before in
@@ -131,7 +128,7 @@ slots-of-spec =
     (tie.spec
     Inv-loop
     μ-loop
-    links-requires
+    (λ c κs. search needs)
     first-key-requires
     loop-holds
     mul-is-id

@@ -22,25 +22,16 @@ found c =
     let e = c .before .before .types .ensures in
     c .find-key .ensures ∙ simp (e .0, e .1, toZ-ofZ w32 (a .args .id) (a .fits .id))
 
-types-requires : tie.Need-types-requires
-types-requires c κs = search needs
-
 find-key-requires : tie.Need-find-key-requires
 find-key-requires c κs =
     let a = c .before .before .before .before in
     let e = c .before .types .ensures in
     (search needs, rw (e .0, e .1) (types-sorted (a .args .catalogue .now) (a .pre)))
 
-enum-known-found : tie.Need-enum-known-found
-enum-known-found c = search needs
-
 type-at-requires : tie.Need-type-at-requires
 type-at-requires c κs =
     let f = c .before .before .before .before .before in
     (f .before .before .before .before .before .pre .size, find-below _ _ _ (sym (found f) ∙ ap foundOf (c .before .found .given .1)))
-
-enum-told : tie.Need-enum-told
-enum-told c = search needs
 
 -- what is made of the answer of the search
 answer : (c : tie.After-find-key) (o : Option ℕ) → foundOf (c .find-key .result) ≡ o → let a = c .before .before .before .before .before .args in given o none (λ j. some (infoOfType (typeAt (a .catalogue .now) j))) ≡ given (typeOf (catalogueOf (a .catalogue .now)) (a .id)) none (λ x. some (infoOfType x))
@@ -48,17 +39,11 @@ answer c o e =
     let a = c .before .before .before .before .before .args in
     sym (type-search (a .catalogue .now) (a .id) ∙ ap (λ (x : Option ℕ). given x none (λ j. some (infoOfType (typeAt (a .catalogue .now) j)))) (sym (found c) ∙ e))
 
-same-length : tie.Need-same-length
-same-length c = search needs
-
 returns : tie.Need-returns
 unfolding given
 returns c =
     let f = c .before .before .before .before .before .before in
     ap some (c .type-at .ensures) ∙ answer f _ (ap foundOf (c .before .before .found .given .1))
-
-same-length-2 : tie.Need-same-length-2
-same-length-2 c = search needs
 
 returns-2 : tie.Need-returns-2
 unfolding given
@@ -68,12 +53,12 @@ pub type-of-spec : {M : Type 1} → statement M
 type-of-spec =
     tie.close
     (tie.spec
-    types-requires
+    (λ c κs. search needs)
     find-key-requires
-    enum-known-found
+    (λ c. search needs)
     type-at-requires
-    enum-told
-    same-length
+    (λ c. search needs)
+    (λ c. search needs)
     returns
-    same-length-2
+    (λ c. search needs)
     returns-2)

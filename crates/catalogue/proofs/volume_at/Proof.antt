@@ -6,21 +6,9 @@ use borrow.Author.Needs.{needs}
 use Rattle.catalogue.proofs.volume_at.Statement.{statement}
 use Rattle.catalogue.proofs.volume_at.Tie as tie
 
-add-u32-at : tie.Need-add-u32-at
-add-u32-at c = search needs
-
-u32-at-requires : tie.Need-u32-at-requires
-u32-at-requires c κs = search needs
-
 returns : tie.Need-returns
 unfolding ofBits
 returns c = rw (eq-eqb _ 0 (sym (c .before .u32-at .ensures) ∙ c .if1 .taken))
-
-add-f32-wide-at : tie.Need-add-f32-wide-at
-add-f32-wide-at c = search needs
-
-f32-wide-at-requires : tie.Need-f32-wide-at-requires
-f32-wide-at-requires c κs = search needs
 
 returns-2 : tie.Need-returns-2
 returns-2 c = rw (ne-eqb _ 0 (λ e. c .before .if1 .left (c .before .before .u32-at .ensures ∙ e))) (c .f32-wide-at .ensures)
@@ -28,4 +16,4 @@ returns-2 c = rw (ne-eqb _ 0 (λ e. c .before .if1 .left (c .before .before .u32
 pub volume-at-spec : {M : Type 1} → statement M
 volume-at-spec =
     tie.close
-    (tie.spec add-u32-at u32-at-requires returns add-f32-wide-at f32-wide-at-requires returns-2)
+    (tie.spec (λ c. search needs) (λ c κs. search needs) returns (λ c. search needs) (λ c κs. search needs) returns-2)

@@ -10,21 +10,6 @@ use borrow.Author.Needs.{needs}
 use Rattle.catalogue.proofs.with_link.Statement.{statement}
 use Rattle.catalogue.proofs.with_link.Tie as tie
 
-effect-at-requires : tie.Need-effect-at-requires
-effect-at-requires c κs = search needs
-
-effect-mark-requires : tie.Need-effect-mark-requires
-effect-mark-requires c κs = search needs
-
-enum-known-mark : tie.Need-enum-known-mark
-enum-known-mark c = search needs
-
-with-mark-requires : tie.Need-with-mark-requires
-with-mark-requires c κs = search needs
-
-enum-told : tie.Need-enum-told
-enum-told c = search needs
-
 -- what the lookup of the link's effect says
 told : (c : tie.After-effect-mark) → let a = c .before .before .before .before .before .args in markOf (c .effect-mark .result) ≡ effectMark (catalogueOf (a .catalogue .now)) (linkAt (a .catalogue .now) (a .i) .effect)
 told c =
@@ -32,17 +17,11 @@ told c =
     c .effect-mark .ensures
     ∙ ap (effectMark (catalogueOf (a .catalogue .now))) (toZ-ofZ w32 (c .before .before .effect-at .result) (record { sfits = c .before .before .effect-at .ok }) ∙ c .before .before .effect-at .ensures)
 
-same-length : tie.Need-same-length
-same-length c = search needs
-
 returns : tie.Need-returns
 unfolding _>>=_
 returns c =
     let e = sym (told (c .before .before .before .before .before .before)) ∙ ap markOf (c .before .before .mark .given .1) in
     rw e (c .with-mark .ensures)
-
-same-length-2 : tie.Need-same-length-2
-same-length-2 c = search needs
 
 returns-2 : tie.Need-returns-2
 unfolding _>>=_
@@ -54,12 +33,12 @@ pub with-link-spec : {M : Type 1} → statement M
 with-link-spec =
     tie.close
     (tie.spec
-    effect-at-requires
-    effect-mark-requires
-    enum-known-mark
-    with-mark-requires
-    enum-told
-    same-length
+    (λ c κs. search needs)
+    (λ c κs. search needs)
+    (λ c. search needs)
+    (λ c κs. search needs)
+    (λ c. search needs)
+    (λ c. search needs)
     returns
-    same-length-2
+    (λ c. search needs)
     returns-2)

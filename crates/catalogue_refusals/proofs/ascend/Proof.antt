@@ -11,9 +11,6 @@ use Rattle.catalogue.proofs.Blocks.{keys-part}
 use Rattle.catalogue_refusals.proofs.ascend.Statement.{statement}
 use Rattle.catalogue_refusals.proofs.ascend.Tie as tie
 
-keys-of-requires : tie.Need-keys-of-requires
-keys-of-requires c κs = search needs
-
 ascend-requires : tie.Need-ascend-requires
 ascend-requires c κs = omega (arith, c .keys-of .ensures .1)
 
@@ -25,4 +22,4 @@ returns c =
     ∙ ap (inOrder ltZ) (keys-part (a .catalogue .now) (a .b .at) (a .b .n))
 
 pub ascend-spec : {M : Type 1} → statement M
-ascend-spec = tie.close (tie.spec keys-of-requires ascend-requires returns)
+ascend-spec = tie.close (tie.spec (λ c κs. search needs) ascend-requires returns)

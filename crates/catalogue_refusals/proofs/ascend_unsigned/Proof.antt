@@ -11,9 +11,6 @@ use Rattle.catalogue.proofs.Blocks.{numbers-part}
 use Rattle.catalogue_refusals.proofs.ascend_unsigned.Statement.{statement}
 use Rattle.catalogue_refusals.proofs.ascend_unsigned.Tie as tie
 
-keys-of-requires : tie.Need-keys-of-requires
-keys-of-requires c κs = search needs
-
 ascend-unsigned-requires : tie.Need-ascend-unsigned-requires
 ascend-unsigned-requires c κs = omega (arith, c .keys-of .ensures .1)
 
@@ -25,4 +22,4 @@ returns c =
     ∙ ap (inOrder ltb) (numbers-part (a .catalogue .now) (a .b .at) (a .b .n))
 
 pub ascend-unsigned-spec : {M : Type 1} → statement M
-ascend-unsigned-spec = tie.close (tie.spec keys-of-requires ascend-unsigned-requires returns)
+ascend-unsigned-spec = tie.close (tie.spec (λ c κs. search needs) ascend-unsigned-requires returns)

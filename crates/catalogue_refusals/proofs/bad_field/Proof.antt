@@ -14,46 +14,13 @@ marks c = let e = c .before .before .before .effects .ensures in c .any-above2 .
 flags : (c : tie.After-any-above3) → c .any-above3 .result ≡ flag-over (c .before .before .before .before .before .before .before .before .before .before .before .before .before .args .catalogue .now)
 flags c = let e = c .before .before .before .types .ensures in c .any-above3 .ensures ∙ simp (e .0, e .1)
 
-names-requires : tie.Need-names-requires
-names-requires c κs = search needs
-
-any-above-requires : tie.Need-any-above-requires
-any-above-requires c κs = search needs
-
 returns : tie.Need-returns
 returns c = rw (bad-field _, ← names (c .before), c .if1 .taken)
-
-effects-requires : tie.Need-effects-requires
-effects-requires c κs = search needs
-
-mul-any-above : tie.Need-mul-any-above
-mul-any-above c = search needs
-
-add-any-above : tie.Need-add-any-above
-add-any-above c = search needs
-
-any-above-requires-2 : tie.Need-any-above-requires-2
-any-above-requires-2 c κs = search needs
 
 returns-2 : tie.Need-returns-2
 returns-2 c =
     let one = c .before .before .before .before .before in
     rw (bad-field _, ← names (one .before), one .if1 .left, ← marks (c .before), c .if2 .taken)
-
-types-requires : tie.Need-types-requires
-types-requires c κs = search needs
-
-mul-any-above-2 : tie.Need-mul-any-above-2
-mul-any-above-2 c = search needs
-
-add-any-above-2 : tie.Need-add-any-above-2
-add-any-above-2 c = search needs
-
-add-any-above-3 : tie.Need-add-any-above-3
-add-any-above-3 c = search needs
-
-any-above-requires-3 : tie.Need-any-above-requires-3
-any-above-requires-3 c κs = search needs
 
 returns-3 : tie.Need-returns-3
 returns-3 c =
@@ -65,17 +32,17 @@ pub bad-field-spec : {M : Type 1} → statement M
 bad-field-spec =
     tie.close
     (tie.spec
-    names-requires
-    any-above-requires
+    (λ c κs. search needs)
+    (λ c κs. search needs)
     returns
-    effects-requires
-    mul-any-above
-    add-any-above
-    any-above-requires-2
+    (λ c κs. search needs)
+    (λ c. search needs)
+    (λ c. search needs)
+    (λ c κs. search needs)
     returns-2
-    types-requires
-    mul-any-above-2
-    add-any-above-2
-    add-any-above-3
-    any-above-requires-3
+    (λ c κs. search needs)
+    (λ c. search needs)
+    (λ c. search needs)
+    (λ c. search needs)
+    (λ c κs. search needs)
     returns-3)

@@ -22,12 +22,9 @@ returns-2 c =
     let d : eqb (length b) (sizeOf b) ≡ false = ne-eqb (length b) (sizeOf b) (λ e. omega arith) in
     rw (le-ltb 16777216 (length b) (c .before .if1 .left), d)
 
-size-of-requires : tie.Need-size-of-requires
-size-of-requires c κs = search needs
-
 returns-3 : tie.Need-returns-3
 unfolding badLength
 returns-3 c = rw (le-ltb 16777216 _ (c .before .before .if1 .left), c .size-of .ensures)
 
 pub bad-length-spec : {M : Type 1} → statement M
-bad-length-spec = tie.close (tie.spec returns returns-2 size-of-requires returns-3)
+bad-length-spec = tie.close (tie.spec returns returns-2 (λ c κs. search needs) returns-3)

@@ -5,36 +5,6 @@ use Rattle.catalogue.proofs.Blocks.{names-ascend, effects-ascend, types-ascend,
 use Rattle.catalogue_refusals.proofs.bad_order.Statement.{statement}
 use Rattle.catalogue_refusals.proofs.bad_order.Tie as tie
 
-names-requires : tie.Need-names-requires
-names-requires c κs = search needs
-
-ascend-unsigned-requires : tie.Need-ascend-unsigned-requires
-ascend-unsigned-requires c κs = search needs
-
-effects-requires : tie.Need-effects-requires
-effects-requires c κs = search needs
-
-ascend-requires : tie.Need-ascend-requires
-ascend-requires c κs = search needs
-
-types-requires : tie.Need-types-requires
-types-requires c κs = search needs
-
-ascend-requires-2 : tie.Need-ascend-requires-2
-ascend-requires-2 c κs = search needs
-
-links-requires : tie.Need-links-requires
-links-requires c κs = search needs
-
-never-descend-requires : tie.Need-never-descend-requires
-never-descend-requires c κs = search needs
-
-bases-requires : tie.Need-bases-requires
-bases-requires c κs = search needs
-
-never-descend-requires-2 : tie.Need-never-descend-requires-2
-never-descend-requires-2 c κs = search needs
-
 -- what each check says of its block
 names : (c : tie.After-ascend-unsigned) → c .ascend-unsigned .result ≡ names-ascend (c .before .before .before .args .catalogue .now)
 names c = c .ascend-unsigned .ensures ∙ simp (c .before .names .ensures .0, c .before .names .ensures .1)
@@ -84,18 +54,18 @@ pub bad-order-spec : {M : Type 1} → statement M
 bad-order-spec =
     tie.close
     (tie.spec
-    names-requires
-    ascend-unsigned-requires
+    (λ c κs. search needs)
+    (λ c κs. search needs)
     returns
-    effects-requires
-    ascend-requires
+    (λ c κs. search needs)
+    (λ c κs. search needs)
     returns-2
-    types-requires
-    ascend-requires-2
+    (λ c κs. search needs)
+    (λ c κs. search needs)
     returns-3
-    links-requires
-    never-descend-requires
+    (λ c κs. search needs)
+    (λ c κs. search needs)
     returns-4
-    bases-requires
-    never-descend-requires-2
+    (λ c κs. search needs)
+    (λ c κs. search needs)
     returns-5)

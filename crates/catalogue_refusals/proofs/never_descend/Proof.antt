@@ -11,9 +11,6 @@ use Rattle.catalogue.proofs.Blocks.{keys-part}
 use Rattle.catalogue_refusals.proofs.never_descend.Statement.{statement}
 use Rattle.catalogue_refusals.proofs.never_descend.Tie as tie
 
-keys-of-requires : tie.Need-keys-of-requires
-keys-of-requires c κs = search needs
-
 never-descend-requires : tie.Need-never-descend-requires
 never-descend-requires c κs = omega (arith, c .keys-of .ensures .1)
 
@@ -25,4 +22,4 @@ returns c =
     ∙ ap (inOrder leZ) (keys-part (a .catalogue .now) (a .b .at) (a .b .n))
 
 pub never-descend-spec : {M : Type 1} → statement M
-never-descend-spec = tie.close (tie.spec keys-of-requires never-descend-requires returns)
+never-descend-spec = tie.close (tie.spec (λ c κs. search needs) never-descend-requires returns)

@@ -5,9 +5,6 @@ use Rattle.catalogue.proofs.Sound.{fits-size, refused-1, refused-2, refused-3, 
 use Rattle.catalogue_refusals.proofs.verdict.Statement.{statement}
 use Rattle.catalogue_refusals.proofs.verdict.Tie as tie
 
-bad-length-requires : tie.Need-bad-length-requires
-bad-length-requires c κs = search needs
-
 returns : tie.Need-returns
 returns c = refused-1 _ (sym (c .before .bad-length .ensures) ∙ c .if1 .taken)
 
@@ -40,7 +37,7 @@ pub verdict-spec : {M : Type 1} → statement M
 verdict-spec =
     tie.close
     (tie.spec
-    bad-length-requires
+    (λ c κs. search needs)
     returns
     bad-order-requires
     returns-2

@@ -7,12 +7,9 @@ use borrow.Author.Needs.{needs}
 use Rattle.context.proofs.is_in.Statement.{statement}
 use Rattle.context.proofs.is_in.Tie as tie
 
-item-slot-requires : tie.Need-item-slot-requires
-item-slot-requires c κs = search needs
-
 returns : tie.Need-returns
 unfolding isIn
 returns c = λ catalogue. ap (λ (s : ℕ). eqb s (c .before .before .args .slot)) (c .item-slot .ensures)
 
 pub is-in-spec : {M : Type 1} → statement M
-is-in-spec = tie.close (tie.spec item-slot-requires returns)
+is-in-spec = tie.close (tie.spec (λ c κs. search needs) returns)

@@ -1,6 +1,5 @@
 -- `context::is_module_category` meets its contract: three comparisons, in their order.
 use mathlib.Core.Path.{_≡_, sym, ap, _∙_}
-use mathlib.Core.Bool.{Bool, true, false, _||_}
 use lib.IntN.{ℤ, pos}
 use mir.Syntax.{w32}
 use mir.ValLaws.{toZ-ofZ}
@@ -9,9 +8,6 @@ use Rattle.words.specs.Words.{same}
 use Rattle.context.specs.Context.{isModuleCategory}
 use Rattle.context.proofs.is_module_category.Statement.{statement}
 use Rattle.context.proofs.is_module_category.Tie as tie
-
-same-id-requires : tie.Need-same-id-requires
-same-id-requires c κs = search needs
 
 -- what a comparison says, at the category itself
 first : (c : tie.After-same-id) → c .same-id .result ≡ same (c .before .args .category) (pos 7)
@@ -26,15 +22,9 @@ returns : tie.Need-returns
 unfolding isModuleCategory
 returns c = rw (sym (first (c .before)) ∙ c .if1 .taken)
 
-same-id-requires-2 : tie.Need-same-id-requires-2
-same-id-requires-2 c κs = search needs
-
 returns-2 : tie.Need-returns-2
 unfolding isModuleCategory
 returns-2 c = rw (sym (first (c .before .before .before)) ∙ c .before .before .if1 .left, sym (second (c .before)) ∙ c .if2 .taken)
-
-same-id-requires-3 : tie.Need-same-id-requires-3
-same-id-requires-3 c κs = search needs
 
 returns-3 : tie.Need-returns-3
 unfolding isModuleCategory
@@ -45,4 +35,4 @@ returns-3 c =
 
 pub is-module-category-spec : {M : Type 1} → statement M
 is-module-category-spec =
-    tie.close (tie.spec same-id-requires returns same-id-requires-2 returns-2 same-id-requires-3 returns-3)
+    tie.close (tie.spec (λ c κs. search needs) returns (λ c κs. search needs) returns-2 (λ c κs. search needs) returns-3)

@@ -1,5 +1,5 @@
 -- `context::type_facts` meets its contract: a type that is there, and one that is not.
-use mathlib.Core.Path.{_≡_, ap, sym, _∙_}
+use mathlib.Core.Path.{ap, sym, _∙_}
 use mathlib.Core.Option.{some, none}
 use lib.IntN.{ℤ}
 use lib.Ieee.{ofBits}
@@ -14,27 +14,12 @@ use borrow.Author.Needs.{needs}
 use Rattle.context.proofs.type_facts.Statement.{statement}
 use Rattle.context.proofs.type_facts.Tie as tie
 
-type-of-requires : tie.Need-type-of-requires
-type-of-requires c κs = search needs
-
-enum-known-answer : tie.Need-enum-known-answer
-enum-known-answer c = search needs
-
-enum-told : tie.Need-enum-told
-enum-told c = search needs
-
-same-length : tie.Need-same-length
-same-length c = search needs
-
 returns : tie.Need-returns
 returns c =
     let s = c .before .before .before .before .before .before .before .before .before in
     let e = c .before .answer .given .1 in
     let t = c .before .before .before .before .before .type-of .ensures in
     known (catalogueOf (s .args .catalogue .now)) (s .args .id) _ (sym (ap infoOf e) ∙ t ∙ ap (λ (z : ℤ). given (typeOf (catalogueOf (s .args .catalogue .now)) z) none (λ x. some (infoOfType x))) (toZ-ofZ w32 (s .args .id) (s .fits .id)))
-
-same-length-2 : tie.Need-same-length-2
-same-length-2 c = search needs
 
 returns-2 : tie.Need-returns-2
 unfolding ofBits
@@ -46,4 +31,4 @@ returns-2 c =
 
 pub type-facts-spec : {M : Type 1} → statement M
 type-facts-spec =
-    tie.close (tie.spec type-of-requires enum-known-answer enum-told same-length returns same-length-2 returns-2)
+    tie.close (tie.spec (λ c κs. search needs) (λ c. search needs) (λ c. search needs) (λ c. search needs) returns (λ c. search needs) returns-2)

@@ -6,18 +6,6 @@ use borrow.Author.Needs.{needs}
 use Rattle.entry.proofs.emit.Statement.{statement}
 use Rattle.entry.proofs.emit.Tie as tie
 
-add-next : tie.Need-add-next
-add-next c = search needs
-
-mul-write : tie.Need-mul-write
-mul-write c = search needs
-
-write-requires : tie.Need-write-requires
-write-requires c κs = search needs
-
-same-length : tie.Need-same-length
-same-length c = search needs
-
 returns : tie.Need-returns
 returns c = wrote-room _ (omega arith) refl (c .before .before .write .ensures)
 
@@ -25,4 +13,4 @@ returns-2 : tie.Need-returns-2
 returns-2 c = wrote-full _ (omega arith) refl
 
 pub emit-spec : {M : Type 1} → statement M
-emit-spec = tie.close (tie.spec add-next mul-write write-requires same-length returns returns-2)
+emit-spec = tie.close (tie.spec (λ c. search needs) (λ c. search needs) (λ c κs. search needs) (λ c. search needs) returns returns-2)

@@ -4,12 +4,6 @@ use Rattle.entry.proofs.Wrote.{wrote-when, wrote-unless}
 use Rattle.entry.proofs.emit_when.Statement.{statement}
 use Rattle.entry.proofs.emit_when.Tie as tie
 
-emit-requires : tie.Need-emit-requires
-emit-requires c κs = search needs
-
-same-length : tie.Need-same-length
-same-length c = search needs
-
 returns : tie.Need-returns
 returns c = wrote-when (c .before .before .before .before .if1 .taken) (c .before .before .emit .ensures)
 
@@ -17,4 +11,4 @@ returns-2 : tie.Need-returns-2
 returns-2 c = wrote-unless (c .before .before .args .e) (c .if1 .left)
 
 pub emit-when-spec : {M : Type 1} → statement M
-emit-when-spec = tie.close (tie.spec emit-requires same-length returns returns-2)
+emit-when-spec = tie.close (tie.spec (λ c κs. search needs) (λ c. search needs) returns returns-2)

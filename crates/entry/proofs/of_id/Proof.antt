@@ -5,16 +5,10 @@ use borrow.Author.Needs.{needs}
 use Rattle.entry.proofs.of_id.Statement.{statement}
 use Rattle.entry.proofs.of_id.Tie as tie
 
-bits-requires : tie.Need-bits-requires
-bits-requires c κs = search needs
-
-words-requires : tie.Need-words-requires
-words-requires c κs = search needs
-
 returns : tie.Need-returns
 returns c =
     let a = c .before .before in
     rw (c .before .bits .ensures, toZ-ofZ w32 (a .args .id) (a .fits .id)) at (c .words .ensures)
 
 pub of-id-spec : {M : Type 1} → statement M
-of-id-spec = tie.close (tie.spec bits-requires words-requires returns)
+of-id-spec = tie.close (tie.spec (λ c κs. search needs) (λ c κs. search needs) returns)

@@ -8,147 +8,6 @@ use borrow.Author.Needs.{needs}
 use Rattle.entry.proofs.pack.Statement.{statement}
 use Rattle.entry.proofs.pack.Tie as tie
 
-enum-known-rule : tie.Need-enum-known-rule
-enum-known-rule c = search needs
-
-resource-requires : tie.Need-resource-requires
-resource-requires c κs = search needs
-
-enum-known-rule-2 : tie.Need-enum-known-rule-2
-enum-known-rule-2 c = search needs
-
-words-requires : tie.Need-words-requires
-words-requires c κs = search needs
-
-enum-known-rule-3 : tie.Need-enum-known-rule-3
-enum-known-rule-3 c = search needs
-
-words-requires-2 : tie.Need-words-requires-2
-words-requires-2 c κs = search needs
-
-enum-told : tie.Need-enum-told
-enum-told c = search needs
-
-plain-requires : tie.Need-plain-requires
-plain-requires c κs = search needs
-
-enum-told-2 : tie.Need-enum-told-2
-enum-told-2 c = search needs
-
-plain-requires-2 : tie.Need-plain-requires-2
-plain-requires-2 c κs = search needs
-
-enum-told-3 : tie.Need-enum-told-3
-enum-told-3 c = search needs
-
-plain-requires-3 : tie.Need-plain-requires-3
-plain-requires-3 c κs = search needs
-
-enum-told-4 : tie.Need-enum-told-4
-enum-told-4 c = search needs
-
-plain-requires-4 : tie.Need-plain-requires-4
-plain-requires-4 c κs = search needs
-
-enum-told-5 : tie.Need-enum-told-5
-enum-told-5 c = search needs
-
-plain-requires-5 : tie.Need-plain-requires-5
-plain-requires-5 c κs = search needs
-
-enum-known-rule-4 : tie.Need-enum-known-rule-4
-enum-known-rule-4 c = search needs
-
-cast-words : tie.Need-cast-words
-cast-words c = search needs
-
-words-requires-3 : tie.Need-words-requires-3
-words-requires-3 c κs = search needs
-
-enum-told-6 : tie.Need-enum-told-6
-enum-told-6 c = search needs
-
-plain-requires-6 : tie.Need-plain-requires-6
-plain-requires-6 c κs = search needs
-
-enum-known-rule-5 : tie.Need-enum-known-rule-5
-enum-known-rule-5 c = search needs
-
-cast-of-id : tie.Need-cast-of-id
-cast-of-id c = search needs
-
-cast-of-id-2 : tie.Need-cast-of-id-2
-cast-of-id-2 c = search needs
-
-of-id-requires : tie.Need-of-id-requires
-of-id-requires c κs = search needs
-
-enum-known-rule-6 : tie.Need-enum-known-rule-6
-enum-known-rule-6 c = search needs
-
-cast-words-2 : tie.Need-cast-words-2
-cast-words-2 c = search needs
-
-cast-words-3 : tie.Need-cast-words-3
-cast-words-3 c = search needs
-
-words-requires-4 : tie.Need-words-requires-4
-words-requires-4 c κs = search needs
-
-enum-told-7 : tie.Need-enum-told-7
-enum-told-7 c = search needs
-
-plain-requires-7 : tie.Need-plain-requires-7
-plain-requires-7 c κs = search needs
-
-enum-told-8 : tie.Need-enum-told-8
-enum-told-8 c = search needs
-
-plain-requires-8 : tie.Need-plain-requires-8
-plain-requires-8 c κs = search needs
-
-enum-told-9 : tie.Need-enum-told-9
-enum-told-9 c = search needs
-
-plain-requires-9 : tie.Need-plain-requires-9
-plain-requires-9 c κs = search needs
-
-enum-told-10 : tie.Need-enum-told-10
-enum-told-10 c = search needs
-
-plain-requires-10 : tie.Need-plain-requires-10
-plain-requires-10 c κs = search needs
-
-enum-known-rule-7 : tie.Need-enum-known-rule-7
-enum-known-rule-7 c = search needs
-
-of-id-requires-2 : tie.Need-of-id-requires-2
-of-id-requires-2 c κs = search needs
-
-enum-known-rule-8 : tie.Need-enum-known-rule-8
-enum-known-rule-8 c = search needs
-
-of-id-requires-3 : tie.Need-of-id-requires-3
-of-id-requires-3 c κs = search needs
-
-enum-told-11 : tie.Need-enum-told-11
-enum-told-11 c = search needs
-
-plain-requires-11 : tie.Need-plain-requires-11
-plain-requires-11 c κs = search needs
-
-enum-told-12 : tie.Need-enum-told-12
-enum-told-12 c = search needs
-
-plain-requires-12 : tie.Need-plain-requires-12
-plain-requires-12 c κs = search needs
-
-enum-known-rule-9 : tie.Need-enum-known-rule-9
-enum-known-rule-9 c = search needs
-
-of-id-requires-4 : tie.Need-of-id-requires-4
-of-id-requires-4 c κs = search needs
-
 returns : tie.Need-returns
 unfolding fields
 returns c = c .resource .ensures ∙ sym (ap fields (c .before .before .rule .given .1))
@@ -237,53 +96,53 @@ pub pack-spec : {M : Type 1} → statement M
 pack-spec =
     tie.close
     (tie.spec
-    enum-known-rule
-    resource-requires
-    enum-known-rule-2
-    words-requires
-    enum-known-rule-3
-    words-requires-2
-    enum-told
-    plain-requires
-    enum-told-2
-    plain-requires-2
-    enum-told-3
-    plain-requires-3
-    enum-told-4
-    plain-requires-4
-    enum-told-5
-    plain-requires-5
-    enum-known-rule-4
-    cast-words
-    words-requires-3
-    enum-told-6
-    plain-requires-6
-    enum-known-rule-5
-    cast-of-id
-    cast-of-id-2
-    of-id-requires
-    enum-known-rule-6
-    cast-words-2
-    cast-words-3
-    words-requires-4
-    enum-told-7
-    plain-requires-7
-    enum-told-8
-    plain-requires-8
-    enum-told-9
-    plain-requires-9
-    enum-told-10
-    plain-requires-10
-    enum-known-rule-7
-    of-id-requires-2
-    enum-known-rule-8
-    of-id-requires-3
-    enum-told-11
-    plain-requires-11
-    enum-told-12
-    plain-requires-12
-    enum-known-rule-9
-    of-id-requires-4
+    (λ c. search needs)
+    (λ c κs. search needs)
+    (λ c. search needs)
+    (λ c κs. search needs)
+    (λ c. search needs)
+    (λ c κs. search needs)
+    (λ c. search needs)
+    (λ c κs. search needs)
+    (λ c. search needs)
+    (λ c κs. search needs)
+    (λ c. search needs)
+    (λ c κs. search needs)
+    (λ c. search needs)
+    (λ c κs. search needs)
+    (λ c. search needs)
+    (λ c κs. search needs)
+    (λ c. search needs)
+    (λ c. search needs)
+    (λ c κs. search needs)
+    (λ c. search needs)
+    (λ c κs. search needs)
+    (λ c. search needs)
+    (λ c. search needs)
+    (λ c. search needs)
+    (λ c κs. search needs)
+    (λ c. search needs)
+    (λ c. search needs)
+    (λ c. search needs)
+    (λ c κs. search needs)
+    (λ c. search needs)
+    (λ c κs. search needs)
+    (λ c. search needs)
+    (λ c κs. search needs)
+    (λ c. search needs)
+    (λ c κs. search needs)
+    (λ c. search needs)
+    (λ c κs. search needs)
+    (λ c. search needs)
+    (λ c κs. search needs)
+    (λ c. search needs)
+    (λ c κs. search needs)
+    (λ c. search needs)
+    (λ c κs. search needs)
+    (λ c. search needs)
+    (λ c κs. search needs)
+    (λ c. search needs)
+    (λ c κs. search needs)
     returns
     returns-2
     returns-3

@@ -7,36 +7,6 @@ use borrow.Author.Needs.{needs}
 use Rattle.entry.proofs.write.Statement.{statement}
 use Rattle.entry.proofs.write.Tie as tie
 
-pack-requires : tie.Need-pack-requires
-pack-requires c κs = search needs
-
-head-requires : tie.Need-head-requires
-head-requires c κs = search needs
-
-put-u64-requires : tie.Need-put-u64-requires
-put-u64-requires c κs = search needs
-
-add-put-u64 : tie.Need-add-put-u64
-add-put-u64 c = search needs
-
-two-requires : tie.Need-two-requires
-two-requires c κs = search needs
-
-put-u64-requires-2 : tie.Need-put-u64-requires-2
-put-u64-requires-2 c κs = search needs
-
-add-put-u64-2 : tie.Need-add-put-u64-2
-add-put-u64-2 c = search needs
-
-two-requires-2 : tie.Need-two-requires-2
-two-requires-2 c κs = search needs
-
-put-u64-requires-3 : tie.Need-put-u64-requires-3
-put-u64-requires-3 c κs = search needs
-
-same-length : tie.Need-same-length
-same-length c = search needs
-
 returns : tie.Need-returns
 returns c =
     let p₃ = c .before .before in
@@ -57,14 +27,14 @@ pub write-spec : {M : Type 1} → statement M
 write-spec =
     tie.close
     (tie.spec
-    pack-requires
-    head-requires
-    put-u64-requires
-    add-put-u64
-    two-requires
-    put-u64-requires-2
-    add-put-u64-2
-    two-requires-2
-    put-u64-requires-3
-    same-length
+    (λ c κs. search needs)
+    (λ c κs. search needs)
+    (λ c κs. search needs)
+    (λ c. search needs)
+    (λ c κs. search needs)
+    (λ c κs. search needs)
+    (λ c. search needs)
+    (λ c κs. search needs)
+    (λ c κs. search needs)
+    (λ c. search needs)
     returns)

@@ -12,17 +12,11 @@ use Rattle.fit.specs.Fit.{resultOf}
 use Rattle.fit.proofs.amount.Statement.{statement}
 use Rattle.fit.proofs.amount.Tie as tie
 
-value-requires : tie.Need-value-requires
-value-requires c κs = search needs
-
-amount-requires : tie.Need-amount-requires
-amount-requires c κs = search needs
-
 returns : tie.Need-returns
 unfolding amount
 returns c =
-    let a = c .before .before .before .args in
-    c .amount .ensures ∙ ap (λ (o : Option Float). given o zeroF (λ v. v)) (c .before .value .ensures ∙ ap (value (resultOf (a .fit .now) (a .j))) (toZ-ofZ w32 (a .id) (c .before .before .before .fits .id)))
+    let a = c .before .before .before .before .args in
+    c .amount .ensures ∙ ap (λ (o : Option Float). given o zeroF (λ v. v)) (c .before .value .ensures ∙ ap (value (resultOf (a .fit .now) (a .j))) (toZ-ofZ w32 (a .id) (c .before .before .before .before .fits .id)))
 
 pub amount-spec : {M : Type 1} → statement M
-amount-spec = tie.close (tie.spec value-requires amount-requires returns)
+amount-spec = tie.close (tie.spec (λ c κs. search needs) (λ c κs. search needs) returns)

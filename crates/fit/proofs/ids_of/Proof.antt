@@ -7,7 +7,6 @@ use lib.ListN.{take, drop}
 use borrow.Author.Needs.{needs}
 use Rattle.fit.specs.Fit.{attributeCount, idsAt, countAt, startAt}
 use Rattle.fit.specs.Sound.{idsPart}
-use Rattle.fit.proofs.Soundness.{sound-sized}
 use Rattle.fit.proofs.Decoded.{start-next, start-within}
 use Rattle.fit.proofs.ids_of.Statement.{statement}
 use Rattle.fit.proofs.ids_of.Tie as tie
@@ -22,36 +21,24 @@ cut b start n first x y f p q =
     ap₂ (λ (k i : ℕ). take k (drop i b)) e g
 
 -- where the ids begin, and that all end within the image
-begins : (c : tie.After-start-of) → let a = c .before .before .before .args in (c .start-of .result ≡ startAt (a .fit .now) (a .j)) × (startAt (a .fit .now) (a .j) + countAt (a .fit .now) (a .j) ≤ attributeCount (a .fit .now))
+begins : (c : tie.After-start-of) → let a = c .before .before .before .before .args in (c .start-of .result ≡ startAt (a .fit .now) (a .j)) × (startAt (a .fit .now) (a .j) + countAt (a .fit .now) (a .j) ≤ attributeCount (a .fit .now))
 begins c =
-    let a = c .before .before .before .args in
-    let p = c .before .before .before .pre in
-    (c .start-of .ensures ∙ p .1 .begins (a .j) (omega arith), start-within (a .fit .now) (sound-sized (a .fit .now) (p .0)) (a .j) (p .2))
-
--- where they end
-ends : (c : tie.After-start-of2) → let a = c .before .before .before .before .args in c .start-of2 .result ≡ startAt (a .fit .now) (a .j) + countAt (a .fit .now) (a .j)
-ends c =
     let a = c .before .before .before .before .args in
     let p = c .before .before .before .before .pre in
+    (c .start-of .ensures ∙ p .1 .begins (a .j) (omega arith), start-within (a .fit .now) (p .0 .sized) (a .j) (p .2))
+
+-- where they end
+ends : (c : tie.After-start-of2) → let a = c .before .before .before .before .before .args in c .start-of2 .result ≡ startAt (a .fit .now) (a .j) + countAt (a .fit .now) (a .j)
+ends c =
+    let a = c .before .before .before .before .before .args in
+    let p = c .before .before .before .before .before .pre in
     c .start-of2 .ensures ∙ p .1 .begins (a .j + 1) (omega arith) ∙ start-next (a .fit .now) (a .j)
-
-ids-at-requires : tie.Need-ids-at-requires
-ids-at-requires c κs = search needs
-
-start-of-requires : tie.Need-start-of-requires
-start-of-requires c κs = search needs
 
 mul-a : tie.Need-mul-a
 mul-a c = omega (arith, begins c)
 
 add-a : tie.Need-add-a
 add-a c = omega (arith, begins c)
-
-add-start-of : tie.Need-add-start-of
-add-start-of c = search needs
-
-start-of-requires-2 : tie.Need-start-of-requires-2
-start-of-requires-2 c κs = search needs
 
 mul-b : tie.Need-mul-b
 mul-b c = omega (arith, begins (c .before), ends c)
@@ -70,7 +57,7 @@ part-result-end c = omega (arith, begins (c .before), ends c)
 
 returns : tie.Need-returns
 returns c =
-    let a = c .before .before .before .before .before .args in
+    let a = c .before .before .before .before .before .before .args in
     cut (a .fit .now) (startAt (a .fit .now) (a .j)) (countAt (a .fit .now) (a .j))
     (c .before .before .before .ids-at .result) (c .before .before .start-of .result) (c .before .start-of2 .result)
     (c .before .before .before .ids-at .ensures) (begins (c .before .before) .0) (ends (c .before))
@@ -79,12 +66,12 @@ pub ids-of-spec : {M : Type 1} → statement M
 ids-of-spec =
     tie.close
     (tie.spec
-    ids-at-requires
-    start-of-requires
+    (λ c κs. search needs)
+    (λ c κs. search needs)
     mul-a
     add-a
-    add-start-of
-    start-of-requires-2
+    (λ c. search needs)
+    (λ c κs. search needs)
     mul-b
     add-b
     sub-result

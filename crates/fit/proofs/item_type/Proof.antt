@@ -8,18 +8,6 @@ use Rattle.image.specs.Bytes.{i32At}
 use Rattle.fit.proofs.item_type.Statement.{statement}
 use Rattle.fit.proofs.item_type.Tie as tie
 
-items-at-requires : tie.Need-items-at-requires
-items-at-requires c κs = search needs
-
-mul-i32-at : tie.Need-mul-i32-at
-mul-i32-at c = search needs
-
-add-i32-at : tie.Need-add-i32-at
-add-i32-at c = search needs
-
-i32-at-requires : tie.Need-i32-at-requires
-i32-at-requires c κs = search needs
-
 returns : tie.Need-returns
 returns c =
     let a = c .before .before .before .args in
@@ -29,4 +17,4 @@ returns c =
 
 pub item-type-spec : {M : Type 1} → statement M
 item-type-spec =
-    tie.close (tie.spec items-at-requires mul-i32-at add-i32-at i32-at-requires returns)
+    tie.close (tie.spec (λ c κs. search needs) (λ c. search needs) (λ c. search needs) (λ c κs. search needs) returns)

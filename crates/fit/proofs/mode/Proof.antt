@@ -10,15 +10,9 @@ use Rattle.fit.specs.Fit.{fitOf, modeOf}
 use Rattle.fit.proofs.mode.Statement.{statement}
 use Rattle.fit.proofs.mode.Tie as tie
 
-u32-at-requires : tie.Need-u32-at-requires
-u32-at-requires c κs = search needs
-
 returns : tie.Need-returns
 unfolding fitOf modeOf
 returns c = simp (sym (c .before .u32-at .ensures), eq-eqb _ 0 (c .if1 .taken))
-
-i32-at-requires : tie.Need-i32-at-requires
-i32-at-requires c κs = search needs
 
 returns-2 : tie.Need-returns-2
 unfolding fitOf modeOf
@@ -27,4 +21,4 @@ returns-2 c =
     simp (sym (c .before .before .u32-at .ensures), ne-eqb _ 0 (c .before .if1 .left), e)
 
 pub mode-spec : {M : Type 1} → statement M
-mode-spec = tie.close (tie.spec u32-at-requires returns i32-at-requires returns-2)
+mode-spec = tie.close (tie.spec (λ c κs. search needs) returns (λ c κs. search needs) returns-2)

@@ -7,12 +7,9 @@ use Rattle.fit.specs.Fit.{fitOf}
 use Rattle.fit.proofs.ship.Statement.{statement}
 use Rattle.fit.proofs.ship.Tie as tie
 
-i32-at-requires : tie.Need-i32-at-requires
-i32-at-requires c κs = search needs
-
 returns : tie.Need-returns
 unfolding fitOf
 returns c = toZ-ofZ w32 (c .i32-at .result) (record { sfits = c .i32-at .ok }) ∙ c .i32-at .ensures
 
 pub ship-spec : {M : Type 1} → statement M
-ship-spec = tie.close (tie.spec i32-at-requires returns)
+ship-spec = tie.close (tie.spec (λ c κs. search needs) returns)

@@ -30,35 +30,17 @@ place-in c =
     let a = c .before .before .before .before .before .before .before .args in
     place-below (skillIds (a .fit .now)) (skillCount (a .fit .now)) (a .id) (c .before .found .given .0 .0) (sym (told (c .before .before .before)) ∙ ap foundOf (c .before .found .given .1))
 
-skills-requires : tie.Need-skills-requires
-skills-requires c κs = search needs
-
-mul-part : tie.Need-mul-part
-mul-part c = search needs
-
-part-requires : tie.Need-part-requires
-part-requires c κs = search needs
-
 place-of-requires : tie.Need-place-of-requires
 place-of-requires c κs =
     let b = c .before .before .before .args .fit .now in
     let l = part-length b 28 (4 * c .before .skills .result) (omega arith) in
     (omega (arith, l, ap length (c .part .ensures)), sorted-alike _ _ _ _ (ids c) (c .before .skills .ensures) (skills-sorted b (c .before .before .before .pre)))
 
-enum-known-found : tie.Need-enum-known-found
-enum-known-found c = search needs
-
-levels-at-requires : tie.Need-levels-at-requires
-levels-at-requires c κs = search needs
-
 add-u8-at : tie.Need-add-u8-at
 add-u8-at c = omega (arith, place-in (c .before))
 
 u8-at-requires : tie.Need-u8-at-requires
 u8-at-requires c κs = omega (arith, place-in (c .before))
-
-enum-told : tie.Need-enum-told
-enum-told c = search needs
 
 returns : tie.Need-returns
 returns c =
@@ -77,14 +59,14 @@ pub trained-level-spec : {M : Type 1} → statement M
 trained-level-spec =
     tie.close
     (tie.spec
-    skills-requires
-    mul-part
-    part-requires
+    (λ c κs. search needs)
+    (λ c. search needs)
+    (λ c κs. search needs)
     place-of-requires
-    enum-known-found
-    levels-at-requires
+    (λ c. search needs)
+    (λ c κs. search needs)
     add-u8-at
     u8-at-requires
-    enum-told
+    (λ c. search needs)
     returns
     returns-2)

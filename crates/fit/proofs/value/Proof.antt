@@ -13,60 +13,47 @@ use Rattle.keys.specs.Keys.{placeOf, foundOf}
 use Rattle.fit.specs.Sound.{idsPart}
 use Rattle.fit.specs.Fit.{attributeCount, countAt, startAt}
 use Rattle.fit.proofs.Searches.{ids-sorted, value-given, value-missing}
-use Rattle.fit.proofs.Soundness.{sound-sized}
 use Rattle.fit.proofs.Decoded.{start-within, ids-length}
 use Rattle.fit.proofs.value.Statement.{statement}
 use Rattle.fit.proofs.value.Tie as tie
 
 -- the part is as long as the ids
-long : (c : tie.After-ids-of) → let a = c .before .before .args in length (c .ids-of .result .now) ≡ 4 * countAt (a .fit .now) (a .j)
+long : (c : tie.After-ids-of) → let a = c .before .before .before .args in length (c .ids-of .result .now) ≡ 4 * countAt (a .fit .now) (a .j)
 long c =
-    let a = c .before .before .args in
+    let a = c .before .before .before .args in
     let b = a .fit .now in
-    let w = start-within b (sound-sized b (c .before .before .pre .0)) (a .j) (c .before .before .pre .2) in
+    let w = start-within b (c .before .before .before .pre .0 .sized) (a .j) (c .before .before .before .pre .2) in
     ap length (c .ids-of .ensures) ∙ ids-length b (startAt b (a .j)) (countAt b (a .j)) (omega (arith, w))
 
 -- how many there are
-many : (c : tie.After-ids-of) → let a = c .before .before .args in length (c .ids-of .result .now) / 4 ≡ countAt (a .fit .now) (a .j)
+many : (c : tie.After-ids-of) → let a = c .before .before .before .args in length (c .ids-of .result .now) / 4 ≡ countAt (a .fit .now) (a .j)
 many c = omega (arith, long c)
 
 -- what the search says, of the result's own ids
-told : (c : tie.After-place-of) → let a = c .before .before .before .args in let b = a .fit .now in foundOf (c .place-of .result) ≡ placeOf (idsPart b (startAt b (a .j)) (countAt b (a .j))) (countAt b (a .j)) (a .id)
+told : (c : tie.After-place-of) → let a = c .before .before .before .before .args in let b = a .fit .now in foundOf (c .place-of .result) ≡ placeOf (idsPart b (startAt b (a .j)) (countAt b (a .j))) (countAt b (a .j)) (a .id)
 told c =
-    let s = c .before .before .before in
+    let s = c .before .before .before .before in
     c .place-of .ensures ∙ place-alike _ _ _ _ (c .before .ids-of .ensures) (many (c .before)) _ _ (toZ-ofZ w32 (s .args .id) (s .fits .id))
 
 -- where the value stands, within all
-place-in : (c : tie.After-start-of) → let a = c .before .before .before .before .before .before .before .args in let b = a .fit .now in let i = c .before .before .found .given .0 .0 in (c .start-of .result ≡ startAt b (a .j)) × (i < countAt b (a .j)) × (startAt b (a .j) + countAt b (a .j) ≤ attributeCount b)
+place-in : (c : tie.After-start-of) → let a = c .before .before .before .before .before .before .before .before .args in let b = a .fit .now in let i = c .before .before .found .given .0 .0 in (c .start-of .result ≡ startAt b (a .j)) × (i < countAt b (a .j)) × (startAt b (a .j) + countAt b (a .j) ≤ attributeCount b)
 place-in c =
-    let a = c .before .before .before .before .before .before .before .args in
+    let a = c .before .before .before .before .before .before .before .before .args in
     let b = a .fit .now in
-    let p = c .before .before .before .before .before .before .before .pre in
+    let p = c .before .before .before .before .before .before .before .before .pre in
     let i = c .before .before .found .given .0 .0 in (
       c .start-of .ensures ∙ p .1 .begins (a .j) (omega arith),
       place-below (idsPart b (startAt b (a .j)) (countAt b (a .j))) (countAt b (a .j)) (a .id) i (sym (told (c .before .before .before .before)) ∙ ap foundOf (c .before .before .found .given .1)),
-      start-within b (sound-sized b (p .0)) (a .j) (p .2),
+      start-within b (p .0 .sized) (a .j) (p .2),
     )
-
-ids-of-requires : tie.Need-ids-of-requires
-ids-of-requires c κs = search needs
 
 place-of-requires : tie.Need-place-of-requires
 place-of-requires c κs =
-    let s = c .before .before in
+    let s = c .before .before .before in
     (omega arith, sorted-alike _ _ _ _ (c .ids-of .ensures) (many c) (ids-sorted (s .args .fit .now) (s .pre .0) (s .args .j) (s .pre .2)))
-
-enum-known-found : tie.Need-enum-known-found
-enum-known-found c = search needs
-
-start-of-requires : tie.Need-start-of-requires
-start-of-requires c κs = search needs
 
 add-at : tie.Need-add-at
 add-at c = omega (arith, place-in c)
-
-values-at-requires : tie.Need-values-at-requires
-values-at-requires c κs = search needs
 
 mul-f64-at : tie.Need-mul-f64-at
 mul-f64-at c = omega (arith, place-in (c .before))
@@ -77,12 +64,9 @@ add-f64-at c = omega (arith, place-in (c .before))
 f64-at-requires : tie.Need-f64-at-requires
 f64-at-requires c κs = omega (arith, place-in (c .before))
 
-enum-told : tie.Need-enum-told
-enum-told c = search needs
-
 returns : tie.Need-returns
 returns c =
-    let a = c .before .before .before .before .before .before .before .before .before .args in
+    let a = c .before .before .before .before .before .before .before .before .before .before .args in
     let b = a .fit .now in
     let i = c .before .before .before .before .found .given .0 .0 in
     sym (value-given b (a .j) (a .id) i (sym (told (c .before .before .before .before .before .before)) ∙ ap foundOf (c .before .before .before .before .found .given .1))
@@ -90,22 +74,22 @@ returns c =
 
 returns-2 : tie.Need-returns-2
 returns-2 c =
-    let a = c .before .before .before .before .before .args in
+    let a = c .before .before .before .before .before .before .args in
     sym (value-missing (a .fit .now) (a .j) (a .id) (sym (told (c .before .before)) ∙ ap foundOf (c .enum-told .given .1)))
 
 pub value-spec : {M : Type 1} → statement M
 value-spec =
     tie.close
     (tie.spec
-    ids-of-requires
+    (λ c κs. search needs)
     place-of-requires
-    enum-known-found
-    start-of-requires
+    (λ c. search needs)
+    (λ c κs. search needs)
     add-at
-    values-at-requires
+    (λ c κs. search needs)
     mul-f64-at
     add-f64-at
     f64-at-requires
-    enum-told
+    (λ c. search needs)
     returns
     returns-2)

@@ -17,12 +17,6 @@ Inv-loop fit n first bad₀ i₀ bad i = (i ≤ n) × (bad ≡ anyOf badItem (ta
 abbrev μ-loop : tie.MeasureT-loop
 μ-loop fit n first bad₀ i₀ bad i = n - i
 
-items-requires : tie.Need-items-requires Inv-loop μ-loop
-items-requires c κs = search needs
-
-items-at-requires : tie.Need-items-at-requires Inv-loop μ-loop
-items-at-requires c κs = search needs
-
 loop-holds : tie.Need-loop-holds Inv-loop μ-loop
 loop-holds c = (omega arith, sym (any-none badItem (itemAt (c .before .before .before .args .fit .now))))
 
@@ -58,8 +52,8 @@ any-bad-item-spec =
     (tie.spec
     Inv-loop
     μ-loop
-    items-requires
-    items-at-requires
+    (λ c κs. search needs)
+    (λ c κs. search needs)
     loop-holds
     bad-item-requires
     either-requires

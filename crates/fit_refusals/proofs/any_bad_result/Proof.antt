@@ -18,14 +18,8 @@ Inv-loop fit n first bad₀ j₀ bad j = (j ≤ n) × (bad ≡ anyOf badResult (
 abbrev μ-loop : tie.MeasureT-loop
 μ-loop fit n first bad₀ j₀ bad j = n - j
 
-results-requires : tie.Need-results-requires Inv-loop μ-loop
-results-requires c κs = search needs
-
 add-n : tie.Need-add-n Inv-loop μ-loop
 add-n c = omega arith
-
-results-at-requires : tie.Need-results-at-requires Inv-loop μ-loop
-results-at-requires c κs = search needs
 
 loop-holds : tie.Need-loop-holds Inv-loop μ-loop
 loop-holds c = (omega arith, sym (any-none badResult (resultOf (c .before .before .before .args .fit .now))))
@@ -61,9 +55,9 @@ any-bad-result-spec =
     (tie.spec
     Inv-loop
     μ-loop
-    results-requires
+    (λ c κs. search needs)
     add-n
-    results-at-requires
+    (λ c κs. search needs)
     loop-holds
     bad-result-requires
     either-requires

@@ -23,17 +23,8 @@ abbrev μ-loop : tie.MeasureT-loop
 within : (c : tie.After-count-at Inv-loop μ-loop) → let b = c .before .before .before .before .before .before .before .args .fit .now in startAt b (c .before .before .loop .j) + countAt b (c .before .before .loop .j) ≤ attributeCount b
 within c = start-within (c .before .before .before .before .before .before .before .args .fit .now) (c .before .before .before .before .before .before .before .pre) (c .before .before .loop .j) (omega arith)
 
-results-requires : tie.Need-results-requires Inv-loop μ-loop
-results-requires c κs = search needs
-
 add-n : tie.Need-add-n Inv-loop μ-loop
 add-n c = omega arith
-
-results-at-requires : tie.Need-results-at-requires Inv-loop μ-loop
-results-at-requires c κs = search needs
-
-ids-at-requires : tie.Need-ids-at-requires Inv-loop μ-loop
-ids-at-requires c κs = search needs
 
 loop-holds : tie.Need-loop-holds Inv-loop μ-loop
 loop-holds c =
@@ -82,10 +73,10 @@ any-disordered-spec =
     (tie.spec
     Inv-loop
     μ-loop
-    results-requires
+    (λ c κs. search needs)
     add-n
-    results-at-requires
-    ids-at-requires
+    (λ c κs. search needs)
+    (λ c κs. search needs)
     loop-holds
     count-at-requires
     disordered-requires

@@ -10,15 +10,6 @@ use Rattle.fit.proofs.Soundness.{badMode}
 use Rattle.fit_refusals.proofs.bad_field.Statement.{statement}
 use Rattle.fit_refusals.proofs.bad_field.Tie as tie
 
-u32-at-requires : tie.Need-u32-at-requires
-u32-at-requires c κs = search needs
-
-u32-at-requires-2 : tie.Need-u32-at-requires-2
-u32-at-requires-2 c κs = search needs
-
-bad-mode-requires : tie.Need-bad-mode-requires
-bad-mode-requires c κs = search needs
-
 -- what `bad_mode` says, of the mode itself
 mode-told : (c : tie.After-bad-mode) → c .bad-mode .result ≡ badMode (fitOf (c .before .before .before .before .args .fit .now))
 mode-told c =
@@ -29,14 +20,8 @@ mode-told c =
 returns : tie.Need-returns
 returns c = sym (field-parts _ ∙ rw (sym (mode-told (c .before)), c .if1 .taken))
 
-any-bad-item-requires : tie.Need-any-bad-item-requires
-any-bad-item-requires c κs = search needs
-
 returns-2 : tie.Need-returns-2
 returns-2 c = sym (field-parts _ ∙ rw (sym (mode-told (c .before .before .before)), c .before .before .if1 .left, sym (c .before .any-bad-item .ensures), c .if2 .taken))
-
-any-bad-result-requires : tie.Need-any-bad-result-requires
-any-bad-result-requires c κs = search needs
 
 returns-3 : tie.Need-returns-3
 returns-3 c = sym (field-parts _ ∙ rw (sym (mode-told (c .before .before .before .before)), c .before .before .before .if1 .left, sym (c .before .before .any-bad-item .ensures), c .before .if2 .left, sym (c .any-bad-result .ensures)))
@@ -45,11 +30,11 @@ pub bad-field-spec : {M : Type 1} → statement M
 bad-field-spec =
     tie.close
     (tie.spec
-    u32-at-requires
-    u32-at-requires-2
-    bad-mode-requires
+    (λ c κs. search needs)
+    (λ c κs. search needs)
+    (λ c κs. search needs)
     returns
-    any-bad-item-requires
+    (λ c κs. search needs)
     returns-2
-    any-bad-result-requires
+    (λ c κs. search needs)
     returns-3)

@@ -7,33 +7,6 @@ use Rattle.fit.specs.Fit.{itemAt}
 use Rattle.fit_refusals.proofs.bad_item.Statement.{statement}
 use Rattle.fit_refusals.proofs.bad_item.Tie as tie
 
-mul-at : tie.Need-mul-at
-mul-at c = search needs
-
-add-at : tie.Need-add-at
-add-at c = search needs
-
-add-u8-at : tie.Need-add-u8-at
-add-u8-at c = search needs
-
-u8-at-requires : tie.Need-u8-at-requires
-u8-at-requires c κs = search needs
-
-add-u8-at-2 : tie.Need-add-u8-at-2
-add-u8-at-2 c = search needs
-
-u8-at-requires-2 : tie.Need-u8-at-requires-2
-u8-at-requires-2 c κs = search needs
-
-add-u16-at : tie.Need-add-u16-at
-add-u16-at c = search needs
-
-u16-at-requires : tie.Need-u16-at-requires
-u16-at-requires c κs = search needs
-
-bad-place-requires : tie.Need-bad-place-requires
-bad-place-requires c κs = search needs
-
 returns : tie.Need-returns
 returns c =
     let a = c .before .before .before .before .before .args in
@@ -48,13 +21,13 @@ pub bad-item-spec : {M : Type 1} → statement M
 bad-item-spec =
     tie.close
     (tie.spec
-    mul-at
-    add-at
-    add-u8-at
-    u8-at-requires
-    add-u8-at-2
-    u8-at-requires-2
-    add-u16-at
-    u16-at-requires
-    bad-place-requires
+    (λ c. search needs)
+    (λ c. search needs)
+    (λ c. search needs)
+    (λ c κs. search needs)
+    (λ c. search needs)
+    (λ c κs. search needs)
+    (λ c. search needs)
+    (λ c κs. search needs)
+    (λ c κs. search needs)
     returns)

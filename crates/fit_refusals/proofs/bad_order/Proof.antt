@@ -15,23 +15,11 @@ use Rattle.fit_refusals.proofs.Refused.{order-parts}
 use Rattle.fit_refusals.proofs.bad_order.Statement.{statement}
 use Rattle.fit_refusals.proofs.bad_order.Tie as tie
 
-skills-requires : tie.Need-skills-requires
-skills-requires c κs = search needs
-
-mul-part : tie.Need-mul-part
-mul-part c = search needs
-
-part-requires : tie.Need-part-requires
-part-requires c κs = search needs
-
 ascend-requires : tie.Need-ascend-requires
 ascend-requires c κs =
     let b = c .before .before .before .args .fit .now in
     let n = c .before .skills .result in
     omega (arith, ap length (c .part .ensures), part-length b 28 (4 * n) (omega arith))
-
-any-disordered-requires : tie.Need-any-disordered-requires
-any-disordered-requires c κs = search needs
 
 -- what `ascend` says, of the skill ids themselves
 skills-told : (c : tie.After-ascend) → let b = c .before .before .before .before .args .fit .now in c .ascend .result ≡ inOrder ltZ (table (skillCount b) (λ i. i32At b (skillsAt b + 4 * i)))
@@ -52,10 +40,10 @@ pub bad-order-spec : {M : Type 1} → statement M
 bad-order-spec =
     tie.close
     (tie.spec
-    skills-requires
-    mul-part
-    part-requires
+    (λ c κs. search needs)
+    (λ c. search needs)
+    (λ c κs. search needs)
     ascend-requires
-    any-disordered-requires
+    (λ c κs. search needs)
     returns
     returns-2)

@@ -10,15 +10,6 @@ use Rattle.fit.specs.Fit.{resultOf}
 use Rattle.fit_refusals.proofs.bad_result.Statement.{statement}
 use Rattle.fit_refusals.proofs.bad_result.Tie as tie
 
-mul-at : tie.Need-mul-at
-mul-at c = search needs
-
-add-at : tie.Need-add-at
-add-at c = search needs
-
-u8-at-requires : tie.Need-u8-at-requires
-u8-at-requires c κs = search needs
-
 returns : tie.Need-returns
 unfolding badResult
 returns c =
@@ -27,12 +18,6 @@ returns c =
     let e : c .before .u8-at .result ≡ resultOf b (a .j) .state = c .before .u8-at .ensures ∙ ap (λ (k : ℕ). u8At b (k + 4 * a .j)) (c .before .before .before .pre .0) in
     simp (sym e, lt-ltb 3 (c .before .u8-at .result) (omega arith))
 
-add-u8-at : tie.Need-add-u8-at
-add-u8-at c = search needs
-
-u8-at-requires-2 : tie.Need-u8-at-requires-2
-u8-at-requires-2 c κs = search needs
-
 returns-2 : tie.Need-returns-2
 unfolding badResult
 returns-2 c =
@@ -40,9 +25,9 @@ returns-2 c =
     let b = a .fit .now in
     let p = c .before .before .before .before .pre in
     let e : c .before .before .u8-at .result ≡ resultOf b (a .j) .state = c .before .before .u8-at .ensures ∙ ap (λ (k : ℕ). u8At b (k + 4 * a .j)) (p .0) in
-    let z : c .u8-at2 .result ≡ resultOf b (a .j) .zero = c .u8-at2 .ensures ∙ ap (λ (k : ℕ). u8At b (k + 4 * a .j + 1)) (p .0) in
+    let z : c .u8-at2 .result ≡ resultOf b (a .j) .reserved = c .u8-at2 .ensures ∙ ap (λ (k : ℕ). u8At b (k + 4 * a .j + 1)) (p .0) in
     simp (sym e, sym z, le-ltb 3 (c .before .before .u8-at .result) (omega arith))
 
 pub bad-result-spec : {M : Type 1} → statement M
 bad-result-spec =
-    tie.close (tie.spec mul-at add-at u8-at-requires returns add-u8-at u8-at-requires-2 returns-2)
+    tie.close (tie.spec (λ c. search needs) (λ c. search needs) (λ c κs. search needs) returns (λ c. search needs) (λ c κs. search needs) returns-2)

@@ -12,18 +12,6 @@ use Rattle.fit_refusals.proofs.bad_size.Tie as tie
 returns : tie.Need-returns
 returns c = sym (size-bad _ (λ z. omega arith))
 
-size-at-requires : tie.Need-size-at-requires
-size-at-requires c κs = search needs
-
-size-at-requires-2 : tie.Need-size-at-requires-2
-size-at-requires-2 c κs = search needs
-
-size-at-requires-3 : tie.Need-size-at-requires-3
-size-at-requires-3 c κs = search needs
-
-size-at-requires-4 : tie.Need-size-at-requires-4
-size-at-requires-4 c κs = search needs
-
 returns-2 : tie.Need-returns-2
 returns-2 c = sym (size-bad _ (λ z. omega arith))
 
@@ -36,50 +24,8 @@ returns-4 c = sym (size-bad _ (λ z. omega arith))
 returns-5 : tie.Need-returns-5
 returns-5 c = sym (size-bad _ (λ z. omega arith))
 
-mul-if6 : tie.Need-mul-if6
-mul-if6 c = search needs
-
-add-if6 : tie.Need-add-if6
-add-if6 c = search needs
-
-mul-if6-2 : tie.Need-mul-if6-2
-mul-if6-2 c = search needs
-
-add-if6-2 : tie.Need-add-if6-2
-add-if6-2 c = search needs
-
-mul-if6-3 : tie.Need-mul-if6-3
-mul-if6-3 c = search needs
-
-add-if6-3 : tie.Need-add-if6-3
-add-if6-3 c = search needs
-
-mul-if6-4 : tie.Need-mul-if6-4
-mul-if6-4 c = search needs
-
-add-if6-4 : tie.Need-add-if6-4
-add-if6-4 c = search needs
-
 returns-6 : tie.Need-returns-6
 returns-6 c = sym (size-bad _ (λ z. omega arith))
-
-mul-counted : tie.Need-mul-counted
-mul-counted c = search needs
-
-add-counted : tie.Need-add-counted
-add-counted c = search needs
-
-mul-counted-2 : tie.Need-mul-counted-2
-mul-counted-2 c = search needs
-
-add-counted-2 : tie.Need-add-counted-2
-add-counted-2 c = search needs
-
-add-counted-3 : tie.Need-add-counted-3
-add-counted-3 c = search needs
-
-counted-requires : tie.Need-counted-requires
-counted-requires c κs = search needs
 
 -- the counts are those of all results
 all-counted : (c : tie.After-counted) → let b = c .before .before .before .before .before .before .before .before .before .before .before .before .args .fit .now in c .counted .result ≡ startAt b (u32At b 8 + 2)
@@ -108,28 +54,28 @@ bad-size-spec =
     tie.close
     (tie.spec
     returns
-    size-at-requires
-    size-at-requires-2
-    size-at-requires-3
-    size-at-requires-4
+    (λ c κs. search needs)
+    (λ c κs. search needs)
+    (λ c κs. search needs)
+    (λ c κs. search needs)
     returns-2
     returns-3
     returns-4
     returns-5
-    mul-if6
-    add-if6
-    mul-if6-2
-    add-if6-2
-    mul-if6-3
-    add-if6-3
-    mul-if6-4
-    add-if6-4
+    (λ c. search needs)
+    (λ c. search needs)
+    (λ c. search needs)
+    (λ c. search needs)
+    (λ c. search needs)
+    (λ c. search needs)
+    (λ c. search needs)
+    (λ c. search needs)
     returns-6
-    mul-counted
-    add-counted
-    mul-counted-2
-    add-counted-2
-    add-counted-3
-    counted-requires
+    (λ c. search needs)
+    (λ c. search needs)
+    (λ c. search needs)
+    (λ c. search needs)
+    (λ c. search needs)
+    (λ c κs. search needs)
     returns-7
     returns-8)

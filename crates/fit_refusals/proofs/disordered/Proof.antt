@@ -15,18 +15,6 @@ use Rattle.fit.proofs.Decoded.{ids-all}
 use Rattle.fit_refusals.proofs.disordered.Statement.{statement}
 use Rattle.fit_refusals.proofs.disordered.Tie as tie
 
-mul-part : tie.Need-mul-part
-mul-part c = search needs
-
-add-part : tie.Need-add-part
-add-part c = search needs
-
-mul-part-2 : tie.Need-mul-part-2
-mul-part-2 c = search needs
-
-part-requires : tie.Need-part-requires
-part-requires c κs = search needs
-
 ascend-requires : tie.Need-ascend-requires
 ascend-requires c κs =
     let a = c .before .before .args in
@@ -42,4 +30,4 @@ returns c =
 
 pub disordered-spec : {M : Type 1} → statement M
 disordered-spec =
-    tie.close (tie.spec mul-part add-part mul-part-2 part-requires ascend-requires returns)
+    tie.close (tie.spec (λ c. search needs) (λ c. search needs) (λ c. search needs) (λ c κs. search needs) ascend-requires returns)

@@ -5,9 +5,6 @@ use Rattle.fit.proofs.Soundness.{sized, refusal}
 use Rattle.fit_refusals.proofs.verdict.Statement.{statement}
 use Rattle.fit_refusals.proofs.verdict.Tie as tie
 
-bad-size-requires : tie.Need-bad-size-requires
-bad-size-requires c κs = search needs
-
 returns : tie.Need-returns
 returns c = sym (refusal _ ∙ rw (sym (c .before .bad-size .ensures), c .if1 .taken))
 
@@ -30,7 +27,7 @@ pub verdict-spec : {M : Type 1} → statement M
 verdict-spec =
     tie.close
     (tie.spec
-    bad-size-requires
+    (λ c κs. search needs)
     returns
     bad-order-requires
     returns-2

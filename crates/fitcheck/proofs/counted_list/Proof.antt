@@ -9,15 +9,6 @@ use borrow.Author.Needs.{needs}
 use Rattle.fitcheck.proofs.counted_list.Statement.{statement}
 use Rattle.fitcheck.proofs.counted_list.Tie as tie
 
-slice-aggregate-validate : tie.Need-slice-aggregate-validate
-slice-aggregate-validate c = search needs
-
-slice-aggregate-validate-2 : tie.Need-slice-aggregate-validate-2
-slice-aggregate-validate-2 c = search needs
-
-validate-requires : tie.Need-validate-requires
-validate-requires c κs = search needs
-
 returns : tie.Need-returns
 returns c =
     let v = c .before .before .before in
@@ -30,14 +21,8 @@ returns-2 c =
     let a = v .before .before .before .before .before .before .args in
     gave-short (listOf (catalogueOf (a .catalogue .now)) (fitOf (a .fit .now))) (omega (arith, wrote-count (v .validate .ensures .1), c .if2 .taken))
 
-slice-aggregate-validate-3 : tie.Need-slice-aggregate-validate-3
-slice-aggregate-validate-3 c = search needs
-
 validate-requires-2 : tie.Need-validate-requires-2
 validate-requires-2 c κs = search (needs, c .before .before .before .before .before .before .before .before .before .before .before .before .pre)
-
-same-length : tie.Need-same-length
-same-length c = search needs
 
 returns-3 : tie.Need-returns-3
 returns-3 c =
@@ -51,12 +36,12 @@ pub counted-list-spec : {M : Type 1} → statement M
 counted-list-spec =
     tie.close
     (tie.spec
-    slice-aggregate-validate
-    slice-aggregate-validate-2
-    validate-requires
+    (λ c. search needs)
+    (λ c. search needs)
+    (λ c κs. search needs)
     returns
     returns-2
-    slice-aggregate-validate-3
+    (λ c. search needs)
     validate-requires-2
-    same-length
+    (λ c. search needs)
     returns-3)

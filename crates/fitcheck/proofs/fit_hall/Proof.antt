@@ -18,9 +18,6 @@ accepted c = omega (arith, c .before .catalogue-refusal .ensures, c .if1 .left)
 good : (c : tie.Else2) → badInput (c .before .before .before .before .before .before .args .input .now) ≡ false
 good c = sym (c .before .bad-input .ensures) ∙ c .if2 .left
 
-catalogue-refusal-requires : tie.Need-catalogue-refusal-requires
-catalogue-refusal-requires c κs = search needs
-
 mul-result : tie.Need-mul-result
 mul-result c = omega (arith, c .before .catalogue-refusal .ensures, unread-small (c .before .before .before .before .args .catalogue .now))
 
@@ -29,9 +26,6 @@ returns c =
     let a = c .before .before .before .before .args in
     let e = c .before .catalogue-refusal .ensures in
     omega (arith, e, hall-unread (a .catalogue .now) (a .input .now) (omega (arith, e, c .if1 .taken)))
-
-bad-input-requires : tie.Need-bad-input-requires
-bad-input-requires c κs = search needs
 
 returns-2 : tie.Need-returns-2
 returns-2 c =
@@ -52,10 +46,10 @@ pub fit-hall-spec : {M : Type 1} → statement M
 fit-hall-spec =
     tie.close
     (tie.spec
-    catalogue-refusal-requires
+    (λ c κs. search needs)
     mul-result
     returns
-    bad-input-requires
+    (λ c κs. search needs)
     returns-2
     numbers-requires
     returns-3)

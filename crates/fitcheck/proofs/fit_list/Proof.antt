@@ -1,9 +1,8 @@
 -- `fitcheck::fit_list` meets its contract: refusals 1 to 6 of the images, then the list.
 use native.Mathlib.Omega.{arith}
 use Prim.Native.Nat.{ℕ, _*_}
-use mathlib.Core.Path.{_≡_, sym, ap, _∙_}
-use mathlib.Core.List.{List, _++_}
-use Rattle.words.specs.Words.{firstOf}
+use mathlib.Core.Path.{sym, ap}
+use mathlib.Core.List.{_++_}
 use Rattle.catalogue.specs.Refusals.{catalogueRefusals}
 use Rattle.fit.specs.Refusals.{fitRefusals}
 use Rattle.fitcheck.proofs.First.{first-small, numbered-images, images-sound}
@@ -11,9 +10,6 @@ use Rattle.fitcheck.proofs.Giving.{gave-same, gave-refused, list-refuse
 use borrow.Author.Needs.{needs}
 use Rattle.fitcheck.proofs.fit_list.Statement.{statement}
 use Rattle.fitcheck.proofs.fit_list.Tie as tie
-
-image-refusal-requires : tie.Need-image-refusal-requires
-image-refusal-requires c κs = search needs
 
 mul-result : tie.Need-mul-result
 mul-result c =
@@ -36,9 +32,6 @@ listed-requires c κs =
     let a = i .before .before .before .before .before .args in
     images-sound (a .catalogue .now) (a .fit .now) (omega (arith, i .before .image-refusal .ensures, i .if1 .left))
 
-same-length : tie.Need-same-length
-same-length c = search needs
-
 returns-2 : tie.Need-returns-2
 returns-2 c =
     let i = c .before .before .before .before in
@@ -49,4 +42,4 @@ returns-2 c =
 pub fit-list-spec : {M : Type 1} → statement M
 fit-list-spec =
     tie.close
-    (tie.spec image-refusal-requires mul-result returns listed-requires same-length returns-2)
+    (tie.spec (λ c κs. search needs) mul-result returns listed-requires (λ c. search needs) returns-2)

@@ -5,21 +5,6 @@ use borrow.Author.Needs.{needs}
 use Rattle.fitcheck.proofs.fit_refusal.Statement.{statement}
 use Rattle.fitcheck.proofs.fit_refusal.Tie as tie
 
-verdict-requires : tie.Need-verdict-requires
-verdict-requires c κs = search needs
-
-enum-told : tie.Need-enum-told
-enum-told c = search needs
-
-enum-told-2 : tie.Need-enum-told-2
-enum-told-2 c = search needs
-
-enum-told-3 : tie.Need-enum-told-3
-enum-told-3 c = search needs
-
-enum-told-4 : tie.Need-enum-told-4
-enum-told-4 c = search needs
-
 returns : tie.Need-returns
 returns c = sym (ap numberOf (c .enum-told .given .1)) ∙ c .before .before .verdict .ensures
 
@@ -36,11 +21,11 @@ pub fit-refusal-spec : {M : Type 1} → statement M
 fit-refusal-spec =
     tie.close
     (tie.spec
-    verdict-requires
-    enum-told
-    enum-told-2
-    enum-told-3
-    enum-told-4
+    (λ c κs. search needs)
+    (λ c. search needs)
+    (λ c. search needs)
+    (λ c. search needs)
+    (λ c. search needs)
     returns
     returns-2
     returns-3

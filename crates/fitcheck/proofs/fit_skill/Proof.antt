@@ -1,9 +1,8 @@
 -- `fitcheck::fit_skill` meets its contract: refusals 1 to 6 of the images, then the walk's list.
 use native.Mathlib.Omega.{arith}
 use Prim.Native.Nat.{ℕ, _*_}
-use mathlib.Core.Path.{_≡_, sym, ap, _∙_}
-use mathlib.Core.List.{List, _++_}
-use Rattle.words.specs.Words.{firstOf}
+use mathlib.Core.Path.{sym, ap}
+use mathlib.Core.List.{_++_}
 use Rattle.catalogue.specs.Refusals.{catalogueRefusals}
 use Rattle.fit.specs.Refusals.{fitRefusals}
 use Rattle.fitcheck.proofs.First.{first-small, numbered-images, images-sound}
@@ -12,9 +11,6 @@ use Rattle.fitcheck.proofs.Skills.{skill-refused, skill-past}
 use borrow.Author.Needs.{needs}
 use Rattle.fitcheck.proofs.fit_skill.Statement.{statement}
 use Rattle.fitcheck.proofs.fit_skill.Tie as tie
-
-image-refusal-requires : tie.Need-image-refusal-requires
-image-refusal-requires c κs = search needs
 
 mul-result : tie.Need-mul-result
 mul-result c =
@@ -37,9 +33,6 @@ skilled-requires c κs =
     let a = i .before .before .before .before .before .args in
     images-sound (a .catalogue .now) (a .fit .now) (omega (arith, i .before .image-refusal .ensures, i .if1 .left))
 
-same-length : tie.Need-same-length
-same-length c = search needs
-
 returns-2 : tie.Need-returns-2
 returns-2 c =
     let i = c .before .before .before .before in
@@ -50,4 +43,4 @@ returns-2 c =
 pub fit-skill-spec : {M : Type 1} → statement M
 fit-skill-spec =
     tie.close
-    (tie.spec image-refusal-requires mul-result returns skilled-requires same-length returns-2)
+    (tie.spec (λ c κs. search needs) mul-result returns skilled-requires (λ c. search needs) returns-2)

@@ -6,17 +6,11 @@ use borrow.Author.Needs.{needs}
 use Rattle.fitcheck.proofs.image_refusal.Statement.{statement}
 use Rattle.fitcheck.proofs.image_refusal.Tie as tie
 
-catalogue-refusal-requires : tie.Need-catalogue-refusal-requires
-catalogue-refusal-requires c κs = search needs
-
 returns : tie.Need-returns
 returns c =
     let k = c .before .catalogue-refusal .ensures in
     let a = c .before .before .before .before .args in
     k ∙ catalogue-first (a .catalogue .now) (a .fit .now) (omega (arith, k, c .if1 .taken))
-
-fit-refusal-requires : tie.Need-fit-refusal-requires
-fit-refusal-requires c κs = search needs
 
 returns-2 : tie.Need-returns-2
 returns-2 c =
@@ -27,4 +21,4 @@ returns-2 c =
 pub image-refusal-spec : {M : Type 1} → statement M
 image-refusal-spec =
     tie.close
-    (tie.spec catalogue-refusal-requires returns fit-refusal-requires returns-2)
+    (tie.spec (λ c κs. search needs) returns (λ c κs. search needs) returns-2)

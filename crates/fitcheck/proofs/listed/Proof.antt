@@ -7,16 +7,10 @@ use borrow.Author.Needs.{needs}
 use Rattle.fitcheck.proofs.listed.Statement.{statement}
 use Rattle.fitcheck.proofs.listed.Tie as tie
 
-on-hull-requires : tie.Need-on-hull-requires
-on-hull-requires c κs = search needs
-
 not-a-hull-requires : tie.Need-not-a-hull-requires
 not-a-hull-requires c κs =
     let i = c .before in
     sym (i .before .on-hull .ensures) ∙ not-true _ (i .if1 .taken)
-
-same-length : tie.Need-same-length
-same-length c = search needs
 
 returns : tie.Need-returns
 returns c =
@@ -40,9 +34,6 @@ hull-list-requires c κs =
     let s = i .before .before .before .before .before in
     (s .pre .0, s .pre .1, sym (i .before .on-hull .ensures) ∙ not-false _ (i .if1 .left))
 
-same-length-2 : tie.Need-same-length-2
-same-length-2 c = search needs
-
 returns-3 : tie.Need-returns-3
 returns-3 c =
     let i = c .before .before .before .before in
@@ -51,4 +42,4 @@ returns-3 c =
 pub listed-spec : {M : Type 1} → statement M
 listed-spec =
     tie.close
-    (tie.spec on-hull-requires not-a-hull-requires same-length returns too-many-drones-requires returns-2 hull-list-requires same-length-2 returns-3)
+    (tie.spec (λ c κs. search needs) not-a-hull-requires (λ c. search needs) returns too-many-drones-requires returns-2 hull-list-requires (λ c. search needs) returns-3)

@@ -1,9 +1,9 @@
 -- `fitcheck::not_a_hull` meets its contract: one entry, where there is room for it.
 use native.Mathlib.Omega.{arith}
-use mathlib.Core.Path.{sym, ap}
+use mathlib.Core.Path.{ap}
 use mathlib.Core.List.{List}
 use Rattle.entry.specs.declared.Entry.{Entry}
-use Rattle.entry.proofs.Wrote.{wrote-same, wrote-count}
+use Rattle.entry.proofs.Wrote.{wrote-same}
 use lib.ListN.{length}
 use Rattle.catalogue.specs.Catalogue.{catalogueOf}
 use Rattle.fit.specs.Fit.{fitOf}
@@ -20,12 +20,6 @@ returns c =
     let one = ap (λ (es : List Entry). length es) (no-hull (s .args .catalogue .now) (s .args .fit .now) (s .pre)) in
     gave-short (listOf (catalogueOf (s .args .catalogue .now)) (fitOf (s .args .fit .now))) (omega (arith, one, c .if1 .taken))
 
-emit-requires : tie.Need-emit-requires
-emit-requires c κs = search needs
-
-same-length : tie.Need-same-length
-same-length c = search needs
-
 returns-2 : tie.Need-returns-2
 returns-2 c =
     let i = c .before .before .before .before in
@@ -37,4 +31,4 @@ returns-2 c =
 pub not-a-hull-spec : {M : Type 1} → statement M
 not-a-hull-spec =
     tie.close
-    (tie.spec returns emit-requires same-length returns-2)
+    (tie.spec returns (λ c κs. search needs) (λ c. search needs) returns-2)

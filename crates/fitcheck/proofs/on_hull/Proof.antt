@@ -8,12 +8,6 @@ use borrow.Author.Needs.{needs}
 use Rattle.fitcheck.proofs.on_hull.Statement.{statement}
 use Rattle.fitcheck.proofs.on_hull.Tie as tie
 
-ship-requires : tie.Need-ship-requires
-ship-requires c κs = search needs
-
-is-hull-requires : tie.Need-is-hull-requires
-is-hull-requires c κs = search needs
-
 returns : tie.Need-returns
 returns c =
     let s = c .before in
@@ -23,4 +17,4 @@ returns c =
 pub on-hull-spec : {M : Type 1} → statement M
 on-hull-spec =
     tie.close
-    (tie.spec ship-requires is-hull-requires returns)
+    (tie.spec (λ c κs. search needs) (λ c κs. search needs) returns)

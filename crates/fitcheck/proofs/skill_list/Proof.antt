@@ -9,12 +9,6 @@ use borrow.Author.Needs.{needs}
 use Rattle.fitcheck.proofs.skill_list.Statement.{statement}
 use Rattle.fitcheck.proofs.skill_list.Tie as tie
 
-report-requires : tie.Need-report-requires
-report-requires c κs = search needs
-
-same-length : tie.Need-same-length
-same-length c = search needs
-
 returns : tie.Need-returns
 returns c =
     let w = c .before .before .report .ensures in
@@ -22,23 +16,11 @@ returns c =
     let a = i .before .before .before .args in
     gave-list (reported (fitOf (a .fit .now)) (a .result) (walkOf (a .walk))) (omega (arith, w .1, wrote-count (w .0), i .if1 .taken)) (w .0)
 
-slice-aggregate-report : tie.Need-slice-aggregate-report
-slice-aggregate-report c = search needs
-
-report-requires-2 : tie.Need-report-requires-2
-report-requires-2 c κs = search needs
-
 returns-2 : tie.Need-returns-2
 returns-2 c =
     let w = c .before .before .report2 .ensures in
     let a = c .before .before .before .before .before .before .before .args in
     gave-short (reported (fitOf (a .fit .now)) (a .result) (walkOf (a .walk))) (omega (arith, wrote-count (w .0), c .if2 .taken))
-
-report-requires-3 : tie.Need-report-requires-3
-report-requires-3 c κs = search needs
-
-same-length-2 : tie.Need-same-length-2
-same-length-2 c = search needs
 
 returns-3 : tie.Need-returns-3
 returns-3 c =
@@ -51,4 +33,4 @@ returns-3 c =
 pub skill-list-spec : {M : Type 1} → statement M
 skill-list-spec =
     tie.close
-    (tie.spec report-requires same-length returns slice-aggregate-report report-requires-2 returns-2 report-requires-3 same-length-2 returns-3)
+    (tie.spec (λ c κs. search needs) (λ c. search needs) returns (λ c. search needs) (λ c κs. search needs) returns-2 (λ c κs. search needs) (λ c. search needs) returns-3)

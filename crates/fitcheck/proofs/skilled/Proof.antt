@@ -11,23 +11,11 @@ use borrow.Author.Needs.{needs}
 use Rattle.fitcheck.proofs.skilled.Statement.{statement}
 use Rattle.fitcheck.proofs.skilled.Tie as tie
 
-result-count-requires : tie.Need-result-count-requires
-result-count-requires c κs = search needs
-
-add-if1 : tie.Need-add-if1
-add-if1 c = search needs
-
 returns : tie.Need-returns
 returns c =
     let r = c .before in
     let a = r .before .before .before .before .args in
     gave-same (sym (answer-true 8 _ _ (omega arith) (no-result (a .fit .now) (a .result) (omega (arith, r .result-count .ensures, c .if1 .taken))))) (gave-refused _ 8 (omega arith))
-
-starts-requires : tie.Need-starts-requires
-starts-requires c κs = search needs
-
-wanted-skills-requires : tie.Need-wanted-skills-requires
-wanted-skills-requires c κs = search needs
 
 returns-2 : tie.Need-returns-2
 returns-2 c =
@@ -41,12 +29,6 @@ returns-2 c =
     (sym (answer-false 8 _ _ (has-result (a .fit .now) (a .result) small)
     ∙ answer-true 9 _ _ (omega arith) (over-many (a .catalogue .now) (a .fit .now) (a .result) (v .wanted-skills .result) (v .wanted-skills .ensures) below (c .if2 .taken))))
     (gave-refused _ 9 (omega arith))
-
-skill-list-requires : tie.Need-skill-list-requires
-skill-list-requires c κs = search needs
-
-same-length : tie.Need-same-length
-same-length c = search needs
 
 returns-3 : tie.Need-returns-3
 returns-3 c =
@@ -67,4 +49,4 @@ returns-3 c =
 pub skilled-spec : {M : Type 1} → statement M
 skilled-spec =
     tie.close
-    (tie.spec result-count-requires add-if1 returns starts-requires wanted-skills-requires returns-2 skill-list-requires same-length returns-3)
+    (tie.spec (λ c κs. search needs) (λ c. search needs) returns (λ c κs. search needs) (λ c κs. search needs) returns-2 (λ c κs. search needs) (λ c. search needs) returns-3)

@@ -7,18 +7,6 @@ use borrow.Author.Needs.{needs}
 use Rattle.fitcheck.proofs.too_many_drones.Statement.{statement}
 use Rattle.fitcheck.proofs.too_many_drones.Tie as tie
 
-attribute-id-requires : tie.Need-attribute-id-requires
-attribute-id-requires c κs = search needs
-
-enum-told : tie.Need-enum-told
-enum-told c = search needs
-
-launched-requires : tie.Need-launched-requires
-launched-requires c κs = search needs
-
-enum-told-2 : tie.Need-enum-told-2
-enum-told-2 c = search needs
-
 returns : tie.Need-returns
 returns c =
     let t = c .before .before .before in
@@ -36,4 +24,4 @@ returns-2 c =
 pub too-many-drones-spec : {M : Type 1} → statement M
 too-many-drones-spec =
     tie.close
-    (tie.spec attribute-id-requires enum-told launched-requires enum-told-2 returns returns-2)
+    (tie.spec (λ c κs. search needs) (λ c. search needs) (λ c κs. search needs) (λ c. search needs) returns returns-2)

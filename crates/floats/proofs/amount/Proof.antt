@@ -5,12 +5,6 @@ use Rattle.words.specs.Words.{given}
 use Rattle.floats.proofs.amount.Statement.{statement}
 use Rattle.floats.proofs.amount.Tie as tie
 
-enum-known-v : tie.Need-enum-known-v
-enum-known-v c = search needs
-
-enum-told : tie.Need-enum-told
-enum-told c = search needs
-
 returns : tie.Need-returns
 unfolding given
 returns c = rw (c .before .v .given .1)
@@ -20,4 +14,4 @@ unfolding given ofBits
 returns-2 c = rw (c .enum-told .given .1)
 
 pub amount-spec : {M : Type 1} → statement M
-amount-spec = tie.close (tie.spec enum-known-v enum-told returns returns-2)
+amount-spec = tie.close (tie.spec (λ c. search needs) (λ c. search needs) returns returns-2)

@@ -4,9 +4,6 @@ use borrow.Author.Needs.{needs}
 use Rattle.floats.proofs.at_most.Statement.{statement}
 use Rattle.floats.proofs.at_most.Tie as tie
 
-to-u64-requires : tie.Need-to-u64-requires
-to-u64-requires c κs = search needs
-
 returns : tie.Need-returns
 returns c = omega arith
 
@@ -14,4 +11,4 @@ returns-2 : tie.Need-returns-2
 returns-2 c = omega arith
 
 pub at-most-spec : {M : Type 1} → statement M
-at-most-spec = tie.close (tie.spec to-u64-requires returns returns-2)
+at-most-spec = tie.close (tie.spec (λ c κs. search needs) returns returns-2)

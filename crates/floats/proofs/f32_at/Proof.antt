@@ -6,15 +6,9 @@ use Rattle.floats.specs.Floats.{f32At}
 use Rattle.floats.proofs.f32_at.Statement.{statement}
 use Rattle.floats.proofs.f32_at.Tie as tie
 
-u32-at-requires : tie.Need-u32-at-requires
-u32-at-requires c κs = search needs
-
-of-bits32-requires : tie.Need-of-bits32-requires
-of-bits32-requires c κs = search needs
-
 returns : tie.Need-returns
 unfolding f32At
 returns c = c .of-bits32 .ensures ∙ ap (ofBits binary32) (c .before .u32-at .ensures)
 
 pub f32-at-spec : {M : Type 1} → statement M
-f32-at-spec = tie.close (tie.spec u32-at-requires of-bits32-requires returns)
+f32-at-spec = tie.close (tie.spec (λ c κs. search needs) (λ c κs. search needs) returns)

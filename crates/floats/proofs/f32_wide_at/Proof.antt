@@ -4,14 +4,8 @@ use borrow.Author.Needs.{needs}
 use Rattle.floats.proofs.f32_wide_at.Statement.{statement}
 use Rattle.floats.proofs.f32_wide_at.Tie as tie
 
-f32-at-requires : tie.Need-f32-at-requires
-f32-at-requires c κs = search needs
-
-f32-to-f64-with-nan-requires : tie.Need-f32-to-f64-with-nan-requires
-f32-to-f64-with-nan-requires c κs = search needs
-
 returns : tie.Need-returns
 returns c = c .f32-to-f64-with-nan .ensures ∙ c .before .f32-at .ensures
 
 pub f32-wide-at-spec : {M : Type 1} → statement M
-f32-wide-at-spec = tie.close (tie.spec f32-at-requires f32-to-f64-with-nan-requires returns)
+f32-wide-at-spec = tie.close (tie.spec (λ c κs. search needs) (λ c κs. search needs) returns)

@@ -6,15 +6,9 @@ use Rattle.floats.specs.Floats.{f64At}
 use Rattle.floats.proofs.f64_at.Statement.{statement}
 use Rattle.floats.proofs.f64_at.Tie as tie
 
-u64-at-requires : tie.Need-u64-at-requires
-u64-at-requires c κs = search needs
-
-of-bits64-requires : tie.Need-of-bits64-requires
-of-bits64-requires c κs = search needs
-
 returns : tie.Need-returns
 unfolding f64At
 returns c = c .of-bits64 .ensures ∙ ap (ofBits binary64) (c .before .u64-at .ensures)
 
 pub f64-at-spec : {M : Type 1} → statement M
-f64-at-spec = tie.close (tie.spec u64-at-requires of-bits64-requires returns)
+f64-at-spec = tie.close (tie.spec (λ c κs. search needs) (λ c κs. search needs) returns)

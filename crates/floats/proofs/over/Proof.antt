@@ -4,12 +4,9 @@ use Rattle.floats.specs.Floats.{over}
 use Rattle.floats.proofs.over.Statement.{statement}
 use Rattle.floats.proofs.over.Tie as tie
 
-abs-requires : tie.Need-abs-requires
-abs-requires c κs = search needs
-
 returns : tie.Need-returns
 unfolding over
 returns c = rw (c .before .before .abs .ensures)
 
 pub over-spec : {M : Type 1} → statement M
-over-spec = tie.close (tie.spec abs-requires returns)
+over-spec = tie.close (tie.spec (λ c κs. search needs) returns)

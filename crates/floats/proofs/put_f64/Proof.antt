@@ -6,19 +6,10 @@ use Rattle.image.specs.Bytes.{le, put}
 use Rattle.floats.proofs.put_f64.Statement.{statement}
 use Rattle.floats.proofs.put_f64.Tie as tie
 
-f64-bits-requires : tie.Need-f64-bits-requires
-f64-bits-requires c κs = search needs
-
-put-u64-requires : tie.Need-put-u64-requires
-put-u64-requires c κs = search needs
-
-same-length : tie.Need-same-length
-same-length c = search needs
-
 returns : tie.Need-returns
 returns c =
     let a = c .before .before .before .before .before .before .args in
     c .before .before .put-u64 .ensures ∙ ap (λ (n : ℕ). put (a .out .now) (a .at) (le 8 n)) (c .before .before .before .f64-bits .ensures)
 
 pub put-f64-spec : {M : Type 1} → statement M
-put-f64-spec = tie.close (tie.spec f64-bits-requires put-u64-requires same-length returns)
+put-f64-spec = tie.close (tie.spec (λ c κs. search needs) (λ c κs. search needs) (λ c. search needs) returns)

@@ -7,32 +7,11 @@ use Rattle.floats.proofs.Casts.{i32-below, i32-above}
 use Rattle.floats.proofs.to_i32.Statement.{statement}
 use Rattle.floats.proofs.to_i32.Tie as tie
 
-at-most-requires : tie.Need-at-most-requires
-at-most-requires c κs = search needs
-
-sub-signed : tie.Need-sub-signed
-sub-signed c = search needs
-
-cast-signed : tie.Need-cast-signed
-cast-signed c = search needs
-
-signed-requires : tie.Need-signed-requires
-signed-requires c κs = search needs
-
 returns : tie.Need-returns
 returns c =
     toZ-ofZ w32 (c .signed .result) (record { sfits = c .signed .ok })
     ∙ c .signed .ensures
     ∙ i32-below (c .before .before .before .args .x) (c .before .before .at-most .result) (c .before .before .at-most .ensures) (c .before .if1 .taken)
-
-at-most-requires-2 : tie.Need-at-most-requires-2
-at-most-requires-2 c κs = search needs
-
-cast-signed-2 : tie.Need-cast-signed-2
-cast-signed-2 c = search needs
-
-signed-requires-2 : tie.Need-signed-requires-2
-signed-requires-2 c κs = search needs
 
 returns-2 : tie.Need-returns-2
 returns-2 c =
@@ -44,12 +23,12 @@ pub to-i32-spec : {M : Type 1} → statement M
 to-i32-spec =
     tie.close
     (tie.spec
-    at-most-requires
-    sub-signed
-    cast-signed
-    signed-requires
+    (λ c κs. search needs)
+    (λ c. search needs)
+    (λ c. search needs)
+    (λ c κs. search needs)
     returns
-    at-most-requires-2
-    cast-signed-2
-    signed-requires-2
+    (λ c κs. search needs)
+    (λ c. search needs)
+    (λ c κs. search needs)
     returns-2)

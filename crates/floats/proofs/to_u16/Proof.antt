@@ -6,14 +6,8 @@ use Rattle.floats.proofs.Casts.{unsigned}
 use Rattle.floats.proofs.to_u16.Statement.{statement}
 use Rattle.floats.proofs.to_u16.Tie as tie
 
-at-most-requires : tie.Need-at-most-requires
-at-most-requires c κs = search needs
-
-cast-result : tie.Need-cast-result
-cast-result c = search needs
-
 returns : tie.Need-returns
 returns c = c .at-most .ensures ∙ unsigned 16 (lit≤ tt) (c .before .args .x)
 
 pub to-u16-spec : {M : Type 1} → statement M
-to-u16-spec = tie.close (tie.spec at-most-requires cast-result returns)
+to-u16-spec = tie.close (tie.spec (λ c κs. search needs) (λ c. search needs) returns)

@@ -1,8 +1,8 @@
 -- `image::bits` meets its contract, by the sign of the number.
 use mathlib.Core.Path.{_≡_, sym, ap, subst, _∙_}
-use Prim.Native.Nat.{ℕ, _<_, _-_}
+use Prim.Native.Nat.{_-_}
 use native.Mathlib.Omega.{arith}
-use lib.IntN.{ℤ, pos, negsuc, natAbs, _-ℤ_}
+use lib.IntN.{ℤ, pos, negsuc, _-ℤ_}
 use lib.Signed.{mag}
 use mir.Syntax.{w32}
 use mir.Val.{toZ, ofZ, SFits}
@@ -10,8 +10,6 @@ use mir.ValLaws.{toZ-ofZ}
 use Rattle.image.proofs.Signs.{neg-of, pos-of, bits-ofZ}
 use Rattle.image.proofs.bits.Statement.{statement}
 use Rattle.image.proofs.bits.Tie as tie
-use Rattle.image.proofs.bits.Reads as reads
-use Rattle.image.proofs.bits.Lts as lts
 
 neg : (c : tie.Then1) → (negsuc 0 -ℤ toZ w32 (ofZ w32 (c .before .args .z)) ≡ pos (mag (c .before .args .z))) × (c .before .args .z ≡ negsuc (mag (c .before .args .z)))
 neg c = neg-of (c .before .args .z) _ (toZ-ofZ w32 (c .before .args .z) (c .before .fits .z)) (c .if1 .taken)

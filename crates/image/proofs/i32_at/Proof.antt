@@ -7,15 +7,9 @@ use Rattle.image.specs.Bytes.{signed32, i32At}
 use Rattle.image.proofs.i32_at.Statement.{statement}
 use Rattle.image.proofs.i32_at.Tie as tie
 
-u32-at-requires : tie.Need-u32-at-requires
-u32-at-requires c κs = search needs
-
-signed-requires : tie.Need-signed-requires
-signed-requires c κs = search needs
-
 returns : tie.Need-returns
 unfolding i32At
 returns c = toZ-ofZ w32 (c .signed .result) (record { sfits = c .signed .ok }) ∙ c .signed .ensures ∙ ap signed32 (c .before .u32-at .ensures)
 
 pub i32-at-spec : {M : Type 1} → statement M
-i32-at-spec = tie.close (tie.spec u32-at-requires signed-requires returns)
+i32-at-spec = tie.close (tie.spec (λ c κs. search needs) (λ c κs. search needs) returns)

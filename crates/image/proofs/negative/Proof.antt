@@ -1,6 +1,5 @@
--- `image::negative` meets its contract: -1 - k, in the machine's words and in plain ones. Assumes nothing.
+-- `image::negative` meets its contract: -1 - k, in the machine's words and in plain ones.
 use mathlib.Core.Path.{_≡_, sym, subst, _∙_, ap}
-use native.Mathlib.Omega.{arith}
 use lib.IntN.{ℤ, negsuc, _-ℤ_}
 use mir.Syntax.{w32}
 use mir.Val.{SFits, toZ, ofZ}
@@ -16,9 +15,6 @@ plain c = ap (λ (z : ℤ). negsuc 0 -ℤ z) (toZ-pos w32 (c .args .k) (c .pre))
 in-range : (c : tie.Start) → SFits w32 (negsuc (c .args .k))
 in-range c = record { sfits = c .pre }
 
-cast-result : tie.Need-cast-result
-cast-result c = search needs
-
 sub-result : tie.Need-sub-result
 sub-result c = subst (λ (z : ℤ). SFits w32 z) (sym (plain c)) (in-range c)
 
@@ -26,4 +22,4 @@ returns : tie.Need-returns
 returns c = ap (λ (z : ℤ). toZ w32 (ofZ w32 z)) (plain c) ∙ toZ-ofZ w32 (negsuc (c .args .k)) (in-range c)
 
 pub negative-spec : {M : Type 1} → statement M
-negative-spec = tie.close (tie.spec cast-result sub-result returns)
+negative-spec = tie.close (tie.spec (λ c. search needs) sub-result returns)

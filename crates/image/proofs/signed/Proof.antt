@@ -7,18 +7,6 @@ use borrow.Author.Tests.{lt-ltb, le-ltb}
 use borrow.Author.Needs.{needs}
 use Rattle.image.proofs.signed.Statement.{statement}
 use Rattle.image.proofs.signed.Tie as tie
-use Rattle.image.proofs.signed.Reads as reads
-use Rattle.image.proofs.signed.Lts as lts
-use Rattle.image.proofs.negative.Reads as negative-reads
-
-cast-result : tie.Need-cast-result
-cast-result c = search needs
-
-sub-negative : tie.Need-sub-negative
-sub-negative c = search needs
-
-negative-requires : tie.Need-negative-requires
-negative-requires c κs = search needs
 
 returns : tie.Need-returns
 unfolding signed32
@@ -32,4 +20,4 @@ returns-2 c =
     ∙ simp (le-ltb _ _ (c .before .if1 .left))
 
 pub signed-spec : {M : Type 1} → statement M
-signed-spec = tie.close (tie.spec cast-result sub-negative negative-requires returns returns-2)
+signed-spec = tie.close (tie.spec (λ c. search needs) (λ c. search needs) (λ c κs. search needs) returns returns-2)

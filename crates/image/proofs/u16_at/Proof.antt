@@ -4,12 +4,9 @@ use Rattle.image.specs.Bytes.{u16At}
 use Rattle.image.proofs.u16_at.Statement.{statement}
 use Rattle.image.proofs.u16_at.Tie as tie
 
-two-requires : tie.Need-two-requires
-two-requires c κs = search needs
-
 returns : tie.Need-returns
 unfolding u16At
 returns c = c .two .ensures
 
 pub u16-at-spec : {M : Type 1} → statement M
-u16-at-spec = tie.close (tie.spec two-requires returns)
+u16-at-spec = tie.close (tie.spec (λ c κs. search needs) returns)

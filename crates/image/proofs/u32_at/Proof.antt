@@ -4,12 +4,9 @@ use Rattle.image.specs.Bytes.{u32At}
 use Rattle.image.proofs.u32_at.Statement.{statement}
 use Rattle.image.proofs.u32_at.Tie as tie
 
-four-requires : tie.Need-four-requires
-four-requires c κs = search needs
-
 returns : tie.Need-returns
 unfolding u32At
 returns c = c .four .ensures
 
 pub u32-at-spec : {M : Type 1} → statement M
-u32-at-spec = tie.close (tie.spec four-requires returns)
+u32-at-spec = tie.close (tie.spec (λ c κs. search needs) returns)

@@ -39,15 +39,6 @@ capital-id t =
     sym (m .before .before .attribute-id2 .ensures) ∙ ap idOf (m .of-capital .given .1)
     ∙ ap some (sym (toZ-ofZ w32 (m .of-capital .given .0 .0) (record { sfits = t .before .known-told2 .given .0 .1 })))
 
-attribute-id-requires : tie.Need-attribute-id-requires Inv-loop μ-loop
-attribute-id-requires c κs = search needs
-
-enum-known-of-volume : tie.Need-enum-known-of-volume Inv-loop μ-loop
-enum-known-of-volume c = search needs
-
-enum-told : tie.Need-enum-told Inv-loop μ-loop
-enum-told c = search needs
-
 returns : tie.Need-returns Inv-loop μ-loop
 unfolding contextOf context
 returns c =
@@ -55,24 +46,12 @@ returns c =
     let a = f .before .before .before .before .args in
     (capital-no-volume (contextOf (a .catalogue .now) (a .fit .now)) (pairsOf (a .catalogue .now) (a .fit .now)) (sym (f .attribute-id .ensures) ∙ ap idOf (c .enum-told .given .1)), omega arith)
 
-attribute-id-requires-2 : tie.Need-attribute-id-requires-2 Inv-loop μ-loop
-attribute-id-requires-2 c κs = search needs
-
-enum-known-of-capital : tie.Need-enum-known-of-capital Inv-loop μ-loop
-enum-known-of-capital c = search needs
-
-enum-told-2 : tie.Need-enum-told-2 Inv-loop μ-loop
-enum-told-2 c = search needs
-
 returns-2 : tie.Need-returns-2 Inv-loop μ-loop
 unfolding contextOf context
 returns-2 c =
     let d = c .before .before in
     let a = d .before .before .before .before .before .before .before .before .args in
     (capital-no-capital (contextOf (a .catalogue .now) (a .fit .now)) (pairsOf (a .catalogue .now) (a .fit .now)) _ (volume-id d) (sym (d .attribute-id2 .ensures) ∙ ap idOf (c .enum-told2 .given .1)), omega arith)
-
-takes-capitals-requires : tie.Need-takes-capitals-requires Inv-loop μ-loop
-takes-capitals-requires c κs = search needs
 
 returns-3 : tie.Need-returns-3 Inv-loop μ-loop
 unfolding contextOf context
@@ -82,20 +61,8 @@ returns-3 c =
     let a = d .before .before .before .before .before .before .before .before .args in
     (capital-taken (contextOf (a .catalogue .now) (a .fit .now)) (pairsOf (a .catalogue .now) (a .fit .now)) _ _ (volume-id d) (capital-id t) (sym (t .takes-capitals .ensures) ∙ c .if1 .taken), omega arith)
 
-pair-count-requires : tie.Need-pair-count-requires Inv-loop μ-loop
-pair-count-requires c κs = search needs
-
 loop-holds : tie.Need-loop-holds Inv-loop μ-loop
 loop-holds c = passed-none _ _ _ _ _
-
-capital-item-at-requires : tie.Need-capital-item-at-requires Inv-loop μ-loop
-capital-item-at-requires c κs = search needs
-
-add-i : tie.Need-add-i Inv-loop μ-loop
-add-i c = search needs
-
-loop-less : tie.Need-loop-less Inv-loop μ-loop
-loop-less c = search needs
 
 loop-again : tie.Need-loop-again Inv-loop μ-loop
 loop-again c =
@@ -121,21 +88,21 @@ capital-item-spec =
     (tie.spec
     Inv-loop
     μ-loop
-    attribute-id-requires
-    enum-known-of-volume
-    enum-told
+    (λ c κs. search needs)
+    (λ c. search needs)
+    (λ c. search needs)
     returns
-    attribute-id-requires-2
-    enum-known-of-capital
-    enum-told-2
+    (λ c κs. search needs)
+    (λ c. search needs)
+    (λ c. search needs)
     returns-2
-    takes-capitals-requires
+    (λ c κs. search needs)
     returns-3
-    pair-count-requires
+    (λ c κs. search needs)
     loop-holds
-    capital-item-at-requires
-    add-i
-    loop-less
+    (λ c κs. search needs)
+    (λ c. search needs)
+    (λ c. search needs)
     loop-again
     same-length
     returns-4)

@@ -10,18 +10,6 @@ use borrow.Author.Needs.{needs}
 use Rattle.item.proofs.capital_item_at.Statement.{statement}
 use Rattle.item.proofs.capital_item_at.Tie as tie
 
-is-capital-item-requires : tie.Need-is-capital-item-requires
-is-capital-item-requires c κs = search needs
-
-cast-t11 : tie.Need-cast-t11
-cast-t11 c = search needs
-
-emit-when-requires : tie.Need-emit-when-requires
-emit-when-requires c κs = search needs
-
-same-length : tie.Need-same-length
-same-length c = search needs
-
 returns : tie.Need-returns
 returns c =
     let w = c .before .before in
@@ -34,4 +22,4 @@ returns c =
 
 pub capital-item-at-spec : {M : Type 1} → statement M
 capital-item-at-spec =
-    tie.close (tie.spec is-capital-item-requires cast-t11 emit-when-requires same-length returns)
+    tie.close (tie.spec (λ c κs. search needs) (λ c. search needs) (λ c κs. search needs) (λ c. search needs) returns)

@@ -4,14 +4,8 @@ use borrow.Author.Needs.{needs}
 use Rattle.item.proofs.code_at.Statement.{statement}
 use Rattle.item.proofs.code_at.Tie as tie
 
-attribute-id-requires : tie.Need-attribute-id-requires
-attribute-id-requires c κs = search needs
-
-code-of-requires : tie.Need-code-of-requires
-code-of-requires c κs = search needs
-
 returns : tie.Need-returns
 returns c = c .code-of .ensures ∙ c .before .attribute-id .ensures
 
 pub code-at-spec : {M : Type 1} → statement M
-code-at-spec = tie.close (tie.spec attribute-id-requires code-of-requires returns)
+code-at-spec = tie.close (tie.spec (λ c κs. search needs) (λ c κs. search needs) returns)

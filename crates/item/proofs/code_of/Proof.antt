@@ -11,18 +11,6 @@ use borrow.Author.Needs.{needs}
 use Rattle.item.proofs.code_of.Statement.{statement}
 use Rattle.item.proofs.code_of.Tie as tie
 
-enum-known-answer : tie.Need-enum-known-answer
-enum-known-answer c = search needs
-
-bits-requires : tie.Need-bits-requires
-bits-requires c κs = search needs
-
-cast-result : tie.Need-cast-result
-cast-result c = search needs
-
-enum-told : tie.Need-enum-told
-enum-told c = search needs
-
 returns : tie.Need-returns
 returns c =
     let e = c .before .before .answer .given .1 in
@@ -35,4 +23,4 @@ returns-2 c = code-none 4294967296 (omega arith) ∙ sym (ap idOf (c .enum-told 
 
 pub code-of-spec : {M : Type 1} → statement M
 code-of-spec =
-    tie.close (tie.spec enum-known-answer bits-requires cast-result enum-told returns returns-2)
+    tie.close (tie.spec (λ c. search needs) (λ c κs. search needs) (λ c. search needs) (λ c. search needs) returns returns-2)

@@ -22,27 +22,6 @@ abbrev μ-loop : tie.MeasureT-loop
 loop-holds : tie.Need-loop-holds Inv-loop μ-loop
 loop-holds c = (omega arith, refl, refl)
 
-mul-code-at : tie.Need-mul-code-at Inv-loop μ-loop
-mul-code-at c = search needs
-
-shared-slice-read-code-at : tie.Need-shared-slice-read-code-at Inv-loop μ-loop
-shared-slice-read-code-at c = search needs
-
-code-at-requires : tie.Need-code-at-requires Inv-loop μ-loop
-code-at-requires c κs = search needs
-
-mul-codes : tie.Need-mul-codes Inv-loop μ-loop
-mul-codes c = search needs
-
-slice-write-codes : tie.Need-slice-write-codes Inv-loop μ-loop
-slice-write-codes c = search needs
-
-add-k : tie.Need-add-k Inv-loop μ-loop
-add-k c = search needs
-
-loop-less : tie.Need-loop-less Inv-loop μ-loop
-loop-less c = search needs
-
 loop-again : tie.Need-loop-again Inv-loop μ-loop
 loop-again c =
     let l = c .before .before .before .loop in
@@ -68,13 +47,13 @@ find-ids-spec =
     Inv-loop
     μ-loop
     loop-holds
-    mul-code-at
-    shared-slice-read-code-at
-    code-at-requires
-    mul-codes
-    slice-write-codes
-    add-k
-    loop-less
+    (λ c. search needs)
+    (λ c. search needs)
+    (λ c κs. search needs)
+    (λ c. search needs)
+    (λ c. search needs)
+    (λ c. search needs)
+    (λ c. search needs)
     loop-again
     same-length
     returns)

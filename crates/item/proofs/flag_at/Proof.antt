@@ -8,18 +8,6 @@ use borrow.Author.Needs.{needs}
 use Rattle.item.proofs.flag_at.Statement.{statement}
 use Rattle.item.proofs.flag_at.Tie as tie
 
-mul-u32-at : tie.Need-mul-u32-at
-mul-u32-at c = search needs
-
-u32-at-requires : tie.Need-u32-at-requires
-u32-at-requires c κs = search needs
-
-cast-result : tie.Need-cast-result
-cast-result c = search needs
-
-element-copy-out-result : tie.Need-element-copy-out-result
-element-copy-out-result c = search needs
-
 returns : tie.Need-returns
 unfolding i32At
 returns c =
@@ -29,4 +17,4 @@ returns c =
 
 pub flag-at-spec : {M : Type 1} → statement M
 flag-at-spec =
-    tie.close (tie.spec mul-u32-at u32-at-requires cast-result element-copy-out-result returns)
+    tie.close (tie.spec (λ c. search needs) (λ c κs. search needs) (λ c. search needs) (λ c. search needs) returns)

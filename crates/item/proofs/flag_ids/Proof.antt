@@ -17,21 +17,6 @@ abbrev μ-loop : tie.MeasureT-loop
 loop-holds : tie.Need-loop-holds Inv-loop μ-loop
 loop-holds c = flagging-none _ _ (c .pre)
 
-mul-flags : tie.Need-mul-flags Inv-loop μ-loop
-mul-flags c = search needs
-
-shared-slice-read-flags : tie.Need-shared-slice-read-flags Inv-loop μ-loop
-shared-slice-read-flags c = search needs
-
-slice-write-flags : tie.Need-slice-write-flags Inv-loop μ-loop
-slice-write-flags c = search needs
-
-add-k : tie.Need-add-k Inv-loop μ-loop
-add-k c = search needs
-
-loop-less : tie.Need-loop-less Inv-loop μ-loop
-loop-less c = search needs
-
 loop-again : tie.Need-loop-again Inv-loop μ-loop
 loop-again c =
     let l = c .before .before in
@@ -50,11 +35,11 @@ flag-ids-spec =
     Inv-loop
     μ-loop
     loop-holds
-    mul-flags
-    shared-slice-read-flags
-    slice-write-flags
-    add-k
-    loop-less
+    (λ c. search needs)
+    (λ c. search needs)
+    (λ c. search needs)
+    (λ c. search needs)
+    (λ c. search needs)
     loop-again
     same-length
     returns)

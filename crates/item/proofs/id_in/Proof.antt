@@ -8,12 +8,6 @@ use borrow.Author.Needs.{needs}
 use Rattle.item.proofs.id_in.Statement.{statement}
 use Rattle.item.proofs.id_in.Tie as tie
 
-cast-signed : tie.Need-cast-signed
-cast-signed c = search needs
-
-signed-requires : tie.Need-signed-requires
-signed-requires c κs = search needs
-
 returns : tie.Need-returns
 returns c = ap some (toZ-ofZ w32 (c .signed .result) (record { sfits = c .signed .ok }) ∙ c .signed .ensures) ∙ sym (code-some (c .before .before .args .code) (c .before .if1 .taken))
 
@@ -21,4 +15,4 @@ returns-2 : tie.Need-returns-2
 returns-2 c = sym (code-none (c .before .args .code) (c .if1 .left))
 
 pub id-in-spec : {M : Type 1} → statement M
-id-in-spec = tie.close (tie.spec cast-signed signed-requires returns returns-2)
+id-in-spec = tie.close (tie.spec (λ c. search needs) (λ c κs. search needs) returns returns-2)

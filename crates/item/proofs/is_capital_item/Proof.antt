@@ -12,23 +12,11 @@ use borrow.Author.Needs.{needs}
 use Rattle.item.proofs.is_capital_item.Statement.{statement}
 use Rattle.item.proofs.is_capital_item.Tie as tie
 
-is-fitted-requires : tie.Need-is-fitted-requires
-is-fitted-requires c κs = search needs
-
 returns : tie.Need-returns
 returns c = λ k. rw (sym (c .before .is-fitted .ensures k) ∙ not-true _ (c .if1 .taken))
 
-is-in-rig-requires : tie.Need-is-in-rig-requires
-is-in-rig-requires c κs = search needs
-
 returns-2 : tie.Need-returns-2
 returns-2 c = λ k. rw (sym (c .before .before .before .is-fitted .ensures k) ∙ not-false _ (c .before .before .if1 .left), sym (c .before .is-in-rig .ensures k) ∙ c .if2 .taken)
-
-add-amount : tie.Need-add-amount
-add-amount c = search needs
-
-amount-requires : tie.Need-amount-requires
-amount-requires c κs = search needs
 
 returns-3 : tie.Need-returns-3
 unfolding ofBits ofInt
@@ -42,10 +30,10 @@ pub is-capital-item-spec : {M : Type 1} → statement M
 is-capital-item-spec =
     tie.close
     (tie.spec
-    is-fitted-requires
+    (λ c κs. search needs)
     returns
-    is-in-rig-requires
+    (λ c κs. search needs)
     returns-2
-    add-amount
-    amount-requires
+    (λ c. search needs)
+    (λ c κs. search needs)
     returns-3)

@@ -7,12 +7,9 @@ use borrow.Author.Needs.{needs}
 use Rattle.item.proofs.is_fitted.Statement.{statement}
 use Rattle.item.proofs.is_fitted.Tie as tie
 
-item-slot-requires : tie.Need-item-slot-requires
-item-slot-requires c κs = search needs
-
 returns : tie.Need-returns
 unfolding isFitted
 returns c = λ k. ap (λ (s : ℕ). leb s 5) (c .item-slot .ensures)
 
 pub is-fitted-spec : {M : Type 1} → statement M
-is-fitted-spec = tie.close (tie.spec item-slot-requires returns)
+is-fitted-spec = tie.close (tie.spec (λ c κs. search needs) returns)

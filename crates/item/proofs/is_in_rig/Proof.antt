@@ -7,12 +7,9 @@ use borrow.Author.Needs.{needs}
 use Rattle.item.proofs.is_in_rig.Statement.{statement}
 use Rattle.item.proofs.is_in_rig.Tie as tie
 
-item-slot-requires : tie.Need-item-slot-requires
-item-slot-requires c κs = search needs
-
 returns : tie.Need-returns
 unfolding isIn
 returns c = λ k. ap (λ (s : ℕ). eqb s 3) (c .item-slot .ensures)
 
 pub is-in-rig-spec : {M : Type 1} → statement M
-is-in-rig-spec = tie.close (tie.spec item-slot-requires returns)
+is-in-rig-spec = tie.close (tie.spec (λ c κs. search needs) returns)

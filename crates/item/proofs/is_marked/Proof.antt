@@ -19,27 +19,12 @@ abbrev μ-loop : tie.MeasureT-loop
 loop-holds : tie.Need-loop-holds Inv-loop μ-loop
 loop-holds c = (omega arith, refl)
 
-mul-marked-under : tie.Need-mul-marked-under Inv-loop μ-loop
-mul-marked-under c = search needs
-
-shared-slice-read-marked-under : tie.Need-shared-slice-read-marked-under Inv-loop μ-loop
-shared-slice-read-marked-under c = search needs
-
-marked-under-requires : tie.Need-marked-under-requires Inv-loop μ-loop
-marked-under-requires c κs = search needs
-
 returns : tie.Need-returns Inv-loop μ-loop
 returns c =
     let m = c .before in
     let l = m .before .before .before in
     let a = l .before .before .before .args in
     any-found (λ code. markedUnder (resultOf (a .fit .now) (a .j)) (idIn code)) (a .codes .now) (l .loop .k) 0 (omega arith) (l .loop .inv .1) (sym (m .marked-under .ensures) ∙ c .if1 .taken)
-
-add-k : tie.Need-add-k Inv-loop μ-loop
-add-k c = search needs
-
-loop-less : tie.Need-loop-less Inv-loop μ-loop
-loop-less c = search needs
 
 loop-again : tie.Need-loop-again Inv-loop μ-loop
 loop-again c =
@@ -61,11 +46,11 @@ is-marked-spec =
     Inv-loop
     μ-loop
     loop-holds
-    mul-marked-under
-    shared-slice-read-marked-under
-    marked-under-requires
+    (λ c. search needs)
+    (λ c. search needs)
+    (λ c κs. search needs)
     returns
-    add-k
-    loop-less
+    (λ c. search needs)
+    (λ c. search needs)
     loop-again
     returns-2)

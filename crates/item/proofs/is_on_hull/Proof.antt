@@ -1,16 +1,9 @@
 -- `item::is_on_hull` meets its contract: slot kinds 0 to 7.
-use Prim.Native.Nat.{ℕ, _≤_}
-use native.Mathlib.Omega.{arith}
-use mathlib.Core.Path.{_≡_, sym, ap, _∙_}
-use lib.Dec.{leb, eqb}
 use borrow.Author.Tests.{le-leb, lt-leb, eq-eqb, ne-eqb}
 use Rattle.context.specs.Context.{isFitted, isIn, isFighterSlot, isOnHull}
 use borrow.Author.Needs.{needs}
 use Rattle.item.proofs.is_on_hull.Statement.{statement}
 use Rattle.item.proofs.is_on_hull.Tie as tie
-
-item-slot-requires : tie.Need-item-slot-requires
-item-slot-requires c κs = search needs
 
 returns : tie.Need-returns
 unfolding isOnHull isFitted isFighterSlot isIn
@@ -25,4 +18,4 @@ unfolding isOnHull isFitted isFighterSlot isIn
 returns-3 c = λ k. rw (← c .before .before .item-slot .ensures, lt-leb _ _ (c .before .if1 .left), ne-eqb _ _ (c .if2 .left))
 
 pub is-on-hull-spec : {M : Type 1} → statement M
-is-on-hull-spec = tie.close (tie.spec item-slot-requires returns returns-2 returns-3)
+is-on-hull-spec = tie.close (tie.spec (λ c κs. search needs) returns returns-2 returns-3)

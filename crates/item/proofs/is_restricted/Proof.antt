@@ -12,11 +12,8 @@ returns c = rw (c .if1 .taken) (restricted-type (not (not (c .before .args .type
 returns-2 : tie.Need-returns-2
 returns-2 c = rw (c .before .if1 .left, c .if2 .taken) (restricted-group (not (not (c .before .before .args .types .any) && not (c .before .before .args .groups .any))))
 
-either-requires : tie.Need-either-requires
-either-requires c κs = search needs
-
 returns-3 : tie.Need-returns-3
 returns-3 c = rw (c .before .before .if1 .left, c .before .if2 .left) (c .either .ensures ∙ restricted-any (c .before .before .before .args .types .any) (c .before .before .before .args .groups .any))
 
 pub is-restricted-spec : {M : Type 1} → statement M
-is-restricted-spec = tie.close (tie.spec returns returns-2 either-requires returns-3)
+is-restricted-spec = tie.close (tie.spec returns returns-2 (λ c κs. search needs) returns-3)

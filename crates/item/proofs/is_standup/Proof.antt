@@ -18,22 +18,10 @@ told c =
     c .same-id .ensures
     ∙ ap (λ (z : ℤ). same z (pos 66)) (toZ-ofZ w32 (c .before .id-at .result) (record { sfits = c .before .id-at .ok }) ∙ c .before .id-at .ensures ∙ s .pre .1 .1 (s .args .i) (s .pre .0 .1))
 
-id-at-requires : tie.Need-id-at-requires
-id-at-requires c κs = search needs
-
-same-id-requires : tie.Need-same-id-requires
-same-id-requires c κs = search needs
-
 returns : tie.Need-returns
 returns c =
     let a = c .before .before .before .before .before .args in
     standup-category (contextOf (a .catalogue .now) (a .fit .now)) (pairAt (a .catalogue .now) (a .fit .now) (a .i)) (sym (told (c .before)) ∙ c .if1 .taken)
-
-add-is-marked : tie.Need-add-is-marked
-add-is-marked c = search needs
-
-is-marked-requires : tie.Need-is-marked-requires
-is-marked-requires c κs = search needs
 
 returns-2 : tie.Need-returns-2
 unfolding contextOf context
@@ -46,4 +34,4 @@ returns-2 c =
 pub is-standup-spec : {M : Type 1} → statement M
 is-standup-spec =
     tie.close
-    (tie.spec id-at-requires same-id-requires returns add-is-marked is-marked-requires returns-2)
+    (tie.spec (λ c κs. search needs) (λ c κs. search needs) returns (λ c. search needs) (λ c κs. search needs) returns-2)

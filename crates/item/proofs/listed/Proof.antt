@@ -28,26 +28,11 @@ loop-holds : tie.Need-loop-holds Inv-loop μ-loop
 unfolding each
 loop-holds c = (omega arith, listing-none _)
 
-mul-listed-under : tie.Need-mul-listed-under Inv-loop μ-loop
-mul-listed-under c = search needs
-
-shared-slice-read-listed-under : tie.Need-shared-slice-read-listed-under Inv-loop μ-loop
-shared-slice-read-listed-under c = search needs
-
-listed-under-requires : tie.Need-listed-under-requires Inv-loop μ-loop
-listed-under-requires c κs = search needs
-
 either-requires : tie.Need-either-requires Inv-loop μ-loop
 either-requires c κs = tt
 
 either-requires-2 : tie.Need-either-requires-2 Inv-loop μ-loop
 either-requires-2 c κs = tt
-
-add-k : tie.Need-add-k Inv-loop μ-loop
-add-k c = search needs
-
-loop-less : tie.Need-loop-less Inv-loop μ-loop
-loop-less c = search needs
 
 loop-again : tie.Need-loop-again Inv-loop μ-loop
 loop-again c =
@@ -71,12 +56,12 @@ listed-spec =
     Inv-loop
     μ-loop
     loop-holds
-    mul-listed-under
-    shared-slice-read-listed-under
-    listed-under-requires
+    (λ c. search needs)
+    (λ c. search needs)
+    (λ c κs. search needs)
     either-requires
     either-requires-2
-    add-k
-    loop-less
+    (λ c. search needs)
+    (λ c. search needs)
     loop-again
     returns)

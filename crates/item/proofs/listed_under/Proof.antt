@@ -22,40 +22,16 @@ found v =
     sym (k .before .before .id-in .ensures) ∙ ap idOf (k .known .given .1)
     ∙ ap some (sym (toZ-ofZ w32 (k .known .given .0 .0) (record { sfits = v .before .known-told .given .0 .1 })))
 
-id-in-requires : tie.Need-id-in-requires
-id-in-requires c κs = search needs
-
-enum-known-known : tie.Need-enum-known-known
-enum-known-known c = search needs
-
-enum-told : tie.Need-enum-told
-enum-told c = search needs
-
 returns : tie.Need-returns
 returns c =
     let a = c .before .before .before .before .args in
     under-unknown (a .id) (resultOf (a .fit .now) (a .j)) (idIn (a .code)) (sym (c .before .before .id-in .ensures) ∙ ap idOf (c .enum-told .given .1))
-
-value-requires : tie.Need-value-requires
-value-requires c κs = search needs
-
-enum-known-answer : tie.Need-enum-known-answer
-enum-known-answer c = search needs
-
-enum-told-2 : tie.Need-enum-told-2
-enum-told-2 c = search needs
 
 returns-2 : tie.Need-returns-2
 returns-2 c =
     let v = c .before .before in
     let a = v .before .before .before .before .before .before .args in
     under-missing (a .id) (resultOf (a .fit .now) (a .j)) (idIn (a .code)) _ (found v) (sym (v .value .ensures) ∙ ap valueOf (c .enum-told2 .given .1))
-
-to-i32-requires : tie.Need-to-i32-requires
-to-i32-requires c κs = search needs
-
-same-id-requires : tie.Need-same-id-requires
-same-id-requires c κs = search needs
 
 returns-3 : tie.Need-returns-3
 returns-3 c =
@@ -71,14 +47,14 @@ pub listed-under-spec : {M : Type 1} → statement M
 listed-under-spec =
     tie.close
     (tie.spec
-    id-in-requires
-    enum-known-known
-    enum-told
+    (λ c κs. search needs)
+    (λ c. search needs)
+    (λ c. search needs)
     returns
-    value-requires
-    enum-known-answer
-    enum-told-2
+    (λ c κs. search needs)
+    (λ c. search needs)
+    (λ c. search needs)
     returns-2
-    to-i32-requires
-    same-id-requires
+    (λ c κs. search needs)
+    (λ c κs. search needs)
     returns-3)

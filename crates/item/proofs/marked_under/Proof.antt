@@ -13,23 +13,11 @@ use borrow.Author.Needs.{needs}
 use Rattle.item.proofs.marked_under.Statement.{statement}
 use Rattle.item.proofs.marked_under.Tie as tie
 
-id-in-requires : tie.Need-id-in-requires
-id-in-requires c κs = search needs
-
-enum-known-known : tie.Need-enum-known-known
-enum-known-known c = search needs
-
-enum-told : tie.Need-enum-told
-enum-told c = search needs
-
 returns : tie.Need-returns
 returns c =
     let i = c .before .before in
     let a = i .before .before .args in
     mark-unknown (resultOf (a .fit .now) (a .j)) (idIn (a .code)) (sym (i .id-in .ensures) ∙ ap idOf (c .enum-told .given .1))
-
-amount-requires : tie.Need-amount-requires
-amount-requires c κs = search needs
 
 returns-2 : tie.Need-returns-2
 unfolding ofBits
@@ -44,4 +32,4 @@ returns-2 c =
 pub marked-under-spec : {M : Type 1} → statement M
 marked-under-spec =
     tie.close
-    (tie.spec id-in-requires enum-known-known enum-told returns amount-requires returns-2)
+    (tie.spec (λ c κs. search needs) (λ c. search needs) (λ c. search needs) returns (λ c κs. search needs) returns-2)

@@ -5,14 +5,10 @@ use mathlib.Core.Path.{_≡_, ap, _∙_}
 use lib.ListN.{length}
 use borrow.Author.Needs.{needs}
 use Rattle.fit.specs.Fit.{countAt, startAt}
-use Rattle.fit.proofs.Soundness.{sound-sized}
 use Rattle.fit.proofs.Decoded.{start-within, ids-length}
 use Rattle.item.proofs.Flags.{flagged-ids}
 use Rattle.item.proofs.may_list.Statement.{statement}
 use Rattle.item.proofs.may_list.Tie as tie
-
-ids-of-requires : tie.Need-ids-of-requires
-ids-of-requires c κs = search needs
 
 any-flagged-requires : tie.Need-any-flagged-requires
 any-flagged-requires c κs = tt
@@ -23,7 +19,7 @@ many c =
     let s = c .before .before in
     let b = s .args .fit .now in
     let j = s .args .j in
-    let w = start-within b (sound-sized b (s .pre .0)) j (s .pre .2) in
+    let w = start-within b (s .pre .0 .sized) j (s .pre .2) in
     let l : length (c .ids-of .result .now) ≡ 4 * countAt b j = ap length (c .ids-of .ensures) ∙ ids-length b (startAt b j) (countAt b j) (omega (arith, w, s .pre .0 .size)) in
     omega (arith, l)
 
@@ -33,4 +29,4 @@ returns c =
     c .any-flagged .ensures ∙ flagged-ids (a .flags .now) (a .fit .now) (a .j) (c .before .ids-of .result .now) (c .before .ids-of .ensures) (many (c .before))
 
 pub may-list-spec : {M : Type 1} → statement M
-may-list-spec = tie.close (tie.spec ids-of-requires any-flagged-requires returns)
+may-list-spec = tie.close (tie.spec (λ c κs. search needs) any-flagged-requires returns)

@@ -34,30 +34,12 @@ named v =
     sym (v .before .before .before .before .attribute-id .ensures) ∙ ap idOf (v .before .before .answer .given .1)
     ∙ ap some (sym (toZ-ofZ w32 (v .before .before .answer .given .0 .0) (record { sfits = v .before .known-told .given .0 .1 })))
 
-attribute-id-requires : tie.Need-attribute-id-requires Inv-loop μ-loop
-attribute-id-requires c κs = search needs
-
-enum-known-answer : tie.Need-enum-known-answer Inv-loop μ-loop
-enum-known-answer c = search needs
-
-enum-told : tie.Need-enum-told Inv-loop μ-loop
-enum-told c = search needs
-
 returns : tie.Need-returns Inv-loop μ-loop
 unfolding contextOf context
 returns c =
     let a = c .before .before .before .before .before .before .args in
     let e = sym (c .before .before .attribute-id .ensures) ∙ ap idOf (c .enum-told .given .1) in
     (rig-no-name (contextOf (a .catalogue .now) (a .fit .now)) (pairsOf (a .catalogue .now) (a .fit .now)) e, omega arith)
-
-value-requires : tie.Need-value-requires Inv-loop μ-loop
-value-requires c κs = search needs
-
-enum-known-of-ship : tie.Need-enum-known-of-ship Inv-loop μ-loop
-enum-known-of-ship c = search needs
-
-enum-told-2 : tie.Need-enum-told-2 Inv-loop μ-loop
-enum-told-2 c = search needs
 
 returns-2 : tie.Need-returns-2 Inv-loop μ-loop
 unfolding contextOf context fitOf
@@ -66,20 +48,8 @@ returns-2 c =
     let a = v .before .before .before .before .before .before .before .before .args in
     (rig-no-ship (contextOf (a .catalogue .now) (a .fit .now)) (pairsOf (a .catalogue .now) (a .fit .now)) _ (named v) (sym (v .value .ensures) ∙ ap valueOf (c .enum-told2 .given .1)), omega arith)
 
-pair-count-requires : tie.Need-pair-count-requires Inv-loop μ-loop
-pair-count-requires c κs = search needs
-
 loop-holds : tie.Need-loop-holds Inv-loop μ-loop
 loop-holds c = passed-none _ _ _ _ _
-
-rig-size-at-requires : tie.Need-rig-size-at-requires Inv-loop μ-loop
-rig-size-at-requires c κs = search needs
-
-add-i : tie.Need-add-i Inv-loop μ-loop
-add-i c = search needs
-
-loop-less : tie.Need-loop-less Inv-loop μ-loop
-loop-less c = search needs
 
 loop-again : tie.Need-loop-again Inv-loop μ-loop
 loop-again c =
@@ -104,19 +74,19 @@ rig-size-spec =
     (tie.spec
     Inv-loop
     μ-loop
-    attribute-id-requires
-    enum-known-answer
-    enum-told
+    (λ c κs. search needs)
+    (λ c. search needs)
+    (λ c. search needs)
     returns
-    value-requires
-    enum-known-of-ship
-    enum-told-2
+    (λ c κs. search needs)
+    (λ c. search needs)
+    (λ c. search needs)
     returns-2
-    pair-count-requires
+    (λ c κs. search needs)
     loop-holds
-    rig-size-at-requires
-    add-i
-    loop-less
+    (λ c κs. search needs)
+    (λ c. search needs)
+    (λ c. search needs)
     loop-again
     same-length
     returns-3)

@@ -20,44 +20,11 @@ told c =
     let s = c .before .before .before .before in
     c .value .ensures ∙ ap (value (resultOf (s .args .fit .now) (s .args .i + 2))) (toZ-ofZ w32 (s .args .id) (s .fits .id))
 
-add-value : tie.Need-add-value
-add-value c = search needs
-
-value-requires : tie.Need-value-requires
-value-requires c κs = search needs
-
-enum-known-answer : tie.Need-enum-known-answer
-enum-known-answer c = search needs
-
-enum-told : tie.Need-enum-told
-enum-told c = search needs
-
 returns : tie.Need-returns
 returns c =
     let v = c .before .before in
     let a = v .before .before .before .before .args in
     rig-none (a .id) (a .ship) (pairAt (a .catalogue .now) (a .fit .now) (a .i)) (sym (told v) ∙ ap valueOf (c .enum-told .given .1))
-
-is-in-rig-requires : tie.Need-is-in-rig-requires
-is-in-rig-requires c κs = search needs
-
-both-requires : tie.Need-both-requires
-both-requires c κs = search needs
-
-cast-t17 : tie.Need-cast-t17
-cast-t17 c = search needs
-
-to-u8-requires : tie.Need-to-u8-requires
-to-u8-requires c κs = search needs
-
-to-u8-requires-2 : tie.Need-to-u8-requires-2
-to-u8-requires-2 c κs = search needs
-
-emit-when-requires : tie.Need-emit-when-requires
-emit-when-requires c κs = search needs
-
-same-length : tie.Need-same-length
-same-length c = search needs
 
 returns-2 : tie.Need-returns-2
 returns-2 c =
@@ -75,16 +42,16 @@ pub rig-size-at-spec : {M : Type 1} → statement M
 rig-size-at-spec =
     tie.close
     (tie.spec
-    add-value
-    value-requires
-    enum-known-answer
-    enum-told
+    (λ c. search needs)
+    (λ c κs. search needs)
+    (λ c. search needs)
+    (λ c. search needs)
     returns
-    is-in-rig-requires
-    both-requires
-    cast-t17
-    to-u8-requires
-    to-u8-requires-2
-    emit-when-requires
-    same-length
+    (λ c κs. search needs)
+    (λ c κs. search needs)
+    (λ c. search needs)
+    (λ c κs. search needs)
+    (λ c κs. search needs)
+    (λ c κs. search needs)
+    (λ c. search needs)
     returns-2)

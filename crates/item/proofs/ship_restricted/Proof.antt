@@ -22,36 +22,6 @@ Inv-loop catalogue fit starts group out₀ n types groups flags ship count m₀ 
 abbrev μ-loop : tie.MeasureT-loop
 μ-loop catalogue fit starts group out₀ n types groups flags ship count m₀ i₀ out m i = count - i
 
-type-ids-requires : tie.Need-type-ids-requires Inv-loop μ-loop
-type-ids-requires c κs = search needs
-
-group-ids-requires : tie.Need-group-ids-requires Inv-loop μ-loop
-group-ids-requires c κs = search needs
-
-slice-aggregate-flag-ids : tie.Need-slice-aggregate-flag-ids Inv-loop μ-loop
-slice-aggregate-flag-ids c = search needs
-
-slice-aggregate-flag-ids-2 : tie.Need-slice-aggregate-flag-ids-2 Inv-loop μ-loop
-slice-aggregate-flag-ids-2 c = search needs
-
-flag-ids-requires : tie.Need-flag-ids-requires Inv-loop μ-loop
-flag-ids-requires c κs = search needs
-
-slice-aggregate-flag-ids-3 : tie.Need-slice-aggregate-flag-ids-3 Inv-loop μ-loop
-slice-aggregate-flag-ids-3 c = search needs
-
-slice-aggregate-flag-ids-4 : tie.Need-slice-aggregate-flag-ids-4 Inv-loop μ-loop
-slice-aggregate-flag-ids-4 c = search needs
-
-flag-ids-requires-2 : tie.Need-flag-ids-requires-2 Inv-loop μ-loop
-flag-ids-requires-2 c κs = search needs
-
-ship-requires : tie.Need-ship-requires Inv-loop μ-loop
-ship-requires c κs = search needs
-
-pair-count-requires : tie.Need-pair-count-requires Inv-loop μ-loop
-pair-count-requires c κs = search needs
-
 loop-holds : tie.Need-loop-holds Inv-loop μ-loop
 loop-holds c = passed-none _ _ _ _ _
 
@@ -80,12 +50,6 @@ ship-restricted-at-requires c κs =
       ),
     )
 
-add-i : tie.Need-add-i Inv-loop μ-loop
-add-i c = search needs
-
-loop-less : tie.Need-loop-less Inv-loop μ-loop
-loop-less c = search needs
-
 loop-again : tie.Need-loop-again Inv-loop μ-loop
 loop-again c =
     let l = c .before .before .before .before .before .before .before .before in
@@ -107,20 +71,20 @@ ship-restricted-spec =
     (tie.spec
     Inv-loop
     μ-loop
-    type-ids-requires
-    group-ids-requires
-    slice-aggregate-flag-ids
-    slice-aggregate-flag-ids-2
-    flag-ids-requires
-    slice-aggregate-flag-ids-3
-    slice-aggregate-flag-ids-4
-    flag-ids-requires-2
-    ship-requires
-    pair-count-requires
+    (λ c κs. search needs)
+    (λ c κs. search needs)
+    (λ c. search needs)
+    (λ c. search needs)
+    (λ c κs. search needs)
+    (λ c. search needs)
+    (λ c. search needs)
+    (λ c κs. search needs)
+    (λ c κs. search needs)
+    (λ c κs. search needs)
     loop-holds
     ship-restricted-at-requires
-    add-i
-    loop-less
+    (λ c. search needs)
+    (λ c. search needs)
     loop-again
     same-length
     returns)

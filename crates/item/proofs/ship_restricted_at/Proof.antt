@@ -16,19 +16,10 @@ use borrow.Author.Needs.{needs}
 use Rattle.item.proofs.ship_restricted_at.Statement.{statement}
 use Rattle.item.proofs.ship_restricted_at.Tie as tie
 
-is-fitted-requires : tie.Need-is-fitted-requires
-is-fitted-requires c κs = search needs
-
 returns : tie.Need-returns
 returns c =
     let a = c .before .before .before .before .before .args in
     restricted-unfitted (contextOf (a .catalogue .now) (a .fit .now)) (pairAt (a .catalogue .now) (a .fit .now) (a .i)) (sym (c .before .is-fitted .ensures (a .catalogue .now)) ∙ not-true _ (c .if1 .taken))
-
-add-may-list : tie.Need-add-may-list
-add-may-list c = search needs
-
-may-list-requires : tie.Need-may-list-requires
-may-list-requires c κs = search needs
 
 returns-2 : tie.Need-returns-2
 unfolding contextOf context
@@ -42,31 +33,10 @@ returns-2 c =
     (sym (listed-codes x p SHIP-TYPES (a .types .now) (s .pre .1 .0 .0)) ∙ nothing-listed (a .flags .now) (p .result) none (a .types .now) (s .pre .1 .1 .1 .0))
     (sym (listed-codes x p SHIP-GROUPS (a .groups .now) (s .pre .1 .0 .1)) ∙ nothing-listed (a .flags .now) (p .result) none (a .groups .now) (s .pre .1 .1 .1 .1))
 
-add-listed : tie.Need-add-listed
-add-listed c = search needs
-
-listed-requires : tie.Need-listed-requires
-listed-requires c κs = search needs
-
-add-listed-2 : tie.Need-add-listed-2
-add-listed-2 c = search needs
-
-listed-requires-2 : tie.Need-listed-requires-2
-listed-requires-2 c κs = search needs
-
-is-restricted-requires : tie.Need-is-restricted-requires
-is-restricted-requires c κs = search needs
-
 cast-t23 : tie.Need-cast-t23
 cast-t23 c =
     let s = c .before .before .before .before .before .before .before .before .before .before .before .before .before in
     record { fits = omega (arith, s .pre .0 .1, s .pre .0 .0 .fit-sound .items) }
-
-emit-when-requires : tie.Need-emit-when-requires
-emit-when-requires c κs = search needs
-
-same-length : tie.Need-same-length
-same-length c = search needs
 
 returns-3 : tie.Need-returns-3
 unfolding contextOf context
@@ -90,17 +60,17 @@ pub ship-restricted-at-spec : {M : Type 1} → statement M
 ship-restricted-at-spec =
     tie.close
     (tie.spec
-    is-fitted-requires
+    (λ c κs. search needs)
     returns
-    add-may-list
-    may-list-requires
+    (λ c. search needs)
+    (λ c κs. search needs)
     returns-2
-    add-listed
-    listed-requires
-    add-listed-2
-    listed-requires-2
-    is-restricted-requires
+    (λ c. search needs)
+    (λ c κs. search needs)
+    (λ c. search needs)
+    (λ c κs. search needs)
+    (λ c κs. search needs)
     cast-t23
-    emit-when-requires
-    same-length
+    (λ c κs. search needs)
+    (λ c. search needs)
     returns-3)

@@ -23,15 +23,6 @@ Inv-loop catalogue fit starts categories category out₀ n markers structure cou
 abbrev μ-loop : tie.MeasureT-loop
 μ-loop catalogue fit starts categories category out₀ n markers structure count m₀ i₀ out m i = count - i
 
-standup-ids-requires : tie.Need-standup-ids-requires Inv-loop μ-loop
-standup-ids-requires c κs = search needs
-
-same-id-requires : tie.Need-same-id-requires Inv-loop μ-loop
-same-id-requires c κs = search needs
-
-pair-count-requires : tie.Need-pair-count-requires Inv-loop μ-loop
-pair-count-requires c κs = search needs
-
 loop-holds : tie.Need-loop-holds Inv-loop μ-loop
 loop-holds c = passed-none _ _ _ _ _
 
@@ -44,12 +35,6 @@ standup-at-requires c κs =
       (s .pre .0, omega arith, omega arith),
       (t .before .standup-ids .ensures, s .pre .2, t .same-id .ensures ∙ ap (λ (z : ℤ). same z (pos 65)) (toZ-ofZ w32 (s .args .category) (s .fits .category) ∙ s .pre .3)),
     )
-
-add-i : tie.Need-add-i Inv-loop μ-loop
-add-i c = search needs
-
-loop-less : tie.Need-loop-less Inv-loop μ-loop
-loop-less c = search needs
 
 loop-again : tie.Need-loop-again Inv-loop μ-loop
 loop-again c =
@@ -72,13 +57,13 @@ standup-spec =
     (tie.spec
     Inv-loop
     μ-loop
-    standup-ids-requires
-    same-id-requires
-    pair-count-requires
+    (λ c κs. search needs)
+    (λ c κs. search needs)
+    (λ c κs. search needs)
     loop-holds
     standup-at-requires
-    add-i
-    loop-less
+    (λ c. search needs)
+    (λ c. search needs)
     loop-again
     same-length
     returns)

@@ -7,25 +7,10 @@ use borrow.Author.Needs.{needs}
 use Rattle.item.proofs.standup_at.Statement.{statement}
 use Rattle.item.proofs.standup_at.Tie as tie
 
-is-on-hull-requires : tie.Need-is-on-hull-requires
-is-on-hull-requires c κs = search needs
-
 returns : tie.Need-returns
 returns c =
     let a = c .before .before .before .before .before .args in
     standup-off (contextOf (a .catalogue .now) (a .fit .now)) (pairAt (a .catalogue .now) (a .fit .now) (a .i)) (sym (c .before .is-on-hull .ensures (a .catalogue .now)) ∙ not-true _ (c .if1 .taken))
-
-is-standup-requires : tie.Need-is-standup-requires
-is-standup-requires c κs = search needs
-
-cast-t14 : tie.Need-cast-t14
-cast-t14 c = search needs
-
-emit-when-requires : tie.Need-emit-when-requires
-emit-when-requires c κs = search needs
-
-same-length : tie.Need-same-length
-same-length c = search needs
 
 returns-2 : tie.Need-returns-2
 returns-2 c =
@@ -36,12 +21,6 @@ returns-2 c =
     let a = s .args in
     standup-ship-item (contextOf (a .catalogue .now) (a .fit .now)) (pairAt (a .catalogue .now) (a .fit .now) (a .i))
     (sym (h .is-on-hull .ensures (a .catalogue .now)) ∙ not-false _ (u .before .if1 .left)) (sym (s .pre .1 .2) ∙ w .before .before .if2 .taken) (u .is-standup .ensures) (w .emit-when .ensures)
-
-emit-when-requires-2 : tie.Need-emit-when-requires-2
-emit-when-requires-2 c κs = search needs
-
-same-length-2 : tie.Need-same-length-2
-same-length-2 c = search needs
 
 returns-3 : tie.Need-returns-3
 returns-3 c =
@@ -57,13 +36,13 @@ pub standup-at-spec : {M : Type 1} → statement M
 standup-at-spec =
     tie.close
     (tie.spec
-    is-on-hull-requires
+    (λ c κs. search needs)
     returns
-    is-standup-requires
-    cast-t14
-    emit-when-requires
-    same-length
+    (λ c κs. search needs)
+    (λ c. search needs)
+    (λ c κs. search needs)
+    (λ c. search needs)
     returns-2
-    emit-when-requires-2
-    same-length-2
+    (λ c κs. search needs)
+    (λ c. search needs)
     returns-3)

@@ -21,15 +21,9 @@ told c =
     let s = c .before .before .before in
     ap (λ (v : Float). ne v zeroF) (c .amount .ensures ∙ ap (amount (resultOf (s .args .fit .now) 0)) (toZ-ofZ w32 (s .args .capital) (s .fits .capital)))
 
-amount-requires : tie.Need-amount-requires
-amount-requires c κs = search needs
-
 returns : tie.Need-returns
 unfolding ofBits contextOf context fitOf
 returns c = rw (sym (told (c .before)) ∙ c .if1 .taken)
-
-same-id-requires : tie.Need-same-id-requires
-same-id-requires c κs = search needs
 
 returns-2 : tie.Need-returns-2
 unfolding ofBits contextOf context fitOf isStructure
@@ -39,4 +33,4 @@ returns-2 c =
     (c .same-id .ensures ∙ ap (λ (z : ℤ). same z (pos 65)) (toZ-ofZ w32 (s .args .category) (s .fits .category) ∙ s .pre .1))
 
 pub takes-capitals-spec : {M : Type 1} → statement M
-takes-capitals-spec = tie.close (tie.spec amount-requires returns same-id-requires returns-2)
+takes-capitals-spec = tie.close (tie.spec (λ c κs. search needs) returns (λ c κs. search needs) returns-2)

@@ -8,18 +8,6 @@ use borrow.Author.Needs.{needs}
 use Rattle.item.proofs.validate.Statement.{statement}
 use Rattle.item.proofs.validate.Tie as tie
 
-ship-facts-requires : tie.Need-ship-facts-requires
-ship-facts-requires c κs = search needs
-
-rig-size-requires : tie.Need-rig-size-requires
-rig-size-requires c κs = search needs
-
-ship-restricted-requires : tie.Need-ship-restricted-requires
-ship-restricted-requires c κs = search needs
-
-capital-item-requires : tie.Need-capital-item-requires
-capital-item-requires c κs = search needs
-
 standup-requires : tie.Need-standup-requires
 standup-requires c κs =
     let k = c .before .before .before .before in
@@ -46,10 +34,10 @@ pub validate-spec : {M : Type 1} → statement M
 validate-spec =
     tie.close
     (tie.spec
-    ship-facts-requires
-    rig-size-requires
-    ship-restricted-requires
-    capital-item-requires
+    (λ c κs. search needs)
+    (λ c κs. search needs)
+    (λ c κs. search needs)
+    (λ c κs. search needs)
     standup-requires
     same-length
     returns)

@@ -7,7 +7,6 @@ use mir.ValLaws.{toZ-ofZ}
 use mathlib.Core.Path.{_≡_}
 use Rattle.keys.specs.Keys.{rankOf}
 use Rattle.keys.proofs.Skips.{Searched, skipped, parted}
-use borrow.Author.Needs.{needs}
 use Rattle.keys.proofs.first_from.Statement.{statement}
 use Rattle.keys.proofs.first_from.Tie as tie
 

@@ -1,7 +1,6 @@
 -- `keys::first_near` meets its contract: a guess that passes both tests, or the search.
-use Prim.Native.Nat.{ℕ}
 use native.Mathlib.Omega.{arith}
-use mathlib.Core.Path.{_≡_, _∙_, sym, ap, subst}
+use mathlib.Core.Path.{_∙_, sym, ap, subst}
 use lib.IntN.{ℤ}
 use mir.Syntax.{w32}
 use mir.ValLaws.{toZ-ofZ}
@@ -10,15 +9,6 @@ use Rattle.keys.specs.Keys.{rankOf, Parts}
 use Rattle.keys.proofs.Skips.{guess-under, guess-over}
 use Rattle.keys.proofs.first_near.Statement.{statement}
 use Rattle.keys.proofs.first_near.Tie as tie
-
-rank-requires : tie.Need-rank-requires
-rank-requires c κs = search needs
-
-all-under-requires : tie.Need-all-under-requires
-all-under-requires c κs = search needs
-
-none-under-requires : tie.Need-none-under-requires
-none-under-requires c κs = search needs
 
 returns : tie.Need-returns
 returns c =
@@ -35,9 +25,6 @@ returns c =
       over = λ k h g. omega (arith, guess-over keys n (a .rank .result) guess (s .pre .1) (sym (c .before .none-under .ensures) ∙ c .if3 .taken) k h g, e);
     }
 
-first-from-requires : tie.Need-first-from-requires
-first-from-requires c κs = search needs
-
 returns-2 : tie.Need-returns-2
 returns-2 c = let s = c .before .before .before .before in subst (λ (z : ℤ). Parts (s .args .keys .now) (s .args .n) z (c .first-from .result)) (toZ-ofZ w32 (s .args .id) (s .fits .id)) (c .first-from .ensures)
 
@@ -45,9 +32,9 @@ pub first-near-spec : {M : Type 1} → statement M
 first-near-spec =
     tie.close
     (tie.spec
-    rank-requires
-    all-under-requires
-    none-under-requires
+    (λ c κs. search needs)
+    (λ c κs. search needs)
+    (λ c κs. search needs)
     returns
-    first-from-requires
+    (λ c κs. search needs)
     returns-2)

@@ -3,10 +3,9 @@ use Prim.Native.Nat.{ℕ, _+_, _/_, _≤_}
 use native.Mathlib.Omega.{arith}
 use mathlib.Core.Path.{_≡_, _∙_, ap}
 use mathlib.Core.List.{List}
-use lib.IntN.{ℤ}
 use mir.Syntax.{w32}
 use mir.ValLaws.{toZ-ofZ}
-use Rattle.keys.specs.Keys.{rankOf, Parts}
+use Rattle.keys.specs.Keys.{rankOf}
 use Rattle.keys.proofs.Skips.{Searched, skipped, parted}
 use borrow.Author.Needs.{needs}
 use Rattle.keys.proofs.four_from.Statement.{statement}
@@ -18,18 +17,6 @@ Inv-loop keys n i j k l p q r s a₀ b₀ c₀ d₀ left₀ a b c d left =
 
 abbrev μ-loop : tie.MeasureT-loop
 μ-loop keys n i j k l p q r s a₀ b₀ c₀ d₀ left₀ a b c d left = left
-
-rank-requires : tie.Need-rank-requires Inv-loop μ-loop
-rank-requires c κs = search needs
-
-rank-requires-2 : tie.Need-rank-requires-2 Inv-loop μ-loop
-rank-requires-2 c κs = search needs
-
-rank-requires-3 : tie.Need-rank-requires-3 Inv-loop μ-loop
-rank-requires-3 c κs = search needs
-
-rank-requires-4 : tie.Need-rank-requires-4 Inv-loop μ-loop
-rank-requires-4 c κs = search needs
 
 loop-holds : tie.Need-loop-holds Inv-loop μ-loop
 loop-holds c = (all, all, all, all)
@@ -123,10 +110,10 @@ four-from-spec =
     (tie.spec
     Inv-loop
     μ-loop
-    rank-requires
-    rank-requires-2
-    rank-requires-3
-    rank-requires-4
+    (λ c κs. search needs)
+    (λ c κs. search needs)
+    (λ c κs. search needs)
+    (λ c κs. search needs)
     loop-holds
     skip-requires
     skip-requires-2

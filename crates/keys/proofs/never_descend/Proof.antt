@@ -6,13 +6,10 @@ use Rattle.keys.proofs.Orders.{biased-le}
 use Rattle.keys.proofs.never_descend.Statement.{statement}
 use Rattle.keys.proofs.never_descend.Tie as tie
 
-ordered-requires : tie.Need-ordered-requires
-ordered-requires c κs = search needs
-
 returns : tie.Need-returns
 returns c =
     let a = c .before .before .args in
     c .ordered .ensures ∙ biased-le (a .keys .now) (u32-small (a .keys .now) (c .before .shared-slice-known .given)) (a .n)
 
 pub never-descend-spec : {M : Type 1} → statement M
-never-descend-spec = tie.close (tie.spec ordered-requires returns)
+never-descend-spec = tie.close (tie.spec (λ c κs. search needs) returns)

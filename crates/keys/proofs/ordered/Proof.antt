@@ -1,5 +1,5 @@
 -- `keys::ordered` meets its contract. The invariant: the verdict so far is that of the first i keys.
-use Prim.Native.Nat.{ℕ, _+_, _-_, _*_, _≤_, _<_, max}
+use Prim.Native.Nat.{ℕ, _-_, _*_, _≤_, _<_, max}
 use native.Mathlib.Omega.{arith}
 use mathlib.Core.Path.{_≡_, sym, ap₂, _∙_}
 use Rattle.words.specs.Words.{table, inOrder}
@@ -9,10 +9,6 @@ use Rattle.keys.specs.Keys.{biased, stands}
 use Rattle.keys.proofs.Orders.{order-turn, order-end}
 use Rattle.keys.proofs.ordered.Statement.{statement}
 use Rattle.keys.proofs.ordered.Tie as tie
-use Rattle.keys.proofs.ordered.Reads as reads
-use Rattle.keys.proofs.ordered.Lts as lts
-use Rattle.keys.proofs.biased_at.Reads as biased-at-reads
-use Rattle.keys.proofs.stand.Reads as stand-reads
 
 abbrev Inv-loop : tie.InvT-loop
 Inv-loop keys n bias strict ok₀ i₀ ok i = (0 < i) × (i ≤ max n 1) × (ok ≡ inOrder (stands strict) (table i (λ j. biased bias (u32At keys (4 * j)))))

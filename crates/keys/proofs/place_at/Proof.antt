@@ -1,12 +1,11 @@
 -- `keys::place_at` meets its contract: the first key that is not under the id is the id, or no key is.
 use Prim.Native.Nat.{ℕ, _≤_, _<_}
 use native.Mathlib.Omega.{arith}
-use mathlib.Core.Path.{_≡_, _∙_, ap, subst, sym}
-use lib.IntN.{ℤ}
+use mathlib.Core.Path.{_≡_, _∙_, ap, sym}
 use mir.Syntax.{w32}
 use mir.ValLaws.{toZ-ofZ}
 use borrow.Author.Needs.{needs}
-use Rattle.keys.specs.Keys.{rankOf, keyAt, Parts}
+use Rattle.keys.specs.Keys.{rankOf, keyAt}
 use Rattle.keys.proofs.Orders.{place-found, place-none}
 use Rattle.keys.proofs.place_at.Statement.{statement}
 use Rattle.keys.proofs.place_at.Tie as tie
@@ -16,12 +15,6 @@ returns c =
     let s = c .before .before in
     place-none (s .args .keys .now) (s .args .n) (s .args .id) (s .fits .id .sfits) (s .args .at) (s .pre .2)
     (λ k h g. absurd (omega (arith, h, g, c .if1 .taken)))
-
-rank-at-requires : tie.Need-rank-at-requires
-rank-at-requires c κs = search needs
-
-rank-requires : tie.Need-rank-requires
-rank-requires c κs = search needs
 
 returns-2 : tie.Need-returns-2
 returns-2 c =
@@ -52,4 +45,4 @@ returns-3 c =
 pub place-at-spec : {M : Type 1} → statement M
 place-at-spec =
     tie.close
-    (tie.spec returns rank-at-requires rank-requires returns-2 returns-3)
+    (tie.spec returns (λ c κs. search needs) (λ c κs. search needs) returns-2 returns-3)

@@ -9,18 +9,6 @@ use borrow.Author.Needs.{needs}
 use Rattle.keys.proofs.skip.Statement.{statement}
 use Rattle.keys.proofs.skip.Tie as tie
 
-add-rank-at : tie.Need-add-rank-at
-add-rank-at c = search needs
-
-sub-rank-at : tie.Need-sub-rank-at
-sub-rank-at c = search needs
-
-rank-at-requires : tie.Need-rank-at-requires
-rank-at-requires c κs = search needs
-
-under-requires : tie.Need-under-requires
-under-requires c κs = search needs
-
 mul-result : tie.Need-mul-result
 mul-result c =
     let a = c .before .before .before in
@@ -32,9 +20,6 @@ add-result c =
     let a = c .before .before .before in
     let b = (ltb (c .before .rank-at .result) (a .args .key)) in
     omega (arith, halves (a .args .half) b (c .under .ensures), at-most-half (a .args .half) b, a .pre .1, a .good .0)
-
-mul-result-2 : tie.Need-mul-result-2
-mul-result-2 c = search needs
 
 sub-result : tie.Need-sub-result
 sub-result c =
@@ -51,4 +36,4 @@ returns c =
     e ∙ ap (λ (x : ℕ). a .base + cond (ltb x (a .key)) (a .half) 0) (c .before .rank-at .ensures)
 
 pub skip-spec : {M : Type 1} → statement M
-skip-spec = tie.close (tie.spec add-rank-at sub-rank-at rank-at-requires under-requires mul-result add-result mul-result-2 sub-result returns)
+skip-spec = tie.close (tie.spec (λ c. search needs) (λ c. search needs) (λ c κs. search needs) (λ c κs. search needs) mul-result add-result (λ c. search needs) sub-result returns)

@@ -5,14 +5,8 @@ use borrow.Author.Needs.{needs}
 use Rattle.keys.proofs.under.Statement.{statement}
 use Rattle.keys.proofs.under.Tie as tie
 
-add-result : tie.Need-add-result
-add-result c = search needs
-
-sub-result : tie.Need-sub-result
-sub-result c = search needs
-
 returns : tie.Need-returns
 returns c = under-is (c .args .x) (c .args .y) (omega (arith, c .fits .x)) (omega (arith, c .fits .y))
 
 pub under-spec : {M : Type 1} → statement M
-under-spec = tie.close (tie.spec add-result sub-result returns)
+under-spec = tie.close (tie.spec (λ c. search needs) (λ c. search needs) returns)

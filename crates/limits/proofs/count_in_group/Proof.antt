@@ -20,26 +20,11 @@ Inv-loop catalogue fit groups group limit count used₀ i₀ used i = Counted ca
 abbrev μ-loop : tie.MeasureT-loop
 μ-loop catalogue fit groups group limit count used₀ i₀ used i = count - i
 
-pair-count-requires : tie.Need-pair-count-requires Inv-loop μ-loop
-pair-count-requires c κs = search needs
-
 loop-holds : tie.Need-loop-holds Inv-loop μ-loop
 loop-holds c = counted-none _ _ _
 
-in-group-requires : tie.Need-in-group-requires Inv-loop μ-loop
-in-group-requires c κs = search needs
-
 one-if-requires : tie.Need-one-if-requires Inv-loop μ-loop
 one-if-requires c κs = tt
-
-add-used : tie.Need-add-used Inv-loop μ-loop
-add-used c = search needs
-
-add-i : tie.Need-add-i Inv-loop μ-loop
-add-i c = search needs
-
-loop-less : tie.Need-loop-less Inv-loop μ-loop
-loop-less c = search needs
 
 loop-again : tie.Need-loop-again Inv-loop μ-loop
 loop-again c =
@@ -59,12 +44,12 @@ count-in-group-spec =
     (tie.spec
     Inv-loop
     μ-loop
-    pair-count-requires
+    (λ c κs. search needs)
     loop-holds
-    in-group-requires
+    (λ c κs. search needs)
     one-if-requires
-    add-used
-    add-i
-    loop-less
+    (λ c. search needs)
+    (λ c. search needs)
+    (λ c. search needs)
     loop-again
     returns)

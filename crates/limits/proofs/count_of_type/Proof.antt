@@ -21,14 +21,8 @@ Inv-loop fit id count used₀ i₀ used i = (k : List ℕ) → Counted k fit (of
 abbrev μ-loop : tie.MeasureT-loop
 μ-loop fit id count used₀ i₀ used i = count - i
 
-pair-count-requires : tie.Need-pair-count-requires Inv-loop μ-loop
-pair-count-requires c κs = search needs
-
 loop-holds : tie.Need-loop-holds Inv-loop μ-loop
 loop-holds c = λ k. counted-none _ _ _
-
-of-type-requires : tie.Need-of-type-requires Inv-loop μ-loop
-of-type-requires c κs = search needs
 
 one-if-requires : tie.Need-one-if-requires Inv-loop μ-loop
 one-if-requires c κs = tt
@@ -38,9 +32,6 @@ add-used c = omega (arith, c .before .before .before .loop .inv [])
 
 add-i : tie.Need-add-i Inv-loop μ-loop
 add-i c = omega (arith, c .before .before .before .loop .inv [])
-
-loop-less : tie.Need-loop-less Inv-loop μ-loop
-loop-less c = search needs
 
 loop-again : tie.Need-loop-again Inv-loop μ-loop
 loop-again c = λ k.
@@ -60,12 +51,12 @@ count-of-type-spec =
     (tie.spec
     Inv-loop
     μ-loop
-    pair-count-requires
+    (λ c κs. search needs)
     loop-holds
-    of-type-requires
+    (λ c κs. search needs)
     one-if-requires
     add-used
     add-i
-    loop-less
+    (λ c. search needs)
     loop-again
     returns)

@@ -33,15 +33,6 @@ named h =
     sym (m .before .before .attribute-id .ensures) ∙ ap idOf (m .answer .given .1)
     ∙ ap some (sym (toZ-ofZ w32 (m .answer .given .0 .0) (record { sfits = h .before .known-told .given .0 .1 })))
 
-attribute-id-requires : tie.Need-attribute-id-requires Inv-loop μ-loop
-attribute-id-requires c κs = search needs
-
-enum-known-answer : tie.Need-enum-known-answer Inv-loop μ-loop
-enum-known-answer c = search needs
-
-enum-told : tie.Need-enum-told Inv-loop μ-loop
-enum-told c = search needs
-
 returns : tie.Need-returns Inv-loop μ-loop
 unfolding contextOf context
 returns c =
@@ -49,20 +40,8 @@ returns c =
     let a = f .before .before .before .before .args in
     (group-no-name (contextOf (a .catalogue .now) (a .fit .now)) (pairsOf (a .catalogue .now) (a .fit .now)) (a .limit) (a .name) (sym (f .attribute-id .ensures) ∙ ap idOf (c .enum-told .given .1)), omega arith)
 
-pair-count-requires : tie.Need-pair-count-requires Inv-loop μ-loop
-pair-count-requires c κs = search needs
-
 loop-holds : tie.Need-loop-holds Inv-loop μ-loop
 loop-holds c = passed-none _ _ _ _ _
-
-group-limit-at-requires : tie.Need-group-limit-at-requires Inv-loop μ-loop
-group-limit-at-requires c κs = search needs
-
-add-i : tie.Need-add-i Inv-loop μ-loop
-add-i c = search needs
-
-loop-less : tie.Need-loop-less Inv-loop μ-loop
-loop-less c = search needs
 
 loop-again : tie.Need-loop-again Inv-loop μ-loop
 loop-again c =
@@ -87,15 +66,15 @@ group-limit-spec =
     (tie.spec
     Inv-loop
     μ-loop
-    attribute-id-requires
-    enum-known-answer
-    enum-told
+    (λ c κs. search needs)
+    (λ c. search needs)
+    (λ c. search needs)
     returns
-    pair-count-requires
+    (λ c κs. search needs)
     loop-holds
-    group-limit-at-requires
-    add-i
-    loop-less
+    (λ c κs. search needs)
+    (λ c. search needs)
+    (λ c. search needs)
     loop-again
     same-length
     returns-2)

@@ -24,27 +24,12 @@ told c =
     let s = c .before .before .before .before in
     c .value .ensures ∙ ap (value (resultOf (s .args .fit .now) (s .args .i + 2))) (toZ-ofZ w32 (s .args .id) (s .fits .id))
 
-add-value : tie.Need-add-value
-add-value c = search needs
-
-value-requires : tie.Need-value-requires
-value-requires c κs = search needs
-
-enum-known-answer : tie.Need-enum-known-answer
-enum-known-answer c = search needs
-
-enum-told : tie.Need-enum-told
-enum-told c = search needs
-
 returns : tie.Need-returns
 unfolding groupLimitAt
 returns c =
     let v = c .before .before in
     let a = v .before .before .before .before .args in
     group-missing (a .limit) (a .id) (pairsOf (a .catalogue .now) (a .fit .now)) (pairAt (a .catalogue .now) (a .fit .now) (a .i)) (sym (told v) ∙ ap valueOf (c .enum-told .given .1))
-
-is-fitted-requires : tie.Need-is-fitted-requires
-is-fitted-requires c κs = search needs
 
 returns-2 : tie.Need-returns-2
 unfolding groupLimitAt
@@ -55,24 +40,6 @@ returns-2 c =
     let a = v .before .before .before .before .args in
     group-unfitted (a .limit) (a .id) (pairsOf (a .catalogue .now) (a .fit .now)) (pairAt (a .catalogue .now) (a .fit .now) (a .i)) (sym (told v) ∙ ap valueOf (m .answer .given .1))
     (sym (f .is-fitted .ensures (a .catalogue .now)) ∙ not-true _ (c .if1 .taken))
-
-id-at-requires : tie.Need-id-at-requires
-id-at-requires c κs = search needs
-
-count-in-group-requires : tie.Need-count-in-group-requires
-count-in-group-requires c κs = search needs
-
-to-u32-requires : tie.Need-to-u32-requires
-to-u32-requires c κs = search needs
-
-cast-t20 : tie.Need-cast-t20
-cast-t20 c = search needs
-
-emit-when-requires : tie.Need-emit-when-requires
-emit-when-requires c κs = search needs
-
-same-length : tie.Need-same-length
-same-length c = search needs
 
 returns-3 : tie.Need-returns-3
 unfolding groupLimitAt
@@ -97,17 +64,17 @@ pub group-limit-at-spec : {M : Type 1} → statement M
 group-limit-at-spec =
     tie.close
     (tie.spec
-    add-value
-    value-requires
-    enum-known-answer
-    enum-told
+    (λ c. search needs)
+    (λ c κs. search needs)
+    (λ c. search needs)
+    (λ c. search needs)
     returns
-    is-fitted-requires
+    (λ c κs. search needs)
     returns-2
-    id-at-requires
-    count-in-group-requires
-    to-u32-requires
-    cast-t20
-    emit-when-requires
-    same-length
+    (λ c κs. search needs)
+    (λ c κs. search needs)
+    (λ c κs. search needs)
+    (λ c. search needs)
+    (λ c κs. search needs)
+    (λ c. search needs)
     returns-3)

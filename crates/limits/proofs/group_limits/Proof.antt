@@ -23,30 +23,6 @@ abbrev μ-loop : tie.MeasureT-loop
 loop-holds : tie.Need-loop-holds Inv-loop μ-loop
 loop-holds c = (omega arith, omega arith, limits-none _ _ _ _)
 
-mul-limit : tie.Need-mul-limit Inv-loop μ-loop
-mul-limit c = search needs
-
-array-read-limit : tie.Need-array-read-limit Inv-loop μ-loop
-array-read-limit c = search needs
-
-mul-name : tie.Need-mul-name Inv-loop μ-loop
-mul-name c = search needs
-
-add-name : tie.Need-add-name Inv-loop μ-loop
-add-name c = search needs
-
-array-read-name : tie.Need-array-read-name Inv-loop μ-loop
-array-read-name c = search needs
-
-group-limit-requires : tie.Need-group-limit-requires Inv-loop μ-loop
-group-limit-requires c κs = search needs
-
-add-k : tie.Need-add-k Inv-loop μ-loop
-add-k c = search needs
-
-loop-less : tie.Need-loop-less Inv-loop μ-loop
-loop-less c = search needs
-
 loop-again : tie.Need-loop-again Inv-loop μ-loop
 loop-again c =
     let l = c .before .before .before .before .before in
@@ -70,14 +46,14 @@ group-limits-spec =
     Inv-loop
     μ-loop
     loop-holds
-    mul-limit
-    array-read-limit
-    mul-name
-    add-name
-    array-read-name
-    group-limit-requires
-    add-k
-    loop-less
+    (λ c. search needs)
+    (λ c. search needs)
+    (λ c. search needs)
+    (λ c. search needs)
+    (λ c. search needs)
+    (λ c κs. search needs)
+    (λ c. search needs)
+    (λ c. search needs)
     loop-again
     same-length
     returns)

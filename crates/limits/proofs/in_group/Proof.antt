@@ -11,27 +11,6 @@ use borrow.Author.Needs.{needs}
 use Rattle.limits.proofs.in_group.Statement.{statement}
 use Rattle.limits.proofs.in_group.Tie as tie
 
-is-fitted-requires : tie.Need-is-fitted-requires
-is-fitted-requires c κs = search needs
-
-id-at-requires : tie.Need-id-at-requires
-id-at-requires c κs = search needs
-
-same-id-requires : tie.Need-same-id-requires
-same-id-requires c κs = search needs
-
-add-result-state : tie.Need-add-result-state
-add-result-state c = search needs
-
-result-state-requires : tie.Need-result-state-requires
-result-state-requires c κs = search needs
-
-both-requires : tie.Need-both-requires
-both-requires c κs = search needs
-
-both-requires-2 : tie.Need-both-requires-2
-both-requires-2 c κs = search needs
-
 returns : tie.Need-returns
 unfolding inGroup
 returns c =
@@ -49,11 +28,11 @@ pub in-group-spec : {M : Type 1} → statement M
 in-group-spec =
     tie.close
     (tie.spec
-    is-fitted-requires
-    id-at-requires
-    same-id-requires
-    add-result-state
-    result-state-requires
-    both-requires
-    both-requires-2
+    (λ c κs. search needs)
+    (λ c κs. search needs)
+    (λ c κs. search needs)
+    (λ c. search needs)
+    (λ c κs. search needs)
+    (λ c κs. search needs)
+    (λ c κs. search needs)
     returns)

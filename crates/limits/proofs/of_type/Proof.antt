@@ -9,18 +9,6 @@ use borrow.Author.Needs.{needs}
 use Rattle.limits.proofs.of_type.Statement.{statement}
 use Rattle.limits.proofs.of_type.Tie as tie
 
-is-fitted-requires : tie.Need-is-fitted-requires
-is-fitted-requires c κs = search needs
-
-item-type-requires : tie.Need-item-type-requires
-item-type-requires c κs = search needs
-
-same-id-requires : tie.Need-same-id-requires
-same-id-requires c κs = search needs
-
-both-requires : tie.Need-both-requires
-both-requires c κs = search needs
-
 returns : tie.Need-returns
 unfolding ofType
 returns c = λ k.
@@ -34,4 +22,4 @@ returns c = λ k.
 pub of-type-spec : {M : Type 1} → statement M
 of-type-spec =
     tie.close
-    (tie.spec is-fitted-requires item-type-requires same-id-requires both-requires returns)
+    (tie.spec (λ c κs. search needs) (λ c κs. search needs) (λ c κs. search needs) (λ c κs. search needs) returns)

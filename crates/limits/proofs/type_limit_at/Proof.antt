@@ -23,26 +23,11 @@ told c =
     let s = c .before .before .before .before in
     c .value .ensures ∙ ap (value (resultOf (s .args .fit .now) (s .args .i + 2))) (toZ-ofZ w32 (s .args .id) (s .fits .id))
 
-add-value : tie.Need-add-value
-add-value c = search needs
-
-value-requires : tie.Need-value-requires
-value-requires c κs = search needs
-
-enum-known-answer : tie.Need-enum-known-answer
-enum-known-answer c = search needs
-
-enum-told : tie.Need-enum-told
-enum-told c = search needs
-
 returns : tie.Need-returns
 returns c =
     let v = c .before .before in
     let a = v .before .before .before .before .args in
     type-missing (a .id) (pairsOf (a .catalogue .now) (a .fit .now)) (pairAt (a .catalogue .now) (a .fit .now) (a .i)) (sym (told v) ∙ ap valueOf (c .enum-told .given .1))
-
-is-fitted-requires : tie.Need-is-fitted-requires
-is-fitted-requires c κs = search needs
 
 returns-2 : tie.Need-returns-2
 returns-2 c =
@@ -52,24 +37,6 @@ returns-2 c =
     let a = v .before .before .before .before .args in
     type-unfitted (a .id) (pairsOf (a .catalogue .now) (a .fit .now)) (pairAt (a .catalogue .now) (a .fit .now) (a .i)) (sym (told v) ∙ ap valueOf (m .answer .given .1))
     (sym (f .is-fitted .ensures (a .catalogue .now)) ∙ not-true _ (c .if1 .taken))
-
-item-type-requires : tie.Need-item-type-requires
-item-type-requires c κs = search needs
-
-count-of-type-requires : tie.Need-count-of-type-requires
-count-of-type-requires c κs = search needs
-
-to-u32-requires : tie.Need-to-u32-requires
-to-u32-requires c κs = search needs
-
-cast-t18 : tie.Need-cast-t18
-cast-t18 c = search needs
-
-emit-when-requires : tie.Need-emit-when-requires
-emit-when-requires c κs = search needs
-
-same-length : tie.Need-same-length
-same-length c = search needs
 
 returns-3 : tie.Need-returns-3
 returns-3 c =
@@ -93,17 +60,17 @@ pub type-limit-at-spec : {M : Type 1} → statement M
 type-limit-at-spec =
     tie.close
     (tie.spec
-    add-value
-    value-requires
-    enum-known-answer
-    enum-told
+    (λ c. search needs)
+    (λ c κs. search needs)
+    (λ c. search needs)
+    (λ c. search needs)
     returns
-    is-fitted-requires
+    (λ c κs. search needs)
     returns-2
-    item-type-requires
-    count-of-type-requires
-    to-u32-requires
-    cast-t18
-    emit-when-requires
-    same-length
+    (λ c κs. search needs)
+    (λ c κs. search needs)
+    (λ c κs. search needs)
+    (λ c. search needs)
+    (λ c κs. search needs)
+    (λ c. search needs)
     returns-3)

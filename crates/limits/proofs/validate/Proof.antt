@@ -5,15 +5,6 @@ use borrow.Author.Needs.{needs}
 use Rattle.limits.proofs.validate.Statement.{statement}
 use Rattle.limits.proofs.validate.Tie as tie
 
-group-limits-requires : tie.Need-group-limits-requires
-group-limits-requires c κs = search needs
-
-type-limit-requires : tie.Need-type-limit-requires
-type-limit-requires c κs = search needs
-
-same-length : tie.Need-same-length
-same-length c = search needs
-
 returns : tie.Need-returns
 returns c =
     let t = c .before .before in
@@ -21,4 +12,4 @@ returns c =
     (wrote-append (g .group-limits .ensures .0) (t .type-limit .ensures .0), omega (arith, t .type-limit .ensures .1, g .group-limits .ensures .1))
 
 pub validate-spec : {M : Type 1} → statement M
-validate-spec = tie.close (tie.spec group-limits-requires type-limit-requires same-length returns)
+validate-spec = tie.close (tie.spec (λ c κs. search needs) (λ c κs. search needs) (λ c. search needs) returns)

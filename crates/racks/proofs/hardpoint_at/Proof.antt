@@ -8,18 +8,9 @@ use borrow.Author.Needs.{needs}
 use Rattle.racks.proofs.hardpoint_at.Statement.{statement}
 use Rattle.racks.proofs.hardpoint_at.Tie as tie
 
-hardpoint-requires : tie.Need-hardpoint-requires
-hardpoint-requires c κs = search needs
-
 on-hardpoint-requires : tie.Need-on-hardpoint-requires
 on-hardpoint-requires c κs =
     let s = c .before .before .before .before in (s .pre .0 .fit-sound, omega (arith, c .hardpoint .ensures .0, hardpoint-small (s .args .i) (s .pre .2)))
-
-report-requires : tie.Need-report-requires
-report-requires c κs = search needs
-
-same-length : tie.Need-same-length
-same-length c = search needs
 
 returns : tie.Need-returns
 returns c =
@@ -37,4 +28,4 @@ returns c =
 pub hardpoint-at-spec : {M : Type 1} → statement M
 hardpoint-at-spec =
     tie.close
-    (tie.spec hardpoint-requires on-hardpoint-requires report-requires same-length returns)
+    (tie.spec (λ c κs. search needs) on-hardpoint-requires (λ c κs. search needs) (λ c. search needs) returns)

@@ -10,9 +10,6 @@ use Rattle.slot.specs.Tables.{hardpointNumbers, rowAt, onHardpoint}
 use Rattle.racks.proofs.Reports.{hardpoints-rows}
 use Rattle.racks.proofs.hardpoints.Statement.{statement}
 use Rattle.racks.proofs.hardpoints.Tie as tie
-use Rattle.racks.proofs.hardpoints.Reads as reads
-use Rattle.racks.proofs.hardpoints.Lts as lts
-use Rattle.racks.proofs.hardpoint_at.Reads as hardpoint-at-reads
 
 abbrev Inv-loop : tie.InvT-loop
 Inv-loop catalogue fit starts hardpoints out₀ n k₀ i₀ out k i =

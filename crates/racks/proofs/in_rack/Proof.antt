@@ -1,5 +1,5 @@
 -- `racks::in_rack` meets its contract. The invariant: the count so far is that of the first i pairs.
-use Prim.Native.Nat.{ℕ, _+_, _-_, _≤_}
+use Prim.Native.Nat.{ℕ, _-_, _≤_}
 use native.Mathlib.Omega.{arith}
 use mathlib.Core.Path.{_≡_, sym}
 use mathlib.Core.List.{List}
@@ -7,14 +7,10 @@ use borrow.Author.Needs.{needs}
 use Rattle.words.specs.Words.{table, countOf}
 use Rattle.words.proofs.Tables.{count-none}
 use Rattle.context.specs.Context.{isIn}
-use Rattle.context.specs.Gathered.{pairAt, pairCount}
+use Rattle.context.specs.Gathered.{pairAt}
 use Rattle.racks.proofs.Counts.{count-turn, count-all}
 use Rattle.racks.proofs.in_rack.Statement.{statement}
 use Rattle.racks.proofs.in_rack.Tie as tie
-use Rattle.racks.proofs.in_rack.Reads as reads
-use Rattle.racks.proofs.in_rack.Lts as lts
-use Rattle.fit.proofs.pair_count.Reads as pair-count-reads
-use Rattle.context.proofs.is_in.Reads as is-in-reads
 
 abbrev Inv-loop : tie.InvT-loop
 Inv-loop fit slot count used₀ i₀ used i = (i ≤ count) × ((used ≤ i) × ((catalogue : List ℕ) → used ≡ countOf (isIn slot) (table i (pairAt catalogue fit))))
@@ -22,17 +18,11 @@ Inv-loop fit slot count used₀ i₀ used i = (i ≤ count) × ((used ≤ i) × 
 abbrev μ-loop : tie.MeasureT-loop
 μ-loop fit slot count used₀ i₀ used i = count - i
 
-pair-count-requires : tie.Need-pair-count-requires Inv-loop μ-loop
-pair-count-requires c κs = search needs
-
 loop-holds : tie.Need-loop-holds Inv-loop μ-loop
 loop-holds c = (omega arith, (omega arith, λ catalogue. sym (count-none _ _)))
 
 is-in-requires : tie.Need-is-in-requires Inv-loop μ-loop
 is-in-requires c κs = (c .before .before .before .before .pre, omega arith)
-
-one-if-requires : tie.Need-one-if-requires Inv-loop μ-loop
-one-if-requires c κs = search needs
 
 add-used : tie.Need-add-used Inv-loop μ-loop
 add-used c = omega arith
@@ -65,10 +55,10 @@ in-rack-spec =
     (tie.spec
     Inv-loop
     μ-loop
-    pair-count-requires
+    (λ c κs. search needs)
     loop-holds
     is-in-requires
-    one-if-requires
+    (λ c κs. search needs)
     add-used
     add-i
     loop-less

@@ -1,12 +1,12 @@
 -- `racks::on_hardpoint` meets its contract. The invariant: the count so far is that of the first i pairs.
-use Prim.Native.Nat.{ℕ, _+_, _-_, _≤_}
+use Prim.Native.Nat.{ℕ, _-_, _≤_}
 use native.Mathlib.Omega.{arith}
 use mathlib.Core.Path.{_≡_, sym}
 use mathlib.Core.List.{List}
 use borrow.Author.Needs.{needs}
 use Rattle.words.specs.Words.{table, countOf}
 use Rattle.words.proofs.Tables.{count-none}
-use Rattle.context.specs.Gathered.{pairAt, pairCount, Hardpoints}
+use Rattle.context.specs.Gathered.{pairAt, Hardpoints}
 use Rattle.slot.specs.Slot.{takesHardpoint}
 use Rattle.racks.proofs.Counts.{count-turn, count-all}
 use Rattle.racks.proofs.on_hardpoint.Statement.{statement}
@@ -19,17 +19,11 @@ Inv-loop fit hardpoints slot count used₀ i₀ used i =
 abbrev μ-loop : tie.MeasureT-loop
 μ-loop fit hardpoints slot count used₀ i₀ used i = count - i
 
-pair-count-requires : tie.Need-pair-count-requires Inv-loop μ-loop
-pair-count-requires c κs = search needs
-
 loop-holds : tie.Need-loop-holds Inv-loop μ-loop
 loop-holds c = (omega arith, (omega arith, λ catalogue h. sym (count-none _ _)))
 
 takes-hardpoint-requires : tie.Need-takes-hardpoint-requires Inv-loop μ-loop
 takes-hardpoint-requires c κs = let s = c .before .before .before .before in (s .pre .0, omega arith, s .pre .1)
-
-one-if-requires : tie.Need-one-if-requires Inv-loop μ-loop
-one-if-requires c κs = search needs
 
 add-used : tie.Need-add-used Inv-loop μ-loop
 add-used c = omega arith
@@ -62,10 +56,10 @@ on-hardpoint-spec =
     (tie.spec
     Inv-loop
     μ-loop
-    pair-count-requires
+    (λ c κs. search needs)
     loop-holds
     takes-hardpoint-requires
-    one-if-requires
+    (λ c κs. search needs)
     add-used
     add-i
     loop-less

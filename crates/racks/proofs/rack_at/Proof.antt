@@ -7,18 +7,6 @@ use borrow.Author.Needs.{needs}
 use Rattle.racks.proofs.rack_at.Statement.{statement}
 use Rattle.racks.proofs.rack_at.Tie as tie
 
-rack-requires : tie.Need-rack-requires
-rack-requires c κs = search needs
-
-in-rack-requires : tie.Need-in-rack-requires
-in-rack-requires c κs = search needs
-
-report-requires : tie.Need-report-requires
-report-requires c κs = search needs
-
-same-length : tie.Need-same-length
-same-length c = search needs
-
 returns : tie.Need-returns
 returns c =
     let w = c .before .before .report .ensures in
@@ -30,4 +18,4 @@ returns c =
 
 pub rack-at-spec : {M : Type 1} → statement M
 rack-at-spec =
-    tie.close (tie.spec rack-requires in-rack-requires report-requires same-length returns)
+    tie.close (tie.spec (λ c κs. search needs) (λ c κs. search needs) (λ c κs. search needs) (λ c. search needs) returns)

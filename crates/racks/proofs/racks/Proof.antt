@@ -10,9 +10,6 @@ use Rattle.slot.specs.Tables.{rackNumbers, rowAt, inRack}
 use Rattle.racks.proofs.Reports.{racks-rows}
 use Rattle.racks.proofs.racks.Statement.{statement}
 use Rattle.racks.proofs.racks.Tie as tie
-use Rattle.racks.proofs.racks.Reads as reads
-use Rattle.racks.proofs.racks.Lts as lts
-use Rattle.racks.proofs.rack_at.Reads as rack-at-reads
 
 abbrev Inv-loop : tie.InvT-loop
 Inv-loop catalogue fit starts out₀ n k₀ i₀ out k i =

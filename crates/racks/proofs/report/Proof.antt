@@ -1,8 +1,6 @@
 -- `racks::report` meets its contract, by whether the attribute is known.
-use Prim.Native.Nat.{ℕ}
 use native.Mathlib.Omega.{arith}
 use mathlib.Core.Path.{_≡_, sym, ap, _∙_}
-use mathlib.Core.Option.{some}
 use lib.Dec.{ltb}
 use mir.Syntax.{w32}
 use mir.ValLaws.{toZ-ofZ}
@@ -18,27 +16,6 @@ use Rattle.racks.proofs.Reports.{slots-is, slots-none}
 use borrow.Author.Needs.{needs}
 use Rattle.racks.proofs.report.Statement.{statement}
 use Rattle.racks.proofs.report.Tie as tie
-
-attribute-id-requires : tie.Need-attribute-id-requires
-attribute-id-requires c κs = search needs
-
-enum-known-id : tie.Need-enum-known-id
-enum-known-id c = search needs
-
-amount-requires : tie.Need-amount-requires
-amount-requires c κs = search needs
-
-to-u32-requires : tie.Need-to-u32-requires
-to-u32-requires c κs = search needs
-
-emit-when-requires : tie.Need-emit-when-requires
-emit-when-requires c κs = search needs
-
-enum-told : tie.Need-enum-told
-enum-told c = search needs
-
-same-length : tie.Need-same-length
-same-length c = search needs
 
 returns : tie.Need-returns
 returns c =
@@ -68,12 +45,12 @@ pub report-spec : {M : Type 1} → statement M
 report-spec =
     tie.close
     (tie.spec
-    attribute-id-requires
-    enum-known-id
-    amount-requires
-    to-u32-requires
-    emit-when-requires
-    enum-told
-    same-length
+    (λ c κs. search needs)
+    (λ c. search needs)
+    (λ c κs. search needs)
+    (λ c κs. search needs)
+    (λ c κs. search needs)
+    (λ c. search needs)
+    (λ c. search needs)
     returns
     returns-2)

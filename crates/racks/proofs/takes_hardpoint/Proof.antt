@@ -8,18 +8,6 @@ use borrow.Author.Needs.{needs}
 use Rattle.racks.proofs.takes_hardpoint.Statement.{statement}
 use Rattle.racks.proofs.takes_hardpoint.Tie as tie
 
-item-slot-requires : tie.Need-item-slot-requires
-item-slot-requires c κs = search needs
-
-is-fitted-requires : tie.Need-is-fitted-requires
-is-fitted-requires c κs = search needs
-
-slot-at-requires : tie.Need-slot-at-requires
-slot-at-requires c κs = search needs
-
-both-requires : tie.Need-both-requires
-both-requires c κs = search needs
-
 returns : tie.Need-returns
 returns c =
     let s = c .before .before .before .before .before in
@@ -30,4 +18,4 @@ returns c =
 pub takes-hardpoint-spec : {M : Type 1} → statement M
 takes-hardpoint-spec =
     tie.close
-    (tie.spec item-slot-requires is-fitted-requires slot-at-requires both-requires returns)
+    (tie.spec (λ c κs. search needs) (λ c κs. search needs) (λ c κs. search needs) (λ c κs. search needs) returns)

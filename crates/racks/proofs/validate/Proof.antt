@@ -5,15 +5,6 @@ use borrow.Author.Needs.{needs}
 use Rattle.racks.proofs.validate.Statement.{statement}
 use Rattle.racks.proofs.validate.Tie as tie
 
-racks-requires : tie.Need-racks-requires
-racks-requires c κs = search needs
-
-hardpoints-requires : tie.Need-hardpoints-requires
-hardpoints-requires c κs = search needs
-
-same-length : tie.Need-same-length
-same-length c = search needs
-
 returns : tie.Need-returns
 returns c =
     let h = c .before .before in
@@ -22,4 +13,4 @@ returns c =
     let v = h .hardpoints .ensures in (omega (arith, u .0, v .0), wrote-append (u .1) (v .1))
 
 pub validate-spec : {M : Type 1} → statement M
-validate-spec = tie.close (tie.spec racks-requires hardpoints-requires same-length returns)
+validate-spec = tie.close (tie.spec (λ c κs. search needs) (λ c κs. search needs) (λ c. search needs) returns)

@@ -1,5 +1,5 @@
 -- `replay::replay` is safe and ends. The invariant: n is the length of the record at `at`, or 0; no more passed than were tried.
-use Prim.Native.Nat.{ℕ, _+_, _-_, _<_, _≤_}
+use Prim.Native.Nat.{_+_, _-_, _<_, _≤_}
 use native.Mathlib.Omega.{arith}
 use mathlib.Core.Path.{_≡_}
 use lib.ListN.{length}

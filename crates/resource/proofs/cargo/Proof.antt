@@ -10,24 +10,6 @@ use borrow.Author.Needs.{needs}
 use Rattle.resource.proofs.cargo.Statement.{statement}
 use Rattle.resource.proofs.cargo.Tie as tie
 
-attribute-id-requires : tie.Need-attribute-id-requires
-attribute-id-requires c κs = search needs
-
-enum-known-capacity : tie.Need-enum-known-capacity
-enum-known-capacity c = search needs
-
-cargo-load-requires : tie.Need-cargo-load-requires
-cargo-load-requires c κs = search needs
-
-resource-requires : tie.Need-resource-requires
-resource-requires c κs = search needs
-
-enum-told : tie.Need-enum-told
-enum-told c = search needs
-
-same-length : tie.Need-same-length
-same-length c = search needs
-
 returns : tie.Need-returns
 returns c =
     let l = c .before .before .before .before in
@@ -49,11 +31,11 @@ pub cargo-spec : {M : Type 1} → statement M
 cargo-spec =
     tie.close
     (tie.spec
-    attribute-id-requires
-    enum-known-capacity
-    cargo-load-requires
-    resource-requires
-    enum-told
-    same-length
+    (λ c κs. search needs)
+    (λ c. search needs)
+    (λ c κs. search needs)
+    (λ c κs. search needs)
+    (λ c. search needs)
+    (λ c. search needs)
     returns
     returns-2)

@@ -8,12 +8,6 @@ use borrow.Author.Needs.{needs}
 use Rattle.resource.proofs.cargo_load.Statement.{statement}
 use Rattle.resource.proofs.cargo_load.Tie as tie
 
-cargo-used-requires : tie.Need-cargo-used-requires
-cargo-used-requires c κs = search needs
-
-amount-requires : tie.Need-amount-requires
-amount-requires c κs = search needs
-
 returns : tie.Need-returns
 returns c =
     let u = c .before in
@@ -23,4 +17,4 @@ returns c =
     )
 
 pub cargo-load-spec : {M : Type 1} → statement M
-cargo-load-spec = tie.close (tie.spec cargo-used-requires amount-requires returns)
+cargo-load-spec = tie.close (tie.spec (λ c κs. search needs) (λ c κs. search needs) returns)

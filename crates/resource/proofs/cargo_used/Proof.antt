@@ -19,9 +19,6 @@ Inv-loop fit volumes n sum₀ i₀ sum i = (i ≤ n) × (n ≡ pairCount fit) ×
 abbrev μ-loop : tie.MeasureT-loop
 μ-loop fit volumes n sum₀ i₀ sum i = n - i
 
-pair-count-requires : tie.Need-pair-count-requires Inv-loop μ-loop
-pair-count-requires c κs = search needs
-
 loop-holds : tie.Need-loop-holds Inv-loop μ-loop
 unfolding tableFrom ofBits
 loop-holds c = (omega arith, c .pair-count .ensures, refl)
@@ -57,7 +54,7 @@ cargo-used-spec =
     (tie.spec
     Inv-loop
     μ-loop
-    pair-count-requires
+    (λ c κs. search needs)
     loop-holds
     cargo-with-requires
     add-i

@@ -11,26 +11,11 @@ use borrow.Author.Needs.{needs}
 use Rattle.resource.proofs.cargo_with.Statement.{statement}
 use Rattle.resource.proofs.cargo_with.Tie as tie
 
-item-slot-requires : tie.Need-item-slot-requires
-item-slot-requires c κs = search needs
-
 returns : tie.Need-returns
 returns c =
     let a = c .before .before .before .args in
     let e : eqb (itemAt (a .fit .now) (a .i) .slot) 11 ≡ false = ne-eqb _ _ (λ q. c .if1 .taken (c .before .item-slot .ensures ∙ q)) in
     rw e
-
-mul-result : tie.Need-mul-result
-mul-result c = search needs
-
-element-copy-out-result : tie.Need-element-copy-out-result
-element-copy-out-result c = search needs
-
-item-quantity-requires : tie.Need-item-quantity-requires
-item-quantity-requires c κs = search needs
-
-of-u32-requires : tie.Need-of-u32-requires
-of-u32-requires c κs = search needs
 
 returns-2 : tie.Need-returns-2
 returns-2 c =
@@ -43,10 +28,10 @@ pub cargo-with-spec : {M : Type 1} → statement M
 cargo-with-spec =
     tie.close
     (tie.spec
-    item-slot-requires
+    (λ c κs. search needs)
     returns
-    mul-result
-    element-copy-out-result
-    item-quantity-requires
-    of-u32-requires
+    (λ c. search needs)
+    (λ c. search needs)
+    (λ c κs. search needs)
+    (λ c κs. search needs)
     returns-2)

@@ -9,15 +9,6 @@ use borrow.Author.Needs.{needs}
 use Rattle.resource.proofs.drones_load.Statement.{statement}
 use Rattle.resource.proofs.drones_load.Tie as tie
 
-launched-requires : tie.Need-launched-requires
-launched-requires c κs = search needs
-
-nearest-u64-to-f64-requires : tie.Need-nearest-u64-to-f64-requires
-nearest-u64-to-f64-requires c κs = search needs
-
-amount-requires : tie.Need-amount-requires
-amount-requires c κs = search needs
-
 returns : tie.Need-returns
 returns c =
     let x = c .before in
@@ -28,4 +19,4 @@ returns c =
     )
 
 pub drones-load-spec : {M : Type 1} → statement M
-drones-load-spec = tie.close (tie.spec launched-requires nearest-u64-to-f64-requires amount-requires returns)
+drones-load-spec = tie.close (tie.spec (λ c κs. search needs) (λ c κs. search needs) (λ c κs. search needs) returns)

@@ -1,5 +1,5 @@
 -- `resource::launched` meets its contract. The invariant: the sum of the first i pairs, each below 2 ^ 32.
-use Prim.Native.Nat.{ℕ, _+_, _*_, _-_, _≤_}
+use Prim.Native.Nat.{ℕ, _*_, _-_, _≤_}
 use native.Mathlib.Omega.{arith}
 use mathlib.Core.Path.{_≡_, refl, ap, _∙_}
 use borrow.Author.Needs.{needs}
@@ -15,9 +15,6 @@ Inv-loop fit n sum₀ i₀ sum i = (i ≤ n) × (n ≡ pairCount fit) × (sum �
 
 abbrev μ-loop : tie.MeasureT-loop
 μ-loop fit n sum₀ i₀ sum i = n - i
-
-pair-count-requires : tie.Need-pair-count-requires Inv-loop μ-loop
-pair-count-requires c κs = search needs
 
 loop-holds : tie.Need-loop-holds Inv-loop μ-loop
 unfolding sumOf tableFrom
@@ -57,7 +54,7 @@ launched-spec =
     (tie.spec
     Inv-loop
     μ-loop
-    pair-count-requires
+    (λ c κs. search needs)
     loop-holds
     launched-at-requires
     add-sum

@@ -1,5 +1,5 @@
 -- `resource::launched_at` meets its contract, by the slot and the state.
-use Prim.Native.Nat.{ℕ, _+_}
+use Prim.Native.Nat.{_+_}
 use mathlib.Core.Path.{_≡_, sym, ap, _∙_}
 use mathlib.Core.Bool.{true, false}
 use lib.Dec.{eqb, leb, lit<}
@@ -9,20 +9,11 @@ use borrow.Author.Needs.{needs}
 use Rattle.resource.proofs.launched_at.Statement.{statement}
 use Rattle.resource.proofs.launched_at.Tie as tie
 
-item-slot-requires : tie.Need-item-slot-requires
-item-slot-requires c κs = search needs
-
 returns : tie.Need-returns
 returns c =
     let a = c .before .before .before .args in
     let e : eqb (itemAt (a .fit .now) (a .i) .slot) 10 ≡ false = ne-eqb _ _ (λ q. c .if1 .taken (c .before .item-slot .ensures ∙ q)) in
     (rw e, lit< tt)
-
-add-result-state : tie.Need-add-result-state
-add-result-state c = search needs
-
-result-state-requires : tie.Need-result-state-requires
-result-state-requires c κs = search needs
 
 returns-2 : tie.Need-returns-2
 returns-2 c =
@@ -31,12 +22,6 @@ returns-2 c =
     let e : eqb (itemAt (a .fit .now) (a .i) .slot) 10 ≡ true = eq-eqb _ _ (sym (b .item-slot .ensures) ∙ c .before .before .if1 .left) in
     let g : leb 2 (resultOf (a .fit .now) (a .i + 2) .state) ≡ false = ap (leb 2) (sym (c .before .result-state .ensures)) ∙ lt-leb _ _ (c .if2 .taken) in
     (rw (e, g), lit< tt)
-
-item-quantity-requires : tie.Need-item-quantity-requires
-item-quantity-requires c κs = search needs
-
-cast-result : tie.Need-cast-result
-cast-result c = search needs
 
 returns-3 : tie.Need-returns-3
 returns-3 c =
@@ -50,11 +35,11 @@ pub launched-at-spec : {M : Type 1} → statement M
 launched-at-spec =
     tie.close
     (tie.spec
-    item-slot-requires
+    (λ c κs. search needs)
     returns
-    add-result-state
-    result-state-requires
+    (λ c. search needs)
+    (λ c κs. search needs)
     returns-2
-    item-quantity-requires
-    cast-result
+    (λ c κs. search needs)
+    (λ c. search needs)
     returns-3)

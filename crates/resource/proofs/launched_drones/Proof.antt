@@ -10,24 +10,6 @@ use borrow.Author.Needs.{needs}
 use Rattle.resource.proofs.launched_drones.Statement.{statement}
 use Rattle.resource.proofs.launched_drones.Tie as tie
 
-attribute-id-requires : tie.Need-attribute-id-requires
-attribute-id-requires c κs = search needs
-
-enum-known-max-active : tie.Need-enum-known-max-active
-enum-known-max-active c = search needs
-
-drones-load-requires : tie.Need-drones-load-requires
-drones-load-requires c κs = search needs
-
-resource-requires : tie.Need-resource-requires
-resource-requires c κs = search needs
-
-enum-told : tie.Need-enum-told
-enum-told c = search needs
-
-same-length : tie.Need-same-length
-same-length c = search needs
-
 returns : tie.Need-returns
 returns c =
     let l = c .before .before .before .before in
@@ -49,11 +31,11 @@ pub launched-drones-spec : {M : Type 1} → statement M
 launched-drones-spec =
     tie.close
     (tie.spec
-    attribute-id-requires
-    enum-known-max-active
-    drones-load-requires
-    resource-requires
-    enum-told
-    same-length
+    (λ c κs. search needs)
+    (λ c. search needs)
+    (λ c κs. search needs)
+    (λ c κs. search needs)
+    (λ c. search needs)
+    (λ c. search needs)
     returns
     returns-2)

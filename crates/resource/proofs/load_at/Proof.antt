@@ -1,5 +1,5 @@
 -- `resource::load_at` meets its contract: the source's row is the definition's.
-use Prim.Native.Nat.{ℕ, _+_, _*_, _<_}
+use Prim.Native.Nat.{_*_, _<_}
 use mathlib.Core.Path.{_≡_, ap, _∙_}
 use lib.ListN.{getD}
 use Rattle.entry.proofs.Wrote.{wrote-same}
@@ -10,42 +10,6 @@ use Rattle.resource.proofs.Rows.{rows, row-same, row-kind, row-load, ro
 use borrow.Author.Needs.{needs}
 use Rattle.resource.proofs.load_at.Statement.{statement}
 use Rattle.resource.proofs.load_at.Tie as tie
-
-mul-kind : tie.Need-mul-kind
-mul-kind c = search needs
-
-array-read-kind : tie.Need-array-read-kind
-array-read-kind c = search needs
-
-mul-wide32 : tie.Need-mul-wide32
-mul-wide32 c = search needs
-
-add-wide32 : tie.Need-add-wide32
-add-wide32 c = search needs
-
-array-read-wide32 : tie.Need-array-read-wide32
-array-read-wide32 c = search needs
-
-wide32-requires : tie.Need-wide32-requires
-wide32-requires c κs = search needs
-
-mul-wide32-2 : tie.Need-mul-wide32-2
-mul-wide32-2 c = search needs
-
-add-wide32-2 : tie.Need-add-wide32-2
-add-wide32-2 c = search needs
-
-array-read-wide32-2 : tie.Need-array-read-wide32-2
-array-read-wide32-2 c = search needs
-
-wide32-requires-2 : tie.Need-wide32-requires-2
-wide32-requires-2 c κs = search needs
-
-load-row-requires : tie.Need-load-row-requires
-load-row-requires c κs = search needs
-
-same-length : tie.Need-same-length
-same-length c = search needs
 
 returns : tie.Need-returns
 returns c =
@@ -60,16 +24,16 @@ pub load-at-spec : {M : Type 1} → statement M
 load-at-spec =
     tie.close
     (tie.spec
-    mul-kind
-    array-read-kind
-    mul-wide32
-    add-wide32
-    array-read-wide32
-    wide32-requires
-    mul-wide32-2
-    add-wide32-2
-    array-read-wide32-2
-    wide32-requires-2
-    load-row-requires
-    same-length
+    (λ c. search needs)
+    (λ c. search needs)
+    (λ c. search needs)
+    (λ c. search needs)
+    (λ c. search needs)
+    (λ c κs. search needs)
+    (λ c. search needs)
+    (λ c. search needs)
+    (λ c. search needs)
+    (λ c κs. search needs)
+    (λ c κs. search needs)
+    (λ c. search needs)
     returns)

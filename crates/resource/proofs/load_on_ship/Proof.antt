@@ -8,17 +8,11 @@ use borrow.Author.Needs.{needs}
 use Rattle.resource.proofs.load_on_ship.Statement.{statement}
 use Rattle.resource.proofs.load_on_ship.Tie as tie
 
-amount-requires : tie.Need-amount-requires
-amount-requires c κs = search needs
-
-amount-requires-2 : tie.Need-amount-requires-2
-amount-requires-2 c κs = search needs
-
 returns : tie.Need-returns
 returns c =
     let s = c .before .before .before in
-    let hull = amount (resultOf (s .args .fit .now) 0) in
-    (c .before .amount .ensures ∙ ap hull (toZ-ofZ w32 (s .args .load) (s .fits .load)), c .amount2 .ensures ∙ ap hull (toZ-ofZ w32 (s .args .output) (s .fits .output)))
+    let shipResult = amount (resultOf (s .args .fit .now) 0) in
+    (c .before .amount .ensures ∙ ap shipResult (toZ-ofZ w32 (s .args .load) (s .fits .load)), c .amount2 .ensures ∙ ap shipResult (toZ-ofZ w32 (s .args .output) (s .fits .output)))
 
 pub load-on-ship-spec : {M : Type 1} → statement M
-load-on-ship-spec = tie.close (tie.spec amount-requires amount-requires-2 returns)
+load-on-ship-spec = tie.close (tie.spec (λ c κs. search needs) (λ c κs. search needs) returns)

@@ -1,6 +1,5 @@
 -- `resource::load_row` meets its contract, by whether both names have ids.
-use mathlib.Core.Path.{_≡_, sym, ap, _∙_}
-use Prim.Native.Nat.{ℕ}
+use mathlib.Core.Path.{sym, ap, _∙_}
 use mir.Syntax.{w32}
 use mir.ValLaws.{toZ-ofZ}
 use Rattle.catalogue.specs.Answers.{idOf}
@@ -10,33 +9,6 @@ use Rattle.resource.proofs.Named.{load-some, load-half, load-none}
 use borrow.Author.Needs.{needs}
 use Rattle.resource.proofs.load_row.Statement.{statement}
 use Rattle.resource.proofs.load_row.Tie as tie
-
-attribute-id-requires : tie.Need-attribute-id-requires
-attribute-id-requires c κs = search needs
-
-attribute-id-requires-2 : tie.Need-attribute-id-requires-2
-attribute-id-requires-2 c κs = search needs
-
-enum-known-used : tie.Need-enum-known-used
-enum-known-used c = search needs
-
-enum-known-available : tie.Need-enum-known-available
-enum-known-available c = search needs
-
-load-on-ship-requires : tie.Need-load-on-ship-requires
-load-on-ship-requires c κs = search needs
-
-resource-requires : tie.Need-resource-requires
-resource-requires c κs = search needs
-
-enum-told : tie.Need-enum-told
-enum-told c = search needs
-
-enum-told-2 : tie.Need-enum-told-2
-enum-told-2 c = search needs
-
-same-length : tie.Need-same-length
-same-length c = search needs
 
 returns : tie.Need-returns
 returns c =
@@ -67,15 +39,15 @@ pub load-row-spec : {M : Type 1} → statement M
 load-row-spec =
     tie.close
     (tie.spec
-    attribute-id-requires
-    attribute-id-requires-2
-    enum-known-used
-    enum-known-available
-    load-on-ship-requires
-    resource-requires
-    enum-told
-    enum-told-2
-    same-length
+    (λ c κs. search needs)
+    (λ c κs. search needs)
+    (λ c. search needs)
+    (λ c. search needs)
+    (λ c κs. search needs)
+    (λ c κs. search needs)
+    (λ c. search needs)
+    (λ c. search needs)
+    (λ c. search needs)
     returns
     returns-2
     returns-3)

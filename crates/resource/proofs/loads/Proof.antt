@@ -1,5 +1,5 @@
 -- `resource::loads` meets its contract. The invariant: the first i rows are listed, at most one entry each.
-use Prim.Native.Nat.{ℕ, _+_, _-_, _≤_}
+use Prim.Native.Nat.{_+_, _-_, _≤_}
 use native.Mathlib.Omega.{arith}
 use lib.ListN.{take, getD}
 use Rattle.words.specs.Words.{each}

@@ -10,15 +10,6 @@ use borrow.Author.Needs.{needs}
 use Rattle.resource.proofs.resource.Statement.{statement}
 use Rattle.resource.proofs.resource.Tie as tie
 
-over-requires : tie.Need-over-requires
-over-requires c κs = search needs
-
-emit-when-requires : tie.Need-emit-when-requires
-emit-when-requires c κs = search needs
-
-same-length : tie.Need-same-length
-same-length c = search needs
-
 returns : tie.Need-returns
 unfolding resource
 returns c =
@@ -26,4 +17,4 @@ returns c =
     wrote-same (ap (λ (b : Bool). when b (onShip (Resource (a .kind) (a .load .used) (a .load .available)))) (c .before .before .before .over .ensures)) (c .before .before .emit-when .ensures)
 
 pub resource-spec : {M : Type 1} → statement M
-resource-spec = tie.close (tie.spec over-requires emit-when-requires same-length returns)
+resource-spec = tie.close (tie.spec (λ c κs. search needs) (λ c κs. search needs) (λ c. search needs) returns)

@@ -7,12 +7,6 @@ use borrow.Author.Needs.{needs}
 use Rattle.resource.proofs.validate.Statement.{statement}
 use Rattle.resource.proofs.validate.Tie as tie
 
-loads-requires : tie.Need-loads-requires
-loads-requires c κs = search needs
-
-launched-drones-requires : tie.Need-launched-drones-requires
-launched-drones-requires c κs = search needs
-
 cargo-requires : tie.Need-cargo-requires
 cargo-requires c κs =
     let s = c .before .before .before .before .before .before .before .before .before .before .before .before in
@@ -20,9 +14,6 @@ cargo-requires c κs =
     let d = c .before .before .before .launched-drones .ensures in
     let few = few-drones (contextOf (s .args .catalogue .now) (s .args .fit .now)) (pairsOf (s .args .catalogue .now) (s .args .fit .now)) in
     (s .pre .0, s .pre .1, omega (arith, s .pre .2, l .1, d .count, few))
-
-same-length : tie.Need-same-length
-same-length c = search needs
 
 returns : tie.Need-returns
 returns c =
@@ -36,4 +27,4 @@ returns c =
 
 pub validate-spec : {M : Type 1} → statement M
 validate-spec =
-    tie.close (tie.spec loads-requires launched-drones-requires cargo-requires same-length returns)
+    tie.close (tie.spec (λ c κs. search needs) (λ c κs. search needs) cargo-requires (λ c. search needs) returns)

@@ -23,24 +23,6 @@ abbrev μ-loop : tie.MeasureT-loop
 loop-holds : tie.Need-loop-holds Inv-loop μ-loop
 loop-holds c = (omega arith, sym (any-none _ _))
 
-mul-x : tie.Need-mul-x Inv-loop μ-loop
-mul-x c = search needs
-
-element-copy-out-x : tie.Need-element-copy-out-x Inv-loop μ-loop
-element-copy-out-x c = search needs
-
-same-id-requires : tie.Need-same-id-requires Inv-loop μ-loop
-same-id-requires c κs = search needs
-
-either-requires : tie.Need-either-requires Inv-loop μ-loop
-either-requires c κs = search needs
-
-add-i : tie.Need-add-i Inv-loop μ-loop
-add-i c = search needs
-
-loop-less : tie.Need-loop-less Inv-loop μ-loop
-loop-less c = search needs
-
 loop-again : tie.Need-loop-again Inv-loop μ-loop
 loop-again c =
     let g = c .before in
@@ -67,4 +49,4 @@ returns c =
 pub is-among-spec : {M : Type 1} → statement M
 is-among-spec =
     tie.close
-    (tie.spec Inv-loop μ-loop loop-holds mul-x element-copy-out-x same-id-requires either-requires add-i loop-less loop-again returns)
+    (tie.spec Inv-loop μ-loop loop-holds (λ c. search needs) (λ c. search needs) (λ c κs. search needs) (λ c κs. search needs) (λ c. search needs) (λ c. search needs) loop-again returns)

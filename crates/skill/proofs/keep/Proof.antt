@@ -8,33 +8,6 @@ use borrow.Author.Needs.{needs}
 use Rattle.skill.proofs.keep.Statement.{statement}
 use Rattle.skill.proofs.keep.Tie as tie
 
-enum-known-skill : tie.Need-enum-known-skill
-enum-known-skill c = search needs
-
-enum-known-level : tie.Need-enum-known-level
-enum-known-level c = search needs
-
-mul-s : tie.Need-mul-s
-mul-s c = search needs
-
-element-set-from-s : tie.Need-element-set-from-s
-element-set-from-s c = search needs
-
-mul-l : tie.Need-mul-l
-mul-l c = search needs
-
-element-set-from-l : tie.Need-element-set-from-l
-element-set-from-l c = search needs
-
-add-result : tie.Need-add-result
-add-result c = search needs
-
-enum-told : tie.Need-enum-told
-enum-told c = search needs
-
-enum-told-2 : tie.Need-enum-told-2
-enum-told-2 c = search needs
-
 returns : tie.Need-returns
 returns c =
     let s = c .before .before .before .before .before .before in
@@ -57,15 +30,15 @@ pub keep-spec : {M : Type 1} → statement M
 keep-spec =
     tie.close
     (tie.spec
-    enum-known-skill
-    enum-known-level
-    mul-s
-    element-set-from-s
-    mul-l
-    element-set-from-l
-    add-result
-    enum-told
-    enum-told-2
+    (λ c. search needs)
+    (λ c. search needs)
+    (λ c. search needs)
+    (λ c. search needs)
+    (λ c. search needs)
+    (λ c. search needs)
+    (λ c. search needs)
+    (λ c. search needs)
+    (λ c. search needs)
     returns
     returns-2
     returns-3)

@@ -12,15 +12,6 @@ use borrow.Author.Needs.{needs}
 use Rattle.skill.proofs.note.Statement.{statement}
 use Rattle.skill.proofs.note.Tie as tie
 
-place-requires : tie.Need-place-requires
-place-requires c κs = search needs
-
-element-copy-out-if2 : tie.Need-element-copy-out-if2
-element-copy-out-if2 c = search needs
-
-element-write-levels : tie.Need-element-write-levels
-element-write-levels c = search needs
-
 returns : tie.Need-returns
 returns c =
     let s = c .before .before .before .before .before in
@@ -49,18 +40,6 @@ returns-2 c =
       count = found-length ids levels (s .args .len) (s .args .id) (s .args .level) (p .result) q (c .before .before .if1 .taken);
       holds = λ _. kept ids levels (s .args .len) (s .args .id) (s .args .level) (p .result) q (c .before .before .if1 .taken) (omega (arith, c .if2 .left));
     }
-
-mul-id : tie.Need-mul-id
-mul-id c = search needs
-
-element-set-from-id : tie.Need-element-set-from-id
-element-set-from-id c = search needs
-
-element-write-levels-2 : tie.Need-element-write-levels-2
-element-write-levels-2 c = search needs
-
-add-result : tie.Need-add-result
-add-result c = search needs
 
 returns-3 : tie.Need-returns-3
 returns-3 c =
@@ -99,14 +78,14 @@ pub note-spec : {M : Type 1} → statement M
 note-spec =
     tie.close
     (tie.spec
-    place-requires
-    element-copy-out-if2
-    element-write-levels
+    (λ c κs. search needs)
+    (λ c. search needs)
+    (λ c. search needs)
     returns
     returns-2
-    mul-id
-    element-set-from-id
-    element-write-levels-2
-    add-result
+    (λ c. search needs)
+    (λ c. search needs)
+    (λ c. search needs)
+    (λ c. search needs)
     returns-3
     returns-4)

@@ -10,21 +10,6 @@ use borrow.Author.Needs.{needs}
 use Rattle.skill.proofs.note_base.Statement.{statement}
 use Rattle.skill.proofs.note_base.Tie as tie
 
-base-value-requires : tie.Need-base-value-requires
-base-value-requires c κs = search needs
-
-enum-known-wanted : tie.Need-enum-known-wanted
-enum-known-wanted c = search needs
-
-base-value-requires-2 : tie.Need-base-value-requires-2
-base-value-requires-2 c κs = search needs
-
-note-value-requires : tie.Need-note-value-requires
-note-value-requires c κs = search needs
-
-enum-told : tie.Need-enum-told
-enum-told c = search needs
-
 returns : tie.Need-returns
 returns c =
     let s = c .before .before .before .before .before .before .before .before .before in
@@ -50,10 +35,10 @@ pub note-base-spec : {M : Type 1} → statement M
 note-base-spec =
     tie.close
     (tie.spec
-    base-value-requires
-    enum-known-wanted
-    base-value-requires-2
-    note-value-requires
-    enum-told
+    (λ c κs. search needs)
+    (λ c. search needs)
+    (λ c κs. search needs)
+    (λ c κs. search needs)
+    (λ c. search needs)
     returns
     returns-2)

@@ -11,21 +11,6 @@ use borrow.Author.Needs.{needs}
 use Rattle.skill.proofs.note_reached.Statement.{statement}
 use Rattle.skill.proofs.note_reached.Tie as tie
 
-value-requires : tie.Need-value-requires
-value-requires c κs = search needs
-
-enum-known-wanted : tie.Need-enum-known-wanted
-enum-known-wanted c = search needs
-
-value-requires-2 : tie.Need-value-requires-2
-value-requires-2 c κs = search needs
-
-note-value-requires : tie.Need-note-value-requires
-note-value-requires c κs = search needs
-
-enum-told : tie.Need-enum-told
-enum-told c = search needs
-
 returns : tie.Need-returns
 returns c =
     let s = c .before .before .before .before .before .before .before .before .before in
@@ -51,10 +36,10 @@ pub note-reached-spec : {M : Type 1} → statement M
 note-reached-spec =
     tie.close
     (tie.spec
-    value-requires
-    enum-known-wanted
-    value-requires-2
-    note-value-requires
-    enum-told
+    (λ c κs. search needs)
+    (λ c. search needs)
+    (λ c κs. search needs)
+    (λ c κs. search needs)
+    (λ c. search needs)
     returns
     returns-2)

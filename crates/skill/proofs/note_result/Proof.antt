@@ -29,27 +29,6 @@ loop-holds c =
     let a = s .args in
     (omega arith, refl, notes-same (sym (asked-none (a .t4 .skills) (a .t4 .levels) (value (resultOf (a .fit .now) (a .result))))) (notes-none (s .pre .5) (s .pre .6) (s .pre .4)))
 
-mul-skill : tie.Need-mul-skill Inv-loop μ-loop
-mul-skill c = search needs
-
-element-copy-out-skill : tie.Need-element-copy-out-skill Inv-loop μ-loop
-element-copy-out-skill c = search needs
-
-mul-level : tie.Need-mul-level Inv-loop μ-loop
-mul-level c = search needs
-
-element-copy-out-level : tie.Need-element-copy-out-level Inv-loop μ-loop
-element-copy-out-level c = search needs
-
-note-reached-requires : tie.Need-note-reached-requires Inv-loop μ-loop
-note-reached-requires c κs = search needs
-
-add-i : tie.Need-add-i Inv-loop μ-loop
-add-i c = search needs
-
-loop-less : tie.Need-loop-less Inv-loop μ-loop
-loop-less c = search needs
-
 loop-again : tie.Need-loop-again Inv-loop μ-loop
 loop-again c =
     let l = c .before .before .before .before .before .before .loop in
@@ -73,12 +52,12 @@ note-result-spec =
     Inv-loop
     μ-loop
     loop-holds
-    mul-skill
-    element-copy-out-skill
-    mul-level
-    element-copy-out-level
-    note-reached-requires
-    add-i
-    loop-less
+    (λ c. search needs)
+    (λ c. search needs)
+    (λ c. search needs)
+    (λ c. search needs)
+    (λ c κs. search needs)
+    (λ c. search needs)
+    (λ c. search needs)
     loop-again
     returns)

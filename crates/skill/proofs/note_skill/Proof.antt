@@ -25,35 +25,11 @@ Inv-loop catalogue id ids₀ levels₀ len pairs span n k₀ i₀ ids levels k i
 abbrev μ-loop : tie.MeasureT-loop
 μ-loop catalogue id ids₀ levels₀ len pairs span n k₀ i₀ ids levels k i = n - i
 
-bases-of-requires : tie.Need-bases-of-requires Inv-loop μ-loop
-bases-of-requires c κs = search needs
-
 loop-holds : tie.Need-loop-holds Inv-loop μ-loop
 loop-holds c =
     let s = c .before .before in
     let a = s .args in
     (omega arith, refl, notes-same (sym (asked-none (a .t3 .skills) (a .t3 .levels) (baseValue (catalogueOf (a .catalogue .now)) (toZ w32 (ofZ w32 (a .id)))))) (notes-none (s .pre .3) (s .pre .4) (s .pre .2)))
-
-mul-skill : tie.Need-mul-skill Inv-loop μ-loop
-mul-skill c = search needs
-
-element-copy-out-skill : tie.Need-element-copy-out-skill Inv-loop μ-loop
-element-copy-out-skill c = search needs
-
-mul-level : tie.Need-mul-level Inv-loop μ-loop
-mul-level c = search needs
-
-element-copy-out-level : tie.Need-element-copy-out-level Inv-loop μ-loop
-element-copy-out-level c = search needs
-
-note-base-requires : tie.Need-note-base-requires Inv-loop μ-loop
-note-base-requires c κs = search needs
-
-add-i : tie.Need-add-i Inv-loop μ-loop
-add-i c = search needs
-
-loop-less : tie.Need-loop-less Inv-loop μ-loop
-loop-less c = search needs
 
 loop-again : tie.Need-loop-again Inv-loop μ-loop
 loop-again c =
@@ -90,14 +66,14 @@ note-skill-spec =
     (tie.spec
     Inv-loop
     μ-loop
-    bases-of-requires
+    (λ c κs. search needs)
     loop-holds
-    mul-skill
-    element-copy-out-skill
-    mul-level
-    element-copy-out-level
-    note-base-requires
-    add-i
-    loop-less
+    (λ c. search needs)
+    (λ c. search needs)
+    (λ c. search needs)
+    (λ c. search needs)
+    (λ c κs. search needs)
+    (λ c. search needs)
+    (λ c. search needs)
     loop-again
     returns)

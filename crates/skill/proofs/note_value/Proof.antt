@@ -17,18 +17,6 @@ use Rattle.skill.proofs.note_value.Tie as tie
 returns : tie.Need-returns
 returns c = let s = c .before in notes-full (asked (s .args .skill) (valueOf (s .args .level)) ∷ []) (s .pre .1) (s .pre .2) (s .pre .0) (c .if1 .taken)
 
-to-i32-requires : tie.Need-to-i32-requires
-to-i32-requires c κs = search needs
-
-amount-requires : tie.Need-amount-requires
-amount-requires c κs = search needs
-
-to-u8-requires : tie.Need-to-u8-requires
-to-u8-requires c κs = search needs
-
-note-requires : tie.Need-note-requires
-note-requires c κs = search needs
-
 returns-2 : tie.Need-returns-2
 returns-2 c =
     let id = c .before .before .before .to-i32 in
@@ -39,4 +27,4 @@ returns-2 c =
 pub note-value-spec : {M : Type 1} → statement M
 note-value-spec =
     tie.close
-    (tie.spec returns to-i32-requires amount-requires to-u8-requires note-requires returns-2)
+    (tie.spec returns (λ c κs. search needs) (λ c κs. search needs) (λ c κs. search needs) (λ c κs. search needs) returns-2)

@@ -21,9 +21,6 @@ Inv-loop ids len id i₀ i = (i ≤ len) × ((k : ℕ) → k < i → ofZ w32 (ge
 abbrev μ-loop : tie.MeasureT-loop
 μ-loop ids len id i₀ i = len - i
 
-is-among-requires : tie.Need-is-among-requires Inv-loop μ-loop
-is-among-requires c κs = search needs
-
 returns : tie.Need-returns Inv-loop μ-loop
 returns c =
     let s = c .before .before in
@@ -34,15 +31,6 @@ returns c =
       found = λ h. absurd (omega (arith, h));
     }
 
-loop-holds : tie.Need-loop-holds Inv-loop μ-loop
-loop-holds c = search needs
-
-mul-x : tie.Need-mul-x Inv-loop μ-loop
-mul-x c = search needs
-
-element-copy-out-x : tie.Need-element-copy-out-x Inv-loop μ-loop
-element-copy-out-x c = search needs
-
 returns-2 : tie.Need-returns-2 Inv-loop μ-loop
 returns-2 c =
     let l = c .before .before .before in
@@ -51,12 +39,6 @@ returns-2 c =
       before = λ k h e. l .loop .inv .1 k h (ap (ofZ w32) e);
       found = λ h. same-bits w32 (record { sfits = c .before .x .given }) (l .before .before .before .fits .id) (c .if2 .taken);
     }
-
-add-i : tie.Need-add-i Inv-loop μ-loop
-add-i c = search needs
-
-loop-less : tie.Need-loop-less Inv-loop μ-loop
-loop-less c = search needs
 
 loop-again : tie.Need-loop-again Inv-loop μ-loop
 loop-again c = (search needs, below-more _ _ (c .before .before .before .loop .inv .1) (c .if2 .left))
@@ -75,13 +57,13 @@ place-spec =
     (tie.spec
     Inv-loop
     μ-loop
-    is-among-requires
+    (λ c κs. search needs)
     returns
-    loop-holds
-    mul-x
-    element-copy-out-x
+    (λ c. search needs)
+    (λ c. search needs)
+    (λ c. search needs)
     returns-2
-    add-i
-    loop-less
+    (λ c. search needs)
+    (λ c. search needs)
     loop-again
     returns-3)

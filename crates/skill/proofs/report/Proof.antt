@@ -31,24 +31,6 @@ loop-holds c =
     let w = a .t3 in
     (omega arith, omega arith, wrote-table-none (entryOf (fitOf (a .fit .now)) (a .result)) (heldAt (w .ids) (w .levels)) _ _, omega arith)
 
-mul-id : tie.Need-mul-id Inv-loop μ-loop
-mul-id c = search needs
-
-element-copy-out-id : tie.Need-element-copy-out-id Inv-loop μ-loop
-element-copy-out-id c = search needs
-
-element-copy-out-wanted : tie.Need-element-copy-out-wanted Inv-loop μ-loop
-element-copy-out-wanted c = search needs
-
-report-skill-requires : tie.Need-report-skill-requires Inv-loop μ-loop
-report-skill-requires c κs = search needs
-
-add-i : tie.Need-add-i Inv-loop μ-loop
-add-i c = search needs
-
-loop-less : tie.Need-loop-less Inv-loop μ-loop
-loop-less c = search needs
-
 loop-again : tie.Need-loop-again Inv-loop μ-loop
 unfolding heldOf
 loop-again c =
@@ -79,12 +61,12 @@ report-spec =
     Inv-loop
     μ-loop
     loop-holds
-    mul-id
-    element-copy-out-id
-    element-copy-out-wanted
-    report-skill-requires
-    add-i
-    loop-less
+    (λ c. search needs)
+    (λ c. search needs)
+    (λ c. search needs)
+    (λ c κs. search needs)
+    (λ c. search needs)
+    (λ c. search needs)
     loop-again
     same-length
     returns)

@@ -16,18 +16,6 @@ use borrow.Author.Needs.{needs}
 use Rattle.skill.proofs.report_skill.Statement.{statement}
 use Rattle.skill.proofs.report_skill.Tie as tie
 
-trained-level-requires : tie.Need-trained-level-requires
-trained-level-requires c κs = search needs
-
-target-of-requires : tie.Need-target-of-requires
-target-of-requires c κs = search needs
-
-emit-when-requires : tie.Need-emit-when-requires
-emit-when-requires c κs = search needs
-
-same-length : tie.Need-same-length
-same-length c = search needs
-
 returns : tie.Need-returns
 unfolding entryOf
 returns c =
@@ -45,4 +33,4 @@ returns c =
 pub report-skill-spec : {M : Type 1} → statement M
 report-skill-spec =
     tie.close
-    (tie.spec trained-level-requires target-of-requires emit-when-requires same-length returns)
+    (tie.spec (λ c κs. search needs) (λ c κs. search needs) (λ c κs. search needs) (λ c. search needs) returns)

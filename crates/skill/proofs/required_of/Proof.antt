@@ -25,15 +25,6 @@ loop-holds : tie.Need-loop-holds Inv-loop μ-loop
 unfolding each
 loop-holds c = (omega arith, omega arith, refl, refl, pairs-start _ _)
 
-keep-row-requires : tie.Need-keep-row-requires Inv-loop μ-loop
-keep-row-requires c κs = search needs
-
-add-i : tie.Need-add-i Inv-loop μ-loop
-add-i c = search needs
-
-loop-less : tie.Need-loop-less Inv-loop μ-loop
-loop-less c = search needs
-
 loop-again : tie.Need-loop-again Inv-loop μ-loop
 loop-again c =
     let l = c .before .before .before .before .loop in
@@ -57,4 +48,4 @@ returns c =
 pub required-of-spec : {M : Type 1} → statement M
 required-of-spec =
     tie.close
-    (tie.spec Inv-loop μ-loop loop-holds keep-row-requires add-i loop-less loop-again returns)
+    (tie.spec Inv-loop μ-loop loop-holds (λ c κs. search needs) (λ c. search needs) (λ c. search needs) loop-again returns)

@@ -8,11 +8,8 @@ use Rattle.skill.proofs.target_of.Tie as tie
 returns : tie.Need-returns
 returns c = target-ship (c .before .args .result) (omega (arith, c .if1 .taken))
 
-cast-t4 : tie.Need-cast-t4
-cast-t4 c = search needs
-
 returns-2 : tie.Need-returns-2
 returns-2 c = target-item (c .before .args .result) _ (omega (arith, c .if1 .left))
 
 pub target-of-spec : {M : Type 1} → statement M
-target-of-spec = tie.close (tie.spec returns cast-t4 returns-2)
+target-of-spec = tie.close (tie.spec returns (λ c. search needs) returns-2)

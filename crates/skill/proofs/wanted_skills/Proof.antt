@@ -25,15 +25,6 @@ Inv-loop catalogue fit starts result pairs ids₀ levels₀ len₀ next₀ ids l
 abbrev μ-loop : tie.MeasureT-loop
 μ-loop catalogue fit starts result pairs ids₀ levels₀ len₀ next₀ ids levels len next = 512 - next
 
-required-of-requires : tie.Need-required-of-requires Inv-loop μ-loop
-required-of-requires c κs = search needs
-
-new-requires : tie.Need-new-requires Inv-loop μ-loop
-new-requires c κs = search needs
-
-note-result-requires : tie.Need-note-result-requires Inv-loop μ-loop
-note-result-requires c κs = search needs
-
 loop-holds : tie.Need-loop-holds Inv-loop μ-loop
 loop-holds c =
     let a = c .before .before .before .before .before .before .before .before .before .args in
@@ -47,21 +38,6 @@ returns c =
     let l = c .before .before .loop in
     let a = c .before .before .before .before .before .before .before .before .before .before .before .before .args in
     walked-over (a .catalogue .now) (a .fit .now) (a .result) (l .next) (record { ids = l .ids; levels = l .levels; len = l .len }) (l .inv .1) (l .inv .0) (omega (arith, c .if1 .taken))
-
-mul-id : tie.Need-mul-id Inv-loop μ-loop
-mul-id c = search needs
-
-array-copy-out-id : tie.Need-array-copy-out-id Inv-loop μ-loop
-array-copy-out-id c = search needs
-
-note-skill-requires : tie.Need-note-skill-requires Inv-loop μ-loop
-note-skill-requires c κs = search needs
-
-add-next : tie.Need-add-next Inv-loop μ-loop
-add-next c = search needs
-
-loop-less : tie.Need-loop-less Inv-loop μ-loop
-loop-less c = search needs
 
 loop-again : tie.Need-loop-again Inv-loop μ-loop
 loop-again c =
@@ -89,15 +65,15 @@ wanted-skills-spec =
     (tie.spec
     Inv-loop
     μ-loop
-    required-of-requires
-    new-requires
-    note-result-requires
+    (λ c κs. search needs)
+    (λ c κs. search needs)
+    (λ c κs. search needs)
     loop-holds
     returns
-    mul-id
-    array-copy-out-id
-    note-skill-requires
-    add-next
-    loop-less
+    (λ c. search needs)
+    (λ c. search needs)
+    (λ c κs. search needs)
+    (λ c. search needs)
+    (λ c. search needs)
     loop-again
     returns-2)

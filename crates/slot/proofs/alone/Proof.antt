@@ -5,24 +5,6 @@ use borrow.Author.Needs.{needs}
 use Rattle.slot.proofs.alone.Statement.{statement}
 use Rattle.slot.proofs.alone.Tie as tie
 
-wrong-slot-requires : tie.Need-wrong-slot-requires
-wrong-slot-requires c κs = search needs
-
-not-a-module-requires : tie.Need-not-a-module-requires
-not-a-module-requires c κs = search needs
-
-not-a-drone-requires : tie.Need-not-a-drone-requires
-not-a-drone-requires c κs = search needs
-
-not-a-fighter-requires : tie.Need-not-a-fighter-requires
-not-a-fighter-requires c κs = search needs
-
-not-an-implant-requires : tie.Need-not-an-implant-requires
-not-an-implant-requires c κs = search needs
-
-same-length : tie.Need-same-length
-same-length c = search needs
-
 returns : tie.Need-returns
 returns c =
     let e = c .before .before in
@@ -43,10 +25,10 @@ pub alone-spec : {M : Type 1} → statement M
 alone-spec =
     tie.close
     (tie.spec
-    wrong-slot-requires
-    not-a-module-requires
-    not-a-drone-requires
-    not-a-fighter-requires
-    not-an-implant-requires
-    same-length
+    (λ c κs. search needs)
+    (λ c κs. search needs)
+    (λ c κs. search needs)
+    (λ c κs. search needs)
+    (λ c κs. search needs)
+    (λ c. search needs)
     returns)

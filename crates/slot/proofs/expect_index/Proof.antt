@@ -8,21 +8,6 @@ use borrow.Author.Needs.{needs}
 use Rattle.slot.proofs.expect_index.Statement.{statement}
 use Rattle.slot.proofs.expect_index.Tie as tie
 
-enum-known-value : tie.Need-enum-known-value
-enum-known-value c = search needs
-
-to-u16-requires : tie.Need-to-u16-requires
-to-u16-requires c κs = search needs
-
-push-when-requires : tie.Need-push-when-requires
-push-when-requires c κs = search needs
-
-enum-told : tie.Need-enum-told
-enum-told c = search needs
-
-same-length : tie.Need-same-length
-same-length c = search needs
-
 returns : tie.Need-returns
 returns c =
     let w = c .before .before .push-when .ensures in
@@ -38,10 +23,10 @@ pub expect-index-spec : {M : Type 1} → statement M
 expect-index-spec =
     tie.close
     (tie.spec
-    enum-known-value
-    to-u16-requires
-    push-when-requires
-    enum-told
-    same-length
+    (λ c. search needs)
+    (λ c κs. search needs)
+    (λ c κs. search needs)
+    (λ c. search needs)
+    (λ c. search needs)
     returns
     returns-2)

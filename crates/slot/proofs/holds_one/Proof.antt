@@ -7,16 +7,10 @@ use borrow.Author.Needs.{needs}
 use Rattle.slot.proofs.holds_one.Statement.{statement}
 use Rattle.slot.proofs.holds_one.Tie as tie
 
-either-requires : tie.Need-either-requires
-either-requires c κs = search needs
-
-either-requires-2 : tie.Need-either-requires-2
-either-requires-2 c κs = search needs
-
 returns : tie.Need-returns
 returns c =
     let s = c .before .before .args .slot in
     λ p e. ap not (c .either2 .ensures ∙ ap (λ (t : Bool). t || eqb s 11) (c .before .either .ensures)) ∙ holds-one-is p e
 
 pub holds-one-spec : {M : Type 1} → statement M
-holds-one-spec = tie.close (tie.spec either-requires either-requires-2 returns)
+holds-one-spec = tie.close (tie.spec (λ c κs. search needs) (λ c κs. search needs) returns)

@@ -4,12 +4,6 @@ use borrow.Author.Needs.{needs}
 use Rattle.slot.proofs.is_part.Statement.{statement}
 use Rattle.slot.proofs.is_part.Tie as tie
 
-enum-known-value : tie.Need-enum-known-value
-enum-known-value c = search needs
-
-enum-told : tie.Need-enum-told
-enum-told c = search needs
-
 returns : tie.Need-returns
 unfolding given
 returns c = rw (c .before .value .given .1)
@@ -19,4 +13,4 @@ unfolding given
 returns-2 c = rw (c .enum-told .given .1)
 
 pub is-part-spec : {M : Type 1} → statement M
-is-part-spec = tie.close (tie.spec enum-known-value enum-told returns returns-2)
+is-part-spec = tie.close (tie.spec (λ c. search needs) (λ c. search needs) returns returns-2)

@@ -1,5 +1,4 @@
 -- `slot::item_at` meets its contract: each field as its reader ensures it.
-use native.Mathlib.Omega.{arith}
 use mathlib.Core.Path.{refl, ap, _∙_}
 use mir.Syntax.{w32}
 use mir.ValLaws.{toZ-ofZ}
@@ -7,21 +6,6 @@ use Rattle.context.specs.Gathered.{slotIn}
 use borrow.Author.Needs.{needs}
 use Rattle.slot.proofs.item_at.Statement.{statement}
 use Rattle.slot.proofs.item_at.Tie as tie
-
-cast-t5 : tie.Need-cast-t5
-cast-t5 c = search needs
-
-item-slot-requires : tie.Need-item-slot-requires
-item-slot-requires c κs = search needs
-
-item-index-requires : tie.Need-item-index-requires
-item-index-requires c κs = search needs
-
-category-at-requires : tie.Need-category-at-requires
-category-at-requires c κs = search needs
-
-slot-at-requires : tie.Need-slot-at-requires
-slot-at-requires c κs = search needs
 
 returns : tie.Need-returns
 returns c =
@@ -43,9 +27,9 @@ pub item-at-spec : {M : Type 1} → statement M
 item-at-spec =
     tie.close
     (tie.spec
-    cast-t5
-    item-slot-requires
-    item-index-requires
-    category-at-requires
-    slot-at-requires
+    (λ c. search needs)
+    (λ c κs. search needs)
+    (λ c κs. search needs)
+    (λ c κs. search needs)
+    (λ c κs. search needs)
     returns)

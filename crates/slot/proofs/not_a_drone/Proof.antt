@@ -5,14 +5,8 @@ use borrow.Author.Needs.{needs}
 use Rattle.slot.proofs.not_a_drone.Statement.{statement}
 use Rattle.slot.proofs.not_a_drone.Tie as tie
 
-push-unless-requires : tie.Need-push-unless-requires
-push-unless-requires c κs = search needs
-
-same-length : tie.Need-same-length
-same-length c = search needs
-
 returns : tie.Need-returns
 returns c = checked notADrone (c .before .before .push-unless .ensures) (λ x p h. not-a-drone-is x h)
 
 pub not-a-drone-spec : {M : Type 1} → statement M
-not-a-drone-spec = tie.close (tie.spec push-unless-requires same-length returns)
+not-a-drone-spec = tie.close (tie.spec (λ c κs. search needs) (λ c. search needs) returns)

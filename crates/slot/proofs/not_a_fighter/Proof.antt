@@ -11,20 +11,11 @@ use borrow.Author.Needs.{needs}
 use Rattle.slot.proofs.not_a_fighter.Statement.{statement}
 use Rattle.slot.proofs.not_a_fighter.Tie as tie
 
-either-requires : tie.Need-either-requires
-either-requires c κs = search needs
-
-push-unless-requires : tie.Need-push-unless-requires
-push-unless-requires c κs = search needs
-
-same-length : tie.Need-same-length
-same-length c = search needs
-
 returns : tie.Need-returns
 returns c =
     let b = c .before .before .before .before in
     let a = c .before .before .before .before .before .before .before .before .args in
-    checked notAFighter (c .before .before .push-unless .ensures) (λ x p h. ap (λ (t : Bool). when (t && not (same (a .item .category) (pos 87))) (onItem (a .item .at) NotAFighter)) (b .either .ensures) ∙ not-a-fighter-is x h)
+    checked notAFighter (c .before .before .push-unless .ensures) (λ x p h. ap (λ (t : Bool). when (t && not (same (a .item .category) (pos 87))) (onItem (a .item .position) NotAFighter)) (b .either .ensures) ∙ not-a-fighter-is x h)
 
 pub not-a-fighter-spec : {M : Type 1} → statement M
-not-a-fighter-spec = tie.close (tie.spec either-requires push-unless-requires same-length returns)
+not-a-fighter-spec = tie.close (tie.spec (λ c κs. search needs) (λ c κs. search needs) (λ c. search needs) returns)

@@ -11,20 +11,11 @@ use borrow.Author.Needs.{needs}
 use Rattle.slot.proofs.not_an_implant.Statement.{statement}
 use Rattle.slot.proofs.not_an_implant.Tie as tie
 
-either-requires : tie.Need-either-requires
-either-requires c κs = search needs
-
-push-unless-requires : tie.Need-push-unless-requires
-push-unless-requires c κs = search needs
-
-same-length : tie.Need-same-length
-same-length c = search needs
-
 returns : tie.Need-returns
 returns c =
     let b = c .before .before .before .before in
     let a = c .before .before .before .before .before .before .before .before .args in
-    checked notAnImplant (c .before .before .push-unless .ensures) (λ x p h. ap (λ (t : Bool). when (t && not (same (a .item .category) (pos 20))) (onItem (a .item .at) NotAnImplant)) (b .either .ensures) ∙ not-an-implant-is x h)
+    checked notAnImplant (c .before .before .push-unless .ensures) (λ x p h. ap (λ (t : Bool). when (t && not (same (a .item .category) (pos 20))) (onItem (a .item .position) NotAnImplant)) (b .either .ensures) ∙ not-an-implant-is x h)
 
 pub not-an-implant-spec : {M : Type 1} → statement M
-not-an-implant-spec = tie.close (tie.spec either-requires push-unless-requires same-length returns)
+not-an-implant-spec = tie.close (tie.spec (λ c κs. search needs) (λ c κs. search needs) (λ c. search needs) returns)

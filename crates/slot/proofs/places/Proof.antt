@@ -1,12 +1,11 @@
 -- `slot::places` meets its contract. The invariant: the first i pairs have been placed.
-use Prim.Native.Nat.{ℕ, _+_, _-_, _<_, _≤_}
+use Prim.Native.Nat.{ℕ, _-_, _<_, _≤_}
 use native.Mathlib.Omega.{arith}
 use mathlib.Core.Path.{_≡_, refl, _∙_}
 use mathlib.Core.List.{List}
 use lib.ListN.{length, getD, length-set}
 use borrow.Author.Needs.{needs}
 use Rattle.fit.specs.Fit.{itemAt}
-use Rattle.context.specs.Gathered.{pairCount}
 use Rattle.context.proofs.Filled.{filled-more}
 use Rattle.slot.specs.AtPair.{Sits}
 use Rattle.slot.proofs.Sharing.{sits-as}
@@ -24,23 +23,11 @@ Inv-loop fit count places₀ i₀ places i =
 abbrev μ-loop : tie.MeasureT-loop
 μ-loop fit count places₀ i₀ places i = count - i
 
-pair-count-requires : tie.Need-pair-count-requires Inv-loop μ-loop
-pair-count-requires c κs = search needs
-
 none : (k : ℕ) → k < 0 → ⊥
 none k h = omega arith
 
 loop-holds : tie.Need-loop-holds Inv-loop μ-loop
 loop-holds c = (omega arith, refl, λ k h. absurd (none k h))
-
-item-slot-requires : tie.Need-item-slot-requires Inv-loop μ-loop
-item-slot-requires c κs = search needs
-
-item-index-requires : tie.Need-item-index-requires Inv-loop μ-loop
-item-index-requires c κs = search needs
-
-place-of-requires : tie.Need-place-of-requires Inv-loop μ-loop
-place-of-requires c κs = search needs
 
 mul-places : tie.Need-mul-places Inv-loop μ-loop
 mul-places c = omega arith
@@ -74,11 +61,11 @@ places-spec =
     (tie.spec
     Inv-loop
     μ-loop
-    pair-count-requires
+    (λ c κs. search needs)
     loop-holds
-    item-slot-requires
-    item-index-requires
-    place-of-requires
+    (λ c κs. search needs)
+    (λ c κs. search needs)
+    (λ c κs. search needs)
     mul-places
     array-write-places
     add-i

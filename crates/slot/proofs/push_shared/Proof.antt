@@ -1,5 +1,5 @@
 -- `slot::push_shared` meets its contract, by the two cases of a value.
-use mathlib.Core.Path.{_≡_, ap, _∙_}
+use mathlib.Core.Path.{ap, _∙_}
 use lib.IntN.{ℤ}
 use mir.Syntax.{w32}
 use mir.ValLaws.{toZ-ofZ}
@@ -12,21 +12,6 @@ use Rattle.slot.proofs.Numbers.{part-shared, part-missing}
 use borrow.Author.Needs.{needs}
 use Rattle.slot.proofs.push_shared.Statement.{statement}
 use Rattle.slot.proofs.push_shared.Tie as tie
-
-enum-known-value : tie.Need-enum-known-value
-enum-known-value c = search needs
-
-shares-part-requires : tie.Need-shares-part-requires
-shares-part-requires c κs = search needs
-
-push-when-requires : tie.Need-push-when-requires
-push-when-requires c κs = search needs
-
-enum-told : tie.Need-enum-told
-enum-told c = search needs
-
-same-length : tie.Need-same-length
-same-length c = search needs
 
 returns : tie.Need-returns
 returns c =
@@ -50,10 +35,10 @@ pub push-shared-spec : {M : Type 1} → statement M
 push-shared-spec =
     tie.close
     (tie.spec
-    enum-known-value
-    shares-part-requires
-    push-when-requires
-    enum-told
-    same-length
+    (λ c. search needs)
+    (λ c κs. search needs)
+    (λ c κs. search needs)
+    (λ c. search needs)
+    (λ c. search needs)
     returns
     returns-2)

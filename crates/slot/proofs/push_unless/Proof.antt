@@ -10,18 +10,6 @@ use borrow.Author.Needs.{needs}
 use Rattle.slot.proofs.push_unless.Statement.{statement}
 use Rattle.slot.proofs.push_unless.Tie as tie
 
-same-id-requires : tie.Need-same-id-requires
-same-id-requires c κs = search needs
-
-both-requires : tie.Need-both-requires
-both-requires c κs = search needs
-
-push-when-requires : tie.Need-push-when-requires
-push-when-requires c κs = search needs
-
-same-length : tie.Need-same-length
-same-length c = search needs
-
 returns : tie.Need-returns
 returns c =
     let b = c .before .before .before .before in
@@ -32,9 +20,9 @@ returns c =
     rw (toZ-ofZ w32 (a .item .category) (record { sfits = fits }), toZ-ofZ w32 (a .category) (s .fits .category)) at (b .before .same-id .ensures) in
     let w = c .before .before .push-when .ensures in (
       w .0,
-      wrote-same (ap (λ (t : Bool). when t (onItem (a .item .at) (a .rule))) (b .both .ensures ∙ ap (λ (t : Bool). a .there && not t) e)) (w .1),
+      wrote-same (ap (λ (t : Bool). when t (onItem (a .item .position) (a .rule))) (b .both .ensures ∙ ap (λ (t : Bool). a .there && not t) e)) (w .1),
     )
 
 pub push-unless-spec : {M : Type 1} → statement M
 push-unless-spec =
-    tie.close (tie.spec same-id-requires both-requires push-when-requires same-length returns)
+    tie.close (tie.spec (λ c κs. search needs) (λ c κs. search needs) (λ c κs. search needs) (λ c. search needs) returns)

@@ -6,16 +6,10 @@ use borrow.Author.Needs.{needs}
 use Rattle.slot.proofs.push_when.Statement.{statement}
 use Rattle.slot.proofs.push_when.Tie as tie
 
-emit-when-requires : tie.Need-emit-when-requires
-emit-when-requires c κs = search needs
-
-same-length : tie.Need-same-length
-same-length c = search needs
-
 returns : tie.Need-returns
 returns c =
     let a = c .before .before .before .before .before .args in
-    let w = c .before .before .emit-when .ensures in (omega (arith, w .count, few-when (a .test) (onItem (a .item .at) (a .rule))), w)
+    let w = c .before .before .emit-when .ensures in (omega (arith, w .count, few-when (a .test) (onItem (a .item .position) (a .rule))), w)
 
 pub push-when-spec : {M : Type 1} → statement M
-push-when-spec = tie.close (tie.spec emit-when-requires same-length returns)
+push-when-spec = tie.close (tie.spec (λ c κs. search needs) (λ c. search needs) returns)

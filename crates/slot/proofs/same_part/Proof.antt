@@ -1,9 +1,7 @@
 -- `slot::same_part` meets its contract: another pair, a subsystem, its value.
-use native.Mathlib.Omega.{arith}
 use mathlib.Core.Path.{_≡_, sym, ap, _∙_}
 use mathlib.Core.Bool.{false}
 use mathlib.Core.Option.{Option}
-use lib.IntN.{ℤ}
 use lib.Ieee.{Float, eq}
 use borrow.Author.Tests.{not-true, not-false}
 use mir.Syntax.{w32}
@@ -18,30 +16,15 @@ use borrow.Author.Needs.{needs}
 use Rattle.slot.proofs.same_part.Statement.{statement}
 use Rattle.slot.proofs.same_part.Tie as tie
 
-position-requires : tie.Need-position-requires
-position-requires c κs = search needs
-
 returns : tie.Need-returns
 returns c =
     let a = c .before .before .before .args in
     λ catalogue p h. part-own (a .id) (a .part) (pairAt catalogue (a .fit .now) (a .j)) h (c .if1 .taken ∙ c .before .position .ensures)
 
-is-in-requires : tie.Need-is-in-requires
-is-in-requires c κs = search needs
-
 returns-2 : tie.Need-returns-2
 returns-2 c =
     let a = c .before .before .before .before .before .args in
     λ catalogue p h. part-elsewhere (a .id) (a .part) (pairAt catalogue (a .fit .now) (a .j)) h (λ e. c .before .before .if1 .left (e ∙ sym (c .before .before .before .position .ensures))) (sym (c .before .is-in .ensures catalogue) ∙ not-true _ (c .if2 .taken))
-
-add-value : tie.Need-add-value
-add-value c = search needs
-
-value-requires : tie.Need-value-requires
-value-requires c κs = search needs
-
-is-part-requires : tie.Need-is-part-requires
-is-part-requires c κs = search needs
 
 returns-3 : tie.Need-returns-3
 returns-3 c =
@@ -56,11 +39,11 @@ pub same-part-spec : {M : Type 1} → statement M
 same-part-spec =
     tie.close
     (tie.spec
-    position-requires
+    (λ c κs. search needs)
     returns
-    is-in-requires
+    (λ c κs. search needs)
     returns-2
-    add-value
-    value-requires
-    is-part-requires
+    (λ c. search needs)
+    (λ c κs. search needs)
+    (λ c κs. search needs)
     returns-3)

@@ -1,5 +1,5 @@
 -- `slot::shares_part` meets its contract. The invariant: the answer so far is that of the first j pairs.
-use Prim.Native.Nat.{ℕ, _+_, _-_, _≤_}
+use Prim.Native.Nat.{ℕ, _-_, _≤_}
 use native.Mathlib.Omega.{arith}
 use mathlib.Core.Path.{_≡_, sym, ap, _∙_}
 use mathlib.Core.List.{List}
@@ -12,7 +12,7 @@ use Rattle.words.specs.Words.{table, anyOf}
 use Rattle.words.proofs.Tables.{any-none}
 use Rattle.words.proofs.Elements.{any-turn}
 use Rattle.context.specs.Context.{Pair}
-use Rattle.context.specs.Gathered.{pairAt, pairCount, pairsOf}
+use Rattle.context.specs.Gathered.{pairAt, pairsOf}
 use Rattle.slot.specs.AtPair.{Holds, sharesPart}
 use Rattle.slot.proofs.Checks.{any-all}
 use Rattle.slot.proofs.shares_part.Statement.{statement}
@@ -25,17 +25,11 @@ Inv-loop fit starts item id part count found₀ j₀ found j =
 abbrev μ-loop : tie.MeasureT-loop
 μ-loop fit starts item id part count found₀ j₀ found j = count - j
 
-pair-count-requires : tie.Need-pair-count-requires Inv-loop μ-loop
-pair-count-requires c κs = search needs
-
 loop-holds : tie.Need-loop-holds Inv-loop μ-loop
 loop-holds c = (omega arith, λ catalogue p h. sym (any-none _ _))
 
 same-part-requires : tie.Need-same-part-requires Inv-loop μ-loop
 same-part-requires c κs = let s = c .before .before .before .before in (s .pre .0, s .pre .1, omega arith)
-
-either-requires : tie.Need-either-requires Inv-loop μ-loop
-either-requires c κs = search needs
 
 add-j : tie.Need-add-j Inv-loop μ-loop
 add-j c = omega arith
@@ -65,10 +59,10 @@ shares-part-spec =
     (tie.spec
     Inv-loop
     μ-loop
-    pair-count-requires
+    (λ c κs. search needs)
     loop-holds
     same-part-requires
-    either-requires
+    (λ c κs. search needs)
     add-j
     loop-less
     loop-again

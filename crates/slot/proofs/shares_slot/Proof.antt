@@ -22,12 +22,6 @@ Inv-loop fit places pairs place there₀ j₀ there j =
 abbrev μ-loop : tie.MeasureT-loop
 μ-loop fit places pairs place there₀ j₀ there j = pairs - j
 
-pair-count-requires : tie.Need-pair-count-requires Inv-loop μ-loop
-pair-count-requires c κs = search needs
-
-place-of-requires : tie.Need-place-of-requires Inv-loop μ-loop
-place-of-requires c κs = search needs
-
 loop-holds : tie.Need-loop-holds Inv-loop μ-loop
 loop-holds c = (omega arith, omega arith, λ catalogue i t. told-none i (any-none _ _))
 
@@ -36,9 +30,6 @@ mul-one-if c = omega arith
 
 element-copy-out-one-if : tie.Need-element-copy-out-one-if Inv-loop μ-loop
 element-copy-out-one-if c = omega arith
-
-one-if-requires : tie.Need-one-if-requires Inv-loop μ-loop
-one-if-requires c κs = search needs
 
 add-there : tie.Need-add-there Inv-loop μ-loop
 add-there c = omega arith
@@ -64,7 +55,7 @@ returns c =
     let s = c .before .before .before .before .before in
     let fit = s .args .fit .now in
     let e : l .j ≡ pairCount fit = omega arith in
-    λ catalogue i h. any-all (sharesSlot (pairAt catalogue fit i)) catalogue fit e (told-all (omega (arith, e, h .at, s .pre .2)) (l .inv .2 catalogue i (sits-as (h .slot) (h .index) (c .before .before .place-of .ensures))))
+    λ catalogue i h. any-all (sharesSlot (pairAt catalogue fit i)) catalogue fit e (told-all (omega (arith, e, h .position, s .pre .2)) (l .inv .2 catalogue i (sits-as (h .slot) (h .index) (c .before .before .place-of .ensures))))
 
 pub shares-slot-spec : {M : Type 1} → statement M
 shares-slot-spec =
@@ -72,12 +63,12 @@ shares-slot-spec =
     (tie.spec
     Inv-loop
     μ-loop
-    pair-count-requires
-    place-of-requires
+    (λ c κs. search needs)
+    (λ c κs. search needs)
     loop-holds
     mul-one-if
     element-copy-out-one-if
-    one-if-requires
+    (λ c κs. search needs)
     add-there
     add-j
     loop-less

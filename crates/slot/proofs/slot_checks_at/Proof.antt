@@ -11,12 +11,6 @@ use borrow.Author.Needs.{needs}
 use Rattle.slot.proofs.slot_checks_at.Statement.{statement}
 use Rattle.slot.proofs.slot_checks_at.Tie as tie
 
-item-at-requires : tie.Need-item-at-requires
-item-at-requires c κs = search needs
-
-alone-requires : tie.Need-alone-requires
-alone-requires c κs = search needs
-
 slot-taken-requires : tie.Need-slot-taken-requires
 slot-taken-requires c κs =
     let a = c .before .before .before in
@@ -53,9 +47,6 @@ subsystem-taken-requires c κs =
       omega (arith, w .wrong-slot-index .ensures .0, t .slot-taken .ensures .0, a .alone .ensures .0, s .pre .4),
     )
 
-same-length : tie.Need-same-length
-same-length c = search needs
-
 returns : tie.Need-returns
 unfolding slotChecks
 returns c =
@@ -71,7 +62,7 @@ returns c =
           let x = contextOf catalogue fit in
           let p = pairAt catalogue fit (s .args .i) in
           let h = m .item-at .ensures .1 catalogue hc hr in
-          let r : resultOf fit (s .args .i + 2) ≡ resultOf fit (m .item-at .result .at + 2) = ap (λ (j : ℕ). resultOf fit (j + 2)) (sym (m .item-at .ensures .0)) in
+          let r : resultOf fit (s .args .i + 2) ≡ resultOf fit (m .item-at .result .position + 2) = ap (λ (j : ℕ). resultOf fit (j + 2)) (sym (m .item-at .ensures .0)) in
           let known = named-context catalogue fit named in
           wrote-append (wrote-append (wrote-append (a .alone .ensures .1 x p h) (t .slot-taken .ensures .1 catalogue x (s .args .i) h)) (w .wrong-slot-index .ensures .1 x p known h r)) (u .subsystem-taken .ensures .1 catalogue x p known h r),
     )
@@ -80,10 +71,10 @@ pub slot-checks-at-spec : {M : Type 1} → statement M
 slot-checks-at-spec =
     tie.close
     (tie.spec
-    item-at-requires
-    alone-requires
+    (λ c κs. search needs)
+    (λ c κs. search needs)
     slot-taken-requires
     wrong-slot-index-requires
     subsystem-taken-requires
-    same-length
+    (λ c. search needs)
     returns)

@@ -1,5 +1,5 @@
 -- `slot::slot_number` meets its contract: the name by the slot.
-use mathlib.Core.Path.{_≡_, sym, ap, _∙_}
+use mathlib.Core.Path.{sym, ap, _∙_}
 use mathlib.Core.Option.{Option, none}
 use Prim.Native.Nat.{ℕ}
 use Rattle.words.specs.Words.{given}

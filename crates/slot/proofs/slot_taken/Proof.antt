@@ -7,23 +7,6 @@ use Rattle.slot.proofs.Checks.{slot-taken-is, slot-free}
 use borrow.Author.Needs.{needs}
 use Rattle.slot.proofs.slot_taken.Statement.{statement}
 use Rattle.slot.proofs.slot_taken.Tie as tie
-use Rattle.slot.proofs.slot_taken.Reads as reads
-use Rattle.slot.proofs.slot_taken.Lts as lts
-use Rattle.slot.proofs.holds_one.Reads as holds-one-reads
-use Rattle.slot.proofs.push_when.Reads as push-when-reads
-use Rattle.slot.proofs.shares_slot.Reads as shares-slot-reads
-
-holds-one-requires : tie.Need-holds-one-requires
-holds-one-requires c κs = search needs
-
-shares-slot-requires : tie.Need-shares-slot-requires
-shares-slot-requires c κs = search needs
-
-push-when-requires : tie.Need-push-when-requires
-push-when-requires c κs = search needs
-
-same-length : tie.Need-same-length
-same-length c = search needs
 
 returns : tie.Need-returns
 returns c =
@@ -51,9 +34,9 @@ pub slot-taken-spec : {M : Type 1} → statement M
 slot-taken-spec =
     tie.close
     (tie.spec
-    holds-one-requires
-    shares-slot-requires
-    push-when-requires
-    same-length
+    (λ c κs. search needs)
+    (λ c κs. search needs)
+    (λ c κs. search needs)
+    (λ c. search needs)
     returns
     returns-2)

@@ -25,27 +25,6 @@ returns c =
       λ catalogue x p named h r. wrote-same (subsystem-not x (pairsOf catalogue (a .fit .now)) p (h .slot) (c .if1 .taken)) (wrote-none _ _),
     )
 
-enum-known-part : tie.Need-enum-known-part
-enum-known-part c = search needs
-
-position-requires : tie.Need-position-requires
-position-requires c κs = search needs
-
-add-value : tie.Need-add-value
-add-value c = search needs
-
-value-requires : tie.Need-value-requires
-value-requires c κs = search needs
-
-push-shared-requires : tie.Need-push-shared-requires
-push-shared-requires c κs = search needs
-
-enum-told : tie.Need-enum-told
-enum-told c = search needs
-
-same-length : tie.Need-same-length
-same-length c = search needs
-
 returns-2 : tie.Need-returns-2
 returns-2 c =
     let w = c .before .before .push-shared .ensures in
@@ -55,7 +34,7 @@ returns-2 c =
     let i = k .before .before .before in
     let a = i .before .before .before .before .args in
     let z = toZ-ofZ w32 (m .0 .0) (record { sfits = k .known-told .given .0 .1 }) in
-    let e : valueOf (v .value .result) ≡ value (resultOf (a .fit .now) (a .item .at + 2)) (m .0 .0) =
+    let e : valueOf (v .value .result) ≡ value (resultOf (a .fit .now) (a .item .position + 2)) (m .0 .0) =
     v .value .ensures
     ∙ ap (value (resultOf (a .fit .now) (v .before .position .result + 2))) z
     ∙ ap (λ (j : ℕ). value (resultOf (a .fit .now) (j + 2)) (m .0 .0)) (v .before .position .ensures) in (
@@ -80,12 +59,12 @@ subsystem-taken-spec =
     tie.close
     (tie.spec
     returns
-    enum-known-part
-    position-requires
-    add-value
-    value-requires
-    push-shared-requires
-    enum-told
-    same-length
+    (λ c. search needs)
+    (λ c κs. search needs)
+    (λ c. search needs)
+    (λ c κs. search needs)
+    (λ c κs. search needs)
+    (λ c. search needs)
+    (λ c. search needs)
     returns-2
     returns-3)

@@ -13,11 +13,6 @@ use Rattle.context.proofs.Pairs.{pairs-table}
 use Rattle.slot.specs.Slot.{slotChecks}
 use Rattle.slot.proofs.validate.Statement.{statement}
 use Rattle.slot.proofs.validate.Tie as tie
-use Rattle.slot.proofs.validate.Reads as reads
-use Rattle.slot.proofs.validate.Lts as lts
-use Rattle.fit.proofs.pair_count.Reads as pair-count-reads
-use Rattle.slot.proofs.ids_of.Reads as ids-of-reads
-use Rattle.slot.proofs.slot_checks_at.Reads as slot-checks-at-reads
 
 abbrev Inv-loop : tie.InvT-loop
 Inv-loop catalogue fit starts categories racks out₀ n ids places count k₀ i₀ out k i =
@@ -25,15 +20,6 @@ Inv-loop catalogue fit starts categories racks out₀ n ids places count k₀ i�
 
 abbrev μ-loop : tie.MeasureT-loop
 μ-loop catalogue fit starts categories racks out₀ n ids places count k₀ i₀ out k i = count - i
-
-ids-of-requires : tie.Need-ids-of-requires Inv-loop μ-loop
-ids-of-requires c κs = search needs
-
-places-requires : tie.Need-places-requires Inv-loop μ-loop
-places-requires c κs = search needs
-
-pair-count-requires : tie.Need-pair-count-requires Inv-loop μ-loop
-pair-count-requires c κs = search needs
 
 loop-holds : tie.Need-loop-holds Inv-loop μ-loop
 loop-holds c = (omega arith, (omega arith, wrote-table-none _ _ _ _))
@@ -94,9 +80,9 @@ validate-spec =
     (tie.spec
     Inv-loop
     μ-loop
-    ids-of-requires
-    places-requires
-    pair-count-requires
+    (λ c κs. search needs)
+    (λ c κs. search needs)
+    (λ c κs. search needs)
     loop-holds
     slot-checks-at-requires
     add-i

@@ -11,36 +11,21 @@ use borrow.Author.Needs.{needs}
 use Rattle.slot.proofs.wrong_slot.Statement.{statement}
 use Rattle.slot.proofs.wrong_slot.Tie as tie
 
-is-fitted-requires : tie.Need-is-fitted-requires
-is-fitted-requires c κs = search needs
-
-both-requires : tie.Need-both-requires
-both-requires c κs = search needs
-
-both-requires-2 : tie.Need-both-requires-2
-both-requires-2 c κs = search needs
-
-push-when-requires : tie.Need-push-when-requires
-push-when-requires c κs = search needs
-
-same-length : tie.Need-same-length
-same-length c = search needs
-
 returns : tie.Need-returns
 returns c =
     let b = c .before .before .before .before in
     let a = b .before .before .before .before .before .args in
     let t : b .both2 .result ≡ ltb (a .item .rack) 8 && (leb (a .item .slot) 5 && not (eqb (a .item .slot) (a .item .rack))) =
     rw (b .before .both .ensures, b .before .before .before .is-fitted .ensures) at (b .both2 .ensures) in
-    checked wrongSlot (c .before .before .push-when .ensures) (λ x p h. ap (λ (t : Bool). when t (onItem (a .item .at) (WrongSlot (a .item .rack)))) t ∙ wrong-slot-is x h)
+    checked wrongSlot (c .before .before .push-when .ensures) (λ x p h. ap (λ (t : Bool). when t (onItem (a .item .position) (WrongSlot (a .item .rack)))) t ∙ wrong-slot-is x h)
 
 pub wrong-slot-spec : {M : Type 1} → statement M
 wrong-slot-spec =
     tie.close
     (tie.spec
-    is-fitted-requires
-    both-requires
-    both-requires-2
-    push-when-requires
-    same-length
+    (λ c κs. search needs)
+    (λ c κs. search needs)
+    (λ c κs. search needs)
+    (λ c κs. search needs)
+    (λ c. search needs)
     returns)

@@ -2,7 +2,6 @@
 use native.Mathlib.Omega.{arith}
 use Prim.Native.Nat.{ℕ, _+_}
 use mathlib.Core.Path.{_≡_, sym, ap, _∙_}
-use lib.IntN.{ℤ}
 use mir.Syntax.{w32}
 use mir.ValLaws.{toZ-ofZ}
 use Rattle.catalogue.specs.Answers.{idOf}
@@ -15,30 +14,6 @@ use borrow.Author.Needs.{needs}
 use Rattle.slot.proofs.wrong_slot_index.Statement.{statement}
 use Rattle.slot.proofs.wrong_slot_index.Tie as tie
 
-slot-number-requires : tie.Need-slot-number-requires
-slot-number-requires c κs = search needs
-
-enum-known-number : tie.Need-enum-known-number
-enum-known-number c = search needs
-
-position-requires : tie.Need-position-requires
-position-requires c κs = search needs
-
-add-value : tie.Need-add-value
-add-value c = search needs
-
-value-requires : tie.Need-value-requires
-value-requires c κs = search needs
-
-expect-index-requires : tie.Need-expect-index-requires
-expect-index-requires c κs = search needs
-
-enum-told : tie.Need-enum-told
-enum-told c = search needs
-
-same-length : tie.Need-same-length
-same-length c = search needs
-
 returns : tie.Need-returns
 returns c =
     let w = c .before .before .expect-index .ensures in
@@ -47,7 +22,7 @@ returns c =
     let m = k .before .number .given in
     let s = k .before .before .before in
     let a = s .before .before .before .args in
-    let e : valueOf (v .value .result) ≡ value (resultOf (a .fit .now) (a .item .at + 2)) (m .0 .0) =
+    let e : valueOf (v .value .result) ≡ value (resultOf (a .fit .now) (a .item .position + 2)) (m .0 .0) =
     v .value .ensures
     ∙ ap (value (resultOf (a .fit .now) (v .before .position .result + 2))) (toZ-ofZ w32 (m .0 .0) (record { sfits = k .known-told .given .0 .1 }))
     ∙ ap (λ (j : ℕ). value (resultOf (a .fit .now) (j + 2)) (m .0 .0)) (v .before .position .ensures) in (
@@ -68,13 +43,13 @@ pub wrong-slot-index-spec : {M : Type 1} → statement M
 wrong-slot-index-spec =
     tie.close
     (tie.spec
-    slot-number-requires
-    enum-known-number
-    position-requires
-    add-value
-    value-requires
-    expect-index-requires
-    enum-told
-    same-length
+    (λ c κs. search needs)
+    (λ c. search needs)
+    (λ c κs. search needs)
+    (λ c. search needs)
+    (λ c κs. search needs)
+    (λ c κs. search needs)
+    (λ c. search needs)
+    (λ c. search needs)
     returns
     returns-2)

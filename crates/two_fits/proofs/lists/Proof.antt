@@ -7,21 +7,6 @@ use borrow.Author.Needs.{needs}
 use Rattle.two_fits.proofs.lists.Statement.{statement}
 use Rattle.two_fits.proofs.lists.Tie as tie
 
-bytes-requires : tie.Need-bytes-requires
-bytes-requires c κs = search needs
-
-fit-list-requires : tie.Need-fit-list-requires
-fit-list-requires c κs = search needs
-
-fit-list-requires-2 : tie.Need-fit-list-requires-2
-fit-list-requires-2 c κs = search needs
-
-same-length : tie.Need-same-length
-same-length c = search needs
-
-same-length-2 : tie.Need-same-length-2
-same-length-2 c = search needs
-
 returns : tie.Need-returns
 returns c =
     let n = c .before .before in
@@ -37,4 +22,4 @@ returns c =
     (list-kept catalogue old new (a .before .now) (a .after .now) (b .bytes .ensures))
 
 pub lists-spec : {M : Type 1} → statement M
-lists-spec = tie.close (tie.spec bytes-requires fit-list-requires fit-list-requires-2 same-length same-length-2 returns)
+lists-spec = tie.close (tie.spec (λ c κs. search needs) (λ c κs. search needs) (λ c κs. search needs) (λ c. search needs) (λ c. search needs) returns)

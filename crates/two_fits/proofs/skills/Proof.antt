@@ -7,18 +7,6 @@ use borrow.Author.Needs.{needs}
 use Rattle.two_fits.proofs.skills.Statement.{statement}
 use Rattle.two_fits.proofs.skills.Tie as tie
 
-fit-skill-requires : tie.Need-fit-skill-requires
-fit-skill-requires c κs = search needs
-
-fit-skill-requires-2 : tie.Need-fit-skill-requires-2
-fit-skill-requires-2 c κs = search needs
-
-same-length : tie.Need-same-length
-same-length c = search needs
-
-same-length-2 : tie.Need-same-length-2
-same-length-2 c = search needs
-
 returns : tie.Need-returns
 returns c =
     let n = c .before .before in
@@ -33,4 +21,4 @@ returns c =
     (skills-kept catalogue old new (a .before .now) (a .after .now) (a .result))
 
 pub skills-spec : {M : Type 1} → statement M
-skills-spec = tie.close (tie.spec fit-skill-requires fit-skill-requires-2 same-length same-length-2 returns)
+skills-spec = tie.close (tie.spec (λ c κs. search needs) (λ c κs. search needs) (λ c. search needs) (λ c. search needs) returns)

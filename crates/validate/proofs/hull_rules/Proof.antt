@@ -7,24 +7,6 @@ use borrow.Author.Needs.{needs}
 use Rattle.validate.proofs.hull_rules.Statement.{statement}
 use Rattle.validate.proofs.hull_rules.Tie as tie
 
-validate-requires : tie.Need-validate-requires
-validate-requires c κs = search needs
-
-validate-requires-2 : tie.Need-validate-requires-2
-validate-requires-2 c κs = search needs
-
-validate-requires-3 : tie.Need-validate-requires-3
-validate-requires-3 c κs = search needs
-
-validate-requires-4 : tie.Need-validate-requires-4
-validate-requires-4 c κs = search needs
-
-validate-requires-5 : tie.Need-validate-requires-5
-validate-requires-5 c κs = search needs
-
-same-length : tie.Need-same-length
-same-length c = search needs
-
 returns : tie.Need-returns
 returns c =
     let l = c .before .before in
@@ -45,4 +27,4 @@ returns c =
 pub hull-rules-spec : {M : Type 1} → statement M
 hull-rules-spec =
     tie.close
-    (tie.spec validate-requires validate-requires-2 validate-requires-3 validate-requires-4 validate-requires-5 same-length returns)
+    (tie.spec (λ c κs. search needs) (λ c κs. search needs) (λ c κs. search needs) (λ c κs. search needs) (λ c κs. search needs) (λ c. search needs) returns)

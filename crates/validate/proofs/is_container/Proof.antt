@@ -10,39 +10,6 @@ use borrow.Author.Needs.{needs}
 use Rattle.validate.proofs.is_container.Statement.{statement}
 use Rattle.validate.proofs.is_container.Tie as tie
 
-array-copy-out-same-id : tie.Need-array-copy-out-same-id
-array-copy-out-same-id c = search needs
-
-same-id-requires : tie.Need-same-id-requires
-same-id-requires c κs = search needs
-
-array-copy-out-same-id-2 : tie.Need-array-copy-out-same-id-2
-array-copy-out-same-id-2 c = search needs
-
-same-id-requires-2 : tie.Need-same-id-requires-2
-same-id-requires-2 c κs = search needs
-
-array-copy-out-same-id-3 : tie.Need-array-copy-out-same-id-3
-array-copy-out-same-id-3 c = search needs
-
-same-id-requires-3 : tie.Need-same-id-requires-3
-same-id-requires-3 c κs = search needs
-
-array-copy-out-same-id-4 : tie.Need-array-copy-out-same-id-4
-array-copy-out-same-id-4 c = search needs
-
-same-id-requires-4 : tie.Need-same-id-requires-4
-same-id-requires-4 c κs = search needs
-
-either-requires : tie.Need-either-requires
-either-requires c κs = search needs
-
-either-requires-2 : tie.Need-either-requires-2
-either-requires-2 c κs = search needs
-
-either-requires-3 : tie.Need-either-requires-3
-either-requires-3 c κs = search needs
-
 returns : tie.Need-returns
 returns c =
     let d = c .before .before .before in
@@ -61,15 +28,15 @@ pub is-container-spec : {M : Type 1} → statement M
 is-container-spec =
     tie.close
     (tie.spec
-    array-copy-out-same-id
-    same-id-requires
-    array-copy-out-same-id-2
-    same-id-requires-2
-    array-copy-out-same-id-3
-    same-id-requires-3
-    array-copy-out-same-id-4
-    same-id-requires-4
-    either-requires
-    either-requires-2
-    either-requires-3
+    (λ c. search needs)
+    (λ c κs. search needs)
+    (λ c. search needs)
+    (λ c κs. search needs)
+    (λ c. search needs)
+    (λ c κs. search needs)
+    (λ c. search needs)
+    (λ c κs. search needs)
+    (λ c κs. search needs)
+    (λ c κs. search needs)
+    (λ c κs. search needs)
     returns)

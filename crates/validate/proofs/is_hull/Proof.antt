@@ -17,27 +17,12 @@ use Rattle.validate.proofs.is_hull.Tie as tie
 test : Id → Id → Bool
 test category group = same category (pos 6) || same category (pos 65) || contains group (pos 12 ∷ pos 340 ∷ pos 448 ∷ pos 649 ∷ [])
 
-slice-aggregate-type-of : tie.Need-slice-aggregate-type-of
-slice-aggregate-type-of c = search needs
-
-type-of-requires : tie.Need-type-of-requires
-type-of-requires c κs = search needs
-
-enum-known-answer : tie.Need-enum-known-answer
-enum-known-answer c = search needs
-
-enum-told : tie.Need-enum-told
-enum-told c = search needs
-
 returns : tie.Need-returns
 unfolding isHull test
 returns c =
     let t = c .before .before .before in
     let s = t .before .before .before in
     test-unknown (catalogueOf (s .args .catalogue .now)) test (toZ-ofZ w32 (s .args .id) (s .fits .id)) (t .type-of .ensures) (c .enum-told .given .1)
-
-is-hull-kind-requires : tie.Need-is-hull-kind-requires
-is-hull-kind-requires c κs = search needs
 
 returns-2 : tie.Need-returns-2
 unfolding isHull test
@@ -52,4 +37,4 @@ returns-2 c =
 pub is-hull-spec : {M : Type 1} → statement M
 is-hull-spec =
     tie.close
-    (tie.spec slice-aggregate-type-of type-of-requires enum-known-answer enum-told returns is-hull-kind-requires returns-2)
+    (tie.spec (λ c. search needs) (λ c κs. search needs) (λ c. search needs) (λ c. search needs) returns (λ c κs. search needs) returns-2)

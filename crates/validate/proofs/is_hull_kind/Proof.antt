@@ -18,20 +18,11 @@ structure c =
     let s = c .before .before .before in
     c .same-id2 .ensures ∙ ap (λ (z : ℤ). same z (pos 65)) (toZ-ofZ w32 (s .args .category) (s .fits .category))
 
-same-id-requires : tie.Need-same-id-requires
-same-id-requires c κs = search needs
-
 returns : tie.Need-returns
 returns c = rw (sym (ship (c .before)) ∙ c .if1 .taken)
 
-same-id-requires-2 : tie.Need-same-id-requires-2
-same-id-requires-2 c κs = search needs
-
 returns-2 : tie.Need-returns-2
 returns-2 c = rw (sym (ship (c .before .before .before)) ∙ c .before .before .if1 .left, sym (structure (c .before)) ∙ c .if2 .taken)
-
-is-container-requires : tie.Need-is-container-requires
-is-container-requires c κs = search needs
 
 returns-3 : tie.Need-returns-3
 returns-3 c =
@@ -41,4 +32,4 @@ returns-3 c =
 
 pub is-hull-kind-spec : {M : Type 1} → statement M
 is-hull-kind-spec =
-    tie.close (tie.spec same-id-requires returns same-id-requires-2 returns-2 is-container-requires returns-3)
+    tie.close (tie.spec (λ c κs. search needs) returns (λ c κs. search needs) returns-2 (λ c κs. search needs) returns-3)

@@ -16,27 +16,12 @@ use Rattle.validate.proofs.is_mode.Tie as tie
 test : Id → Id → Bool
 test category group = same group (pos 1306)
 
-slice-aggregate-type-of : tie.Need-slice-aggregate-type-of
-slice-aggregate-type-of c = search needs
-
-type-of-requires : tie.Need-type-of-requires
-type-of-requires c κs = search needs
-
-enum-known-answer : tie.Need-enum-known-answer
-enum-known-answer c = search needs
-
-enum-told : tie.Need-enum-told
-enum-told c = search needs
-
 returns : tie.Need-returns
 unfolding isMode test
 returns c =
     let t = c .before .before .before in
     let s = t .before .before .before in
     test-unknown (catalogueOf (s .args .catalogue .now)) test (toZ-ofZ w32 (s .args .id) (s .fits .id)) (t .type-of .ensures) (c .enum-told .given .1)
-
-same-id-requires : tie.Need-same-id-requires
-same-id-requires c κs = search needs
 
 returns-2 : tie.Need-returns-2
 unfolding isMode test
@@ -51,4 +36,4 @@ returns-2 c =
 pub is-mode-spec : {M : Type 1} → statement M
 is-mode-spec =
     tie.close
-    (tie.spec slice-aggregate-type-of type-of-requires enum-known-answer enum-told returns same-id-requires returns-2)
+    (tie.spec (λ c. search needs) (λ c κs. search needs) (λ c. search needs) (λ c. search needs) returns (λ c κs. search needs) returns-2)

@@ -16,30 +16,12 @@ use Rattle.validate.proofs.is_skill.Tie as tie
 test : Id → Id → Bool
 test category group = same category (pos 16)
 
-type-of-requires : tie.Need-type-of-requires
-type-of-requires c κs = search needs
-
-enum-known-answer : tie.Need-enum-known-answer
-enum-known-answer c = search needs
-
-enum-told : tie.Need-enum-told
-enum-told c = search needs
-
-same-length : tie.Need-same-length
-same-length c = search needs
-
 returns : tie.Need-returns
 unfolding isSkill test
 returns c =
     let t = c .before .before .before .before in
     let s = t .before .before .before .before in
     test-unknown (catalogueOf (s .args .catalogue .now)) test (toZ-ofZ w32 (s .args .id) (s .fits .id)) (t .type-of .ensures) (c .enum-told .given .1)
-
-same-id-requires : tie.Need-same-id-requires
-same-id-requires c κs = search needs
-
-same-length-2 : tie.Need-same-length-2
-same-length-2 c = search needs
 
 returns-2 : tie.Need-returns-2
 unfolding isSkill test
@@ -54,4 +36,4 @@ returns-2 c =
 pub is-skill-spec : {M : Type 1} → statement M
 is-skill-spec =
     tie.close
-    (tie.spec type-of-requires enum-known-answer enum-told same-length returns same-id-requires same-length-2 returns-2)
+    (tie.spec (λ c κs. search needs) (λ c. search needs) (λ c. search needs) (λ c. search needs) returns (λ c κs. search needs) (λ c. search needs) returns-2)

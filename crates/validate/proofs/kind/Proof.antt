@@ -5,18 +5,6 @@ use borrow.Author.Needs.{needs}
 use Rattle.validate.proofs.kind.Statement.{statement}
 use Rattle.validate.proofs.kind.Tie as tie
 
-not-a-mode-requires : tie.Need-not-a-mode-requires
-not-a-mode-requires c κs = search needs
-
-not-a-skill-requires : tie.Need-not-a-skill-requires
-not-a-skill-requires c κs = search needs
-
-same-length : tie.Need-same-length
-same-length c = search needs
-
-same-length-2 : tie.Need-same-length-2
-same-length-2 c = search needs
-
 returns : tie.Need-returns
 returns c =
     let k = c .before .before .before .before in
@@ -24,4 +12,4 @@ returns c =
     (wrote-append (m .not-a-mode .ensures .0) (k .not-a-skill .ensures .0), omega (arith, m .not-a-mode .ensures .1, k .not-a-skill .ensures .1))
 
 pub kind-spec : {M : Type 1} → statement M
-kind-spec = tie.close (tie.spec not-a-mode-requires not-a-skill-requires same-length same-length-2 returns)
+kind-spec = tie.close (tie.spec (λ c κs. search needs) (λ c κs. search needs) (λ c. search needs) (λ c. search needs) returns)

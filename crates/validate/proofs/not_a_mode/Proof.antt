@@ -12,29 +12,11 @@ use borrow.Author.Needs.{needs}
 use Rattle.validate.proofs.not_a_mode.Statement.{statement}
 use Rattle.validate.proofs.not_a_mode.Tie as tie
 
-mode-requires : tie.Need-mode-requires
-mode-requires c κs = search needs
-
-enum-known-answer : tie.Need-enum-known-answer
-enum-known-answer c = search needs
-
-enum-told : tie.Need-enum-told
-enum-told c = search needs
-
 returns : tie.Need-returns
 returns c =
     let m = c .before .before in
     let a = m .before .before .before .before .args in
     (mode-none (catalogueOf (a .catalogue .now)) (modeOf (fitOf (a .fit .now) .frame)) (sym (m .mode .ensures) ∙ ap chosenOf (c .enum-told .given .1)), omega arith)
-
-is-mode-requires : tie.Need-is-mode-requires
-is-mode-requires c κs = search needs
-
-emit-when-requires : tie.Need-emit-when-requires
-emit-when-requires c κs = search needs
-
-same-length : tie.Need-same-length
-same-length c = search needs
 
 returns-2 : tie.Need-returns-2
 returns-2 c =
@@ -52,11 +34,11 @@ pub not-a-mode-spec : {M : Type 1} → statement M
 not-a-mode-spec =
     tie.close
     (tie.spec
-    mode-requires
-    enum-known-answer
-    enum-told
+    (λ c κs. search needs)
+    (λ c. search needs)
+    (λ c. search needs)
     returns
-    is-mode-requires
-    emit-when-requires
-    same-length
+    (λ c κs. search needs)
+    (λ c κs. search needs)
+    (λ c. search needs)
     returns-2)

@@ -39,28 +39,10 @@ Inv-loop catalogue fit hints₀ out₀ n count m₀ i₀ hints out m i =
 abbrev μ-loop : tie.MeasureT-loop
 μ-loop catalogue fit hints₀ out₀ n count m₀ i₀ hints out m i = count - i
 
-skill-count-requires : tie.Need-skill-count-requires Inv-loop μ-loop
-skill-count-requires c κs = search needs
-
 loop-holds : tie.Need-loop-holds Inv-loop μ-loop
 loop-holds c =
     let a = c .before .before .before .before .before .args in
     (omega arith, wrote-table-none (entry-of (catalogueOf (a .catalogue .now))) (skill (a .fit .now)) _ _, omega arith, refl)
-
-seek-skills-requires : tie.Need-seek-skills-requires Inv-loop μ-loop
-seek-skills-requires c κs = search needs
-
-skill-id-requires : tie.Need-skill-id-requires Inv-loop μ-loop
-skill-id-requires c κs = search needs
-
-not-a-skill-at-requires : tie.Need-not-a-skill-at-requires Inv-loop μ-loop
-not-a-skill-at-requires c κs = search needs
-
-add-i : tie.Need-add-i Inv-loop μ-loop
-add-i c = search needs
-
-loop-less : tie.Need-loop-less Inv-loop μ-loop
-loop-less c = search needs
 
 loop-again : tie.Need-loop-again Inv-loop μ-loop
 loop-again c =
@@ -91,13 +73,13 @@ not-a-skill-spec =
     (tie.spec
     Inv-loop
     μ-loop
-    skill-count-requires
+    (λ c κs. search needs)
     loop-holds
-    seek-skills-requires
-    skill-id-requires
-    not-a-skill-at-requires
-    add-i
-    loop-less
+    (λ c κs. search needs)
+    (λ c κs. search needs)
+    (λ c κs. search needs)
+    (λ c. search needs)
+    (λ c. search needs)
     loop-again
     same-length
     same-length-2

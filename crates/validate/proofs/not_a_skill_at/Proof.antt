@@ -13,18 +13,6 @@ use borrow.Author.Needs.{needs}
 use Rattle.validate.proofs.not_a_skill_at.Statement.{statement}
 use Rattle.validate.proofs.not_a_skill_at.Tie as tie
 
-is-skill-requires : tie.Need-is-skill-requires
-is-skill-requires c κs = search needs
-
-emit-when-requires : tie.Need-emit-when-requires
-emit-when-requires c κs = search needs
-
-same-length : tie.Need-same-length
-same-length c = search needs
-
-same-length-2 : tie.Need-same-length-2
-same-length-2 c = search needs
-
 returns : tie.Need-returns
 returns c =
     let w = c .before .before in
@@ -34,4 +22,4 @@ returns c =
     wrote-same (ap₂ (λ (t : Bool) (i : Id). when (not t) (onShip (NotASkill i))) (k .is-skill .ensures ∙ ap (isSkill (catalogueOf (s .args .catalogue .now))) id) id) (w .emit-when .ensures)
 
 pub not-a-skill-at-spec : {M : Type 1} → statement M
-not-a-skill-at-spec = tie.close (tie.spec is-skill-requires emit-when-requires same-length same-length-2 returns)
+not-a-skill-at-spec = tie.close (tie.spec (λ c κs. search needs) (λ c κs. search needs) (λ c. search needs) (λ c. search needs) returns)

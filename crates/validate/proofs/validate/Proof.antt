@@ -6,18 +6,6 @@ use borrow.Author.Needs.{needs}
 use Rattle.validate.proofs.validate.Statement.{statement}
 use Rattle.validate.proofs.validate.Tie as tie
 
-kind-requires : tie.Need-kind-requires
-kind-requires c κs = search needs
-
-hull-rules-requires : tie.Need-hull-rules-requires
-hull-rules-requires c κs = search needs
-
-same-length : tie.Need-same-length
-same-length c = search needs
-
-same-length-2 : tie.Need-same-length-2
-same-length-2 c = search needs
-
 returns : tie.Need-returns
 returns c =
     let h = c .before .before in
@@ -31,4 +19,4 @@ returns c =
 
 pub validate-spec : {M : Type 1} → statement M
 validate-spec =
-    tie.close (tie.spec kind-requires hull-rules-requires same-length same-length-2 returns)
+    tie.close (tie.spec (λ c κs. search needs) (λ c κs. search needs) (λ c. search needs) (λ c. search needs) returns)

@@ -1,7 +1,7 @@
 -- `checker::text::checked` meets its contract: the call fits the buffer lent, and its text the room.
-use Prim.Native.Nat.{ℕ, _+_, _≤_}
+use Prim.Native.Nat.{ℕ}
 use native.Mathlib.Omega.{arith}
-use mathlib.Core.Path.{_≡_, refl, sym, ap, _∙_}
+use mathlib.Core.Path.{_≡_, ap, _∙_}
 use mathlib.Core.List.{List}
 use lib.ListN.{replicate, length-replicate}
 use Rattle.fitcheck.specs.Calls.{Answer, listCall, returned, buffered}
@@ -10,15 +10,6 @@ use Rattle.checker.proofs.Room.{list-room}
 use borrow.Author.Needs.{needs}
 use Rattle.checker.proofs.text.checked.Statement.{statement}
 use Rattle.checker.proofs.text.checked.Tie as tie
-
-slice-aggregate-fit-list : tie.Need-slice-aggregate-fit-list
-slice-aggregate-fit-list c = search needs
-
-fit-list-requires : tie.Need-fit-list-requires
-fit-list-requires c κs = search needs
-
-slice-aggregate-text-of : tie.Need-slice-aggregate-text-of
-slice-aggregate-text-of c = search needs
 
 -- the text of what a call returned and left
 text-of-call : {w : ℕ} {b l : List ℕ} (before : List ℕ) (a : Answer) → l ≡ textOf w b → w ≡ returned a → b ≡ buffered before a
@@ -31,9 +22,6 @@ text-of-requires c κs =
     let f = c .before .before .before .fit-list .ensures in
     let r = list-room (a .catalogue .now) (a .fit .now) (replicate 65520 0) in
     (omega (arith, f .0, r, length-replicate {A = ℕ} 65520 0), omega (arith, f .0, r, length-replicate {A = ℕ} 65520 0))
-
-same-length : tie.Need-same-length
-same-length c = search needs
 
 returns : tie.Need-returns
 unfolding checked
@@ -48,8 +36,8 @@ pub checked-spec : {M : Type 1} → statement M
 checked-spec =
     tie.close
     (tie.spec
-    slice-aggregate-fit-list
-    fit-list-requires
-    slice-aggregate-text-of
+    (λ c. search needs)
+    (λ c κs. search needs)
+    (λ c. search needs)
     text-of-requires
-    same-length returns)
+    (λ c. search needs) returns)

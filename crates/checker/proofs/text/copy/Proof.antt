@@ -1,7 +1,7 @@
 -- `checker::text::copy` meets its contract. The invariant: the first i bytes are put.
-use Prim.Native.Nat.{ℕ, _+_, _-_, _≤_}
+use Prim.Native.Nat.{_+_, _-_, _≤_}
 use native.Mathlib.Omega.{arith}
-use mathlib.Core.Path.{_≡_, refl, ap, sym, _∙_}
+use mathlib.Core.Path.{_≡_, refl, _∙_}
 use lib.ListN.{length, take, length-set}
 use lib.Seq.{take-all}
 use Rattle.checker.specs.Put.{Put}

@@ -1,5 +1,4 @@
 -- `checker::text::ended` meets its contract: a number, and a byte behind it.
-use Prim.Native.Nat.{ℕ, _+_, _≤_}
 use native.Mathlib.Omega.{arith}
 use borrow.Author.Needs.{needs}
 use Rattle.checker.specs.Text.{ended}
@@ -8,16 +7,10 @@ use Rattle.checker.proofs.Decimal.{decimal-short}
 use Rattle.checker.proofs.text.ended.Statement.{statement}
 use Rattle.checker.proofs.text.ended.Tie as tie
 
-number-requires : tie.Need-number-requires
-number-requires c κs = search needs
-
 byte-requires : tie.Need-byte-requires
 byte-requires c κs =
     let a = c .before .before .before .before .before .before .args in
     omega (arith, c .before .before .before .number .ensures .end, decimal-short (a .n))
-
-same-length : tie.Need-same-length
-same-length c = search needs
 
 returns : tie.Need-returns
 unfolding ended
@@ -28,4 +21,4 @@ returns c =
     (put-append (n .number .ensures) b, omega (arith, n .number .ensures .end, b .end, decimal-short (a .n)))
 
 pub ended-spec : {M : Type 1} → statement M
-ended-spec = tie.close (tie.spec number-requires byte-requires same-length returns)
+ended-spec = tie.close (tie.spec (λ c κs. search needs) byte-requires (λ c. search needs) returns)

@@ -1,5 +1,4 @@
 -- `checker::text::heading` meets its contract: four numbers, one behind the other.
-use Prim.Native.Nat.{_+_, _≤_}
 use native.Mathlib.Omega.{arith}
 use mathlib.Core.Path.{ap}
 use Rattle.checker.specs.Text.{heading, spaced}
@@ -7,42 +6,6 @@ use Rattle.checker.proofs.Putting.{put-same, put-append}
 use borrow.Author.Needs.{needs}
 use Rattle.checker.proofs.text.heading.Statement.{statement}
 use Rattle.checker.proofs.text.heading.Tie as tie
-
-byte-at-requires : tie.Need-byte-at-requires
-byte-at-requires c κs = search needs
-
-spaced-requires : tie.Need-spaced-requires
-spaced-requires c κs = search needs
-
-add-word-at : tie.Need-add-word-at
-add-word-at c = search needs
-
-word-at-requires : tie.Need-word-at-requires
-word-at-requires c κs = search needs
-
-spaced-requires-2 : tie.Need-spaced-requires-2
-spaced-requires-2 c κs = search needs
-
-add-byte-at : tie.Need-add-byte-at
-add-byte-at c = search needs
-
-byte-at-requires-2 : tie.Need-byte-at-requires-2
-byte-at-requires-2 c κs = search needs
-
-spaced-requires-3 : tie.Need-spaced-requires-3
-spaced-requires-3 c κs = search needs
-
-add-byte-at-2 : tie.Need-add-byte-at-2
-add-byte-at-2 c = search needs
-
-byte-at-requires-3 : tie.Need-byte-at-requires-3
-byte-at-requires-3 c κs = search needs
-
-spaced-requires-4 : tie.Need-spaced-requires-4
-spaced-requires-4 c κs = search needs
-
-same-length : tie.Need-same-length
-same-length c = search needs
 
 returns : tie.Need-returns
 unfolding heading
@@ -61,16 +24,16 @@ pub heading-spec : {M : Type 1} → statement M
 heading-spec =
     tie.close
     (tie.spec
-    byte-at-requires
-    spaced-requires
-    add-word-at
-    word-at-requires
-    spaced-requires-2
-    add-byte-at
-    byte-at-requires-2
-    spaced-requires-3
-    add-byte-at-2
-    byte-at-requires-3
-    spaced-requires-4
-    same-length
+    (λ c κs. search needs)
+    (λ c κs. search needs)
+    (λ c. search needs)
+    (λ c κs. search needs)
+    (λ c κs. search needs)
+    (λ c. search needs)
+    (λ c κs. search needs)
+    (λ c κs. search needs)
+    (λ c. search needs)
+    (λ c κs. search needs)
+    (λ c κs. search needs)
+    (λ c. search needs)
     returns)

@@ -1,7 +1,7 @@
 -- `checker::text::lines` meets its contract. The invariant: the lines of the first i entries are put.
-use Prim.Native.Nat.{ℕ, _+_, _*_, _-_, _≤_}
+use Prim.Native.Nat.{_*_, _-_, _≤_}
 use native.Mathlib.Omega.{arith}
-use mathlib.Core.Path.{_≡_, refl, ap, sym, _∙_}
+use mathlib.Core.Path.{_≡_, refl, ap, sym}
 use lib.ListN.{length}
 use Rattle.words.proofs.Tables.{each-more, each-none}
 use Rattle.checker.specs.Put.{Put}

@@ -1,21 +1,11 @@
 -- `checker::text::number` meets its contract: the digits that `io::decimal` spells.
-use Prim.Native.Nat.{_+_, _≤_}
 use native.Mathlib.Omega.{arith}
-use mathlib.Core.Path.{_≡_, refl, sym, ap, _∙_}
+use mathlib.Core.Path.{_∙_}
 use Rattle.checker.proofs.Putting.{put-same}
 use Rattle.checker.proofs.Decimal.{digits-decimal, few-digits}
 use borrow.Author.Needs.{needs}
 use Rattle.checker.proofs.text.number.Statement.{statement}
 use Rattle.checker.proofs.text.number.Tie as tie
-
-decimal-requires : tie.Need-decimal-requires
-decimal-requires c κs = search needs
-
-array-share-prefix-digits : tie.Need-array-share-prefix-digits
-array-share-prefix-digits c = search needs
-
-slice-aggregate-copy : tie.Need-slice-aggregate-copy
-slice-aggregate-copy c = search needs
 
 copy-requires : tie.Need-copy-requires
 copy-requires c κs =
@@ -23,9 +13,6 @@ copy-requires c κs =
     let a = c .before .before .before .before .before in
     let few = few-digits (a .args .n) (c .before .before .decimal .result) (omega arith) (d .1 .0) in
     omega (arith, d .0 .1, few)
-
-same-length : tie.Need-same-length
-same-length c = search needs
 
 returns : tie.Need-returns
 returns c =
@@ -39,9 +26,9 @@ pub number-spec : {M : Type 1} → statement M
 number-spec =
     tie.close
     (tie.spec
-    decimal-requires
-    array-share-prefix-digits
-    slice-aggregate-copy
+    (λ c κs. search needs)
+    (λ c. search needs)
+    (λ c. search needs)
     copy-requires
-    same-length
+    (λ c. search needs)
     returns)

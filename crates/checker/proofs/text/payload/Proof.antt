@@ -1,5 +1,4 @@
 -- `checker::text::payload` meets its contract: four numbers, one behind the other.
-use Prim.Native.Nat.{_+_, _≤_}
 use native.Mathlib.Omega.{arith}
 use mathlib.Core.Path.{ap}
 use Rattle.checker.specs.Text.{payload, spaced, ended}
@@ -7,45 +6,6 @@ use Rattle.checker.proofs.Putting.{put-same, put-append}
 use borrow.Author.Needs.{needs}
 use Rattle.checker.proofs.text.payload.Statement.{statement}
 use Rattle.checker.proofs.text.payload.Tie as tie
-
-add-word-at : tie.Need-add-word-at
-add-word-at c = search needs
-
-word-at-requires : tie.Need-word-at-requires
-word-at-requires c κs = search needs
-
-spaced-requires : tie.Need-spaced-requires
-spaced-requires c κs = search needs
-
-add-word-at-2 : tie.Need-add-word-at-2
-add-word-at-2 c = search needs
-
-word-at-requires-2 : tie.Need-word-at-requires-2
-word-at-requires-2 c κs = search needs
-
-spaced-requires-2 : tie.Need-spaced-requires-2
-spaced-requires-2 c κs = search needs
-
-add-word-at-3 : tie.Need-add-word-at-3
-add-word-at-3 c = search needs
-
-word-at-requires-3 : tie.Need-word-at-requires-3
-word-at-requires-3 c κs = search needs
-
-spaced-requires-3 : tie.Need-spaced-requires-3
-spaced-requires-3 c κs = search needs
-
-add-word-at-4 : tie.Need-add-word-at-4
-add-word-at-4 c = search needs
-
-word-at-requires-4 : tie.Need-word-at-requires-4
-word-at-requires-4 c κs = search needs
-
-ended-requires : tie.Need-ended-requires
-ended-requires c κs = search needs
-
-same-length : tie.Need-same-length
-same-length c = search needs
 
 returns : tie.Need-returns
 unfolding payload
@@ -64,17 +24,17 @@ pub payload-spec : {M : Type 1} → statement M
 payload-spec =
     tie.close
     (tie.spec
-    add-word-at
-    word-at-requires
-    spaced-requires
-    add-word-at-2
-    word-at-requires-2
-    spaced-requires-2
-    add-word-at-3
-    word-at-requires-3
-    spaced-requires-3
-    add-word-at-4
-    word-at-requires-4
-    ended-requires
-    same-length
+    (λ c. search needs)
+    (λ c κs. search needs)
+    (λ c κs. search needs)
+    (λ c. search needs)
+    (λ c κs. search needs)
+    (λ c κs. search needs)
+    (λ c. search needs)
+    (λ c κs. search needs)
+    (λ c κs. search needs)
+    (λ c. search needs)
+    (λ c κs. search needs)
+    (λ c κs. search needs)
+    (λ c. search needs)
     returns)

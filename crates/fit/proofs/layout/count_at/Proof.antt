@@ -6,21 +6,6 @@ use Rattle.image.specs.Bytes.{u16At}
 use Rattle.fit.proofs.layout.count_at.Statement.{statement}
 use Rattle.fit.proofs.layout.count_at.Tie as tie
 
-mul-u16-at : tie.Need-mul-u16-at
-mul-u16-at c = search needs
-
-add-u16-at : tie.Need-add-u16-at
-add-u16-at c = search needs
-
-add-u16-at-2 : tie.Need-add-u16-at-2
-add-u16-at-2 c = search needs
-
-u16-at-requires : tie.Need-u16-at-requires
-u16-at-requires c κs = search needs
-
-cast-result : tie.Need-cast-result
-cast-result c = search needs
-
 returns : tie.Need-returns
 returns c =
     let a = c .before .before .args in
@@ -28,4 +13,4 @@ returns c =
 
 pub count-at-spec : {M : Type 1} → statement M
 count-at-spec =
-    tie.close (tie.spec mul-u16-at add-u16-at add-u16-at-2 u16-at-requires cast-result returns)
+    tie.close (tie.spec (λ c. search needs) (λ c. search needs) (λ c. search needs) (λ c κs. search needs) (λ c. search needs) returns)

@@ -9,23 +9,11 @@ use Rattle.fitcheck.proofs.hall.bad_input.Tie as tie
 returns : tie.Need-returns
 returns c = sym (input-bad _ (λ l. omega (arith, laid-long _ l)))
 
-size-at-requires : tie.Need-size-at-requires
-size-at-requires c κs = search needs
-
 returns-2 : tie.Need-returns-2
 returns-2 c = sym (input-bad _ (λ l. omega arith))
 
-mul-if3 : tie.Need-mul-if3
-mul-if3 c = search needs
-
-add-if3 : tie.Need-add-if3
-add-if3 c = search needs
-
 returns-3 : tie.Need-returns-3
 returns-3 c = sym (input-bad _ (λ l. omega (arith, laid-long _ l)))
-
-fits-end-requires : tie.Need-fits-end-requires
-fits-end-requires c κs = search needs
 
 returns-4 : tie.Need-returns-4
 returns-4 c = sym (input-bad _ (λ l. omega (arith, l .size)))
@@ -38,11 +26,11 @@ bad-input-spec =
     tie.close
     (tie.spec
     returns
-    size-at-requires
+    (λ c κs. search needs)
     returns-2
-    mul-if3
-    add-if3
+    (λ c. search needs)
+    (λ c. search needs)
     returns-3
-    fits-end-requires
+    (λ c κs. search needs)
     returns-4
     returns-5)

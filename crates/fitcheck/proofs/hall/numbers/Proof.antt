@@ -49,9 +49,6 @@ part-requires c κs = omega (arith, within (c .before))
 slice-aggregate-share : tie.Need-slice-aggregate-share Inv-loop μ-loop
 slice-aggregate-share c = search (needs, sym (c .before .before .before .before .loop .inv .4))
 
-share-requires : tie.Need-share-requires Inv-loop μ-loop
-share-requires c κs = search needs
-
 add-word : tie.Need-add-word Inv-loop μ-loop
 add-word c = omega arith
 
@@ -99,7 +96,7 @@ numbers-spec =
     length-at-requires
     part-requires
     slice-aggregate-share
-    share-requires
+    (λ c κs. search needs)
     add-word
     add-at-2
     add-i

@@ -31,9 +31,6 @@ hull c = sym (c .before .on-hull .ensures) ∙ not-false _ (c .if2 .left)
 few : (c : tie.Else3) → let a = c .before .before .before .before .before .before .before .before .before .args in tooManyDrones (catalogueOf (a .catalogue .now)) (fitOf (a .fit .now)) ≡ false
 few c = sym (c .before .too-many-drones .ensures) ∙ c .if3 .left
 
-fit-refusal-requires : tie.Need-fit-refusal-requires
-fit-refusal-requires c κs = search needs
-
 returns : tie.Need-returns
 returns c =
     let a = c .before .before .before .before .before .args in
@@ -66,18 +63,12 @@ hull-count-requires c κs =
     let e = h .before .before in
     (e .before .before .before .before .before .pre, sound _ (accepted e), hull h)
 
-same-length : tie.Need-same-length
-same-length c = search needs
-
 returns-4 : tie.Need-returns-4
 returns-4 c =
     let d = c .before .before .before .before .before in
     let e = d .before .before .before .before in
     let a = e .before .before .before .before .before .args in
     (share-clear (catalogueOf (a .catalogue .now)) (a .fit .now) (accepted e) (few d) (omega (arith, c .before .before .before .hull-count .ensures, c .if4 .taken)), omega arith)
-
-same-length-2 : tie.Need-same-length-2
-same-length-2 c = search needs
 
 returns-5 : tie.Need-returns-5
 returns-5 c =
@@ -90,14 +81,14 @@ pub share-spec : {M : Type 1} → statement M
 share-spec =
     tie.close
     (tie.spec
-    fit-refusal-requires
+    (λ c κs. search needs)
     returns
     on-hull-requires
     returns-2
     too-many-drones-requires
     returns-3
     hull-count-requires
-    same-length
+    (λ c. search needs)
     returns-4
-    same-length-2
+    (λ c. search needs)
     returns-5)

@@ -1,0 +1,17 @@
+-- `context::ship_group` meets its contract: the word was gathered.
+use mathlib.Core.Path.{ap, _∙_}
+use mir.Syntax.{w32}
+use mir.ValLaws.{toZ-ofZ}
+use borrow.Author.Needs.{needs}
+use Rattle.image.specs.Bytes.{signed32}
+use Rattle.context.proofs.ship_group.Statement.{statement}
+use Rattle.context.proofs.ship_group.Tie as tie
+
+returns : tie.Need-returns
+returns c =
+    let s = c .before .before .before .before in toZ-ofZ w32 (c .signed .result) (record { sfits = c .signed .ok })
+    ∙ c .signed .ensures
+    ∙ ap signed32 (c .before .word .ensures) ∙ s .pre .ship-group
+
+pub ship-group-spec : {M : Type 1} → statement M
+ship-group-spec = tie.close (tie.spec (λ c κs. search needs) (λ c κs. search needs) returns)

@@ -1,0 +1,38 @@
+-- `context::words_from` meets its contract: bits of ids, codes of slots, halves of the volume's bits.
+use Prim.Native.Nat.{ℕ, _+_, _*_, _^_}
+use native.Mathlib.Omega.{arith}
+use mathlib.Core.Path.{_≡_, ap, _∙_}
+use lib.Ieee.{Float, binary64, ofBits}
+use borrow.Author.Needs.{needs}
+use Rattle.image.proofs.Signs.{signed-kept}
+use Rattle.floats.specs.Floats.{f64Bits}
+use Rattle.floats.proofs.Bits.{f64Bits-back}
+use Rattle.context.proofs.words_from.Statement.{statement}
+use Rattle.context.proofs.words_from.Tie as tie
+
+returns : tie.Need-returns
+returns c =
+    let s = c .before .before .before .before .before .before .before .before .before in
+    let info = s .args .info in
+    let x = c .before .before .before .before .before .before .before .before .f64-bits in
+    let e : c .before .low .result + 2 ^ 32 * c .high .result ≡ x .result = omega (arith, c .before .low .ensures, c .high .ensures) in
+    record {
+      group = signed-kept (info .group) (search needs) (c .before .before .before .before .before .before .bits .ensures);
+      category = signed-kept (info .category) (search needs) (c .before .before .before .before .bits2 .ensures);
+      rack = c .before .before .before .code .ensures;
+      hardpoint = c .before .before .code2 .ensures;
+      volume = ap (ofBits binary64) (e ∙ x .ensures) ∙ f64Bits-back (info .volume) (search needs);
+    }
+
+pub words-from-spec : {M : Type 1} → statement M
+words-from-spec =
+    tie.close
+    (tie.spec
+    (λ c κs. search needs)
+    (λ c κs. search needs)
+    (λ c κs. search needs)
+    (λ c κs. search needs)
+    (λ c κs. search needs)
+    (λ c κs. search needs)
+    (λ c κs. search needs)
+    returns)

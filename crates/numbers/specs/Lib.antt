@@ -1,0 +1,10 @@
+pub mod Marks
+pub mod Names
+pub mod Slots
+pub mod States
+pub mod Resources
+pub mod Limits
+pub mod Categories
+pub mod Groups
+pub mod Sizes
+pub mod Refusals

@@ -1,0 +1,40 @@
+-- Document 01, "Refusals in their order": their numbers.
+use Prim.Native.Nat.{ℕ}
+
+-- ---- in their order of numbers; 8 is asked before 7
+-- a catalogue's length
+abbrev pub badLength : ℕ
+badLength = 1
+
+-- the order of a catalogue's keys
+abbrev pub badKeys : ℕ
+badKeys = 2
+
+-- a name number, a mark or a volume flag
+abbrev pub badEntry : ℕ
+badEntry = 3
+
+-- a fit's sizes, or a hall's
+abbrev pub badSize : ℕ
+badSize = 4
+
+-- the order of a fit's ids
+abbrev pub badIds : ℕ
+badIds = 5
+
+-- a field of a fit
+abbrev pub badField : ℕ
+badField = 6
+
+abbrev pub tooManyDrones : ℕ
+tooManyDrones = 7
+
+abbrev pub noResult : ℕ
+noResult = 8
+
+abbrev pub tooManySkills : ℕ
+tooManySkills = 9
+
+-- the buffer
+abbrev pub tooShort : ℕ
+tooShort = 10

@@ -1,0 +1,10 @@
+// The numbers of document 01 and of the Rust, by their names there.
+pub mod categories;
+pub mod groups;
+pub mod limits;
+pub mod marks;
+pub mod names;
+pub mod refusals;
+pub mod resources;
+pub mod slots;
+pub mod states;

@@ -1,0 +1,20 @@
+// Document 01, "Refusals in their order": their numbers.
+pub const BAD_LENGTH: u64 = 1;
+
+pub const BAD_KEYS: u64 = 2;
+
+pub const BAD_ENTRY: u64 = 3;
+
+pub const BAD_SIZE: u64 = 4;
+
+pub const BAD_IDS: u64 = 5;
+
+pub const BAD_FIELD: u64 = 6;
+
+pub const TOO_MANY_DRONES: u64 = 7;
+
+pub const NO_RESULT: u64 = 8;
+
+pub const TOO_MANY_SKILLS: u64 = 9;
+
+pub const TOO_SHORT: u64 = 10;
