@@ -113,6 +113,28 @@ full '2730 entries' 682
 echo 'refused 10' >"$room/2731 entries.expected"
 full '2731 entries' 683
 
+# the worked bytes of docs/FORMAT.md, and what the page says that is printed of them
+page=$root/docs/FORMAT.md
+# hex NAME: the bytes of that block of the page
+hex() {
+    # shellcheck disable=SC2059
+    printf "$(awk -v opening="\`\`\`hex $1" '
+        function digit(c) { return index("0123456789ABCDEF", c) - 1 }
+        /^```/ { inside = $0 == opening; next }
+        inside {
+            split($0, cells, "|")
+            n = split(cells[2], bytes, " ")
+            for (k = 1; k <= n; k++) printf "\\%03o", 16 * digit(substr(bytes[k], 1, 1)) + digit(substr(bytes[k], 2, 1))
+        }' "$page")"
+}
+mkdir "$room/page"
+hex catalogue >"$room/page/types.bin"
+hex fit >"$room/page/fit.bin"
+awk '/^```/ { inside = $0 == "```text printed"; next } inside' "$page" >"$room/page.expected"
+[ -s "$room/page.expected" ]
+verdict 'docs/FORMAT.md has what is printed' $?
+prints 'docs/FORMAT.md' "$room/page" "$room/page.expected"
+
 # the folder is the caller's, and where none is named the one that it is run in
 (cd "$root/samples" && ../check clear) | cmp -s - "$root/samples/clear/expected"
 verdict 'a folder seen from elsewhere' $?
