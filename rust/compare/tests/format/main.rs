@@ -5,6 +5,9 @@
 //! The page's outcomes are worked out from document 01.
 
 mod citations;
+#[path = "../all/common.rs"]
+#[allow(dead_code)]
+mod common;
 mod page;
 mod tables;
 mod worked;

@@ -1,26 +1,12 @@
 //! The section "Worked bytes".
 
 use compare::checker::{Checker, ENTRY};
-use compare::plain::Plain;
-use compare::rattle;
-use compare::reference::Original;
 
+use crate::common::checkers;
 use crate::page::{bytes, hex, table};
 
 /// What the buffer has before a call.
 const UNTOUCHED: u8 = 0xC3;
-
-/// The original, the plain port, and the library where this build has it.
-fn checkers() -> Vec<(&'static str, Box<dyn Checker>)> {
-    let mut checkers: Vec<(&'static str, Box<dyn Checker>)> = vec![
-        ("the original", Box::new(Original)),
-        ("the plain port", Box::new(Plain::default())),
-    ];
-    if let Some(library) = rattle::library() {
-        checkers.push(("the library", library));
-    }
-    checkers
-}
 
 /// The page's images.
 struct Images {
