@@ -1,0 +1,134 @@
+//! The section "Worked bytes".
+
+use compare::checker::{Checker, ENTRY};
+
+use crate::common::checkers;
+use crate::page::{bytes, hex, table};
+
+/// What the buffer has before a call.
+const UNTOUCHED: u8 = 0xC3;
+
+/// The page's images.
+struct Images {
+    catalogue: Vec<u8>,
+    fit: Vec<u8>,
+    hall: Vec<u8>,
+}
+
+impl Images {
+    fn of_the_page() -> Images {
+        Images {
+            catalogue: bytes("catalogue"),
+            fit: bytes("fit"),
+            hall: bytes("hall"),
+        }
+    }
+
+    fn named(&mut self, name: &str) -> &mut Vec<u8> {
+        match name {
+            "catalogue" => &mut self.catalogue,
+            "fit" => &mut self.fit,
+            "hall" => &mut self.hall,
+            _ => panic!("no image `{name}`"),
+        }
+    }
+
+    /// Changes as the page writes them: `fit cut by 1`, or `fit[65] = 04`.
+    fn change(&mut self, change: &str) {
+        if let Some((name, by)) = change.split_once(" cut by ") {
+            let image = self.named(name);
+            image.truncate(image.len() - by.parse::<usize>().unwrap());
+            return;
+        }
+        let (place, put) = change.split_once(" = ").expect("a place and its bytes");
+        let (name, place) = place.split_once('[').expect("a place in an image");
+        let place: usize = place.strip_suffix(']').unwrap().parse().unwrap();
+        let put = hex(put);
+        let there = &mut self.named(name)[place..place + put.len()];
+        assert_ne!(there, put, "`{change}` changes nothing");
+        there.copy_from_slice(&put);
+    }
+}
+
+/// A call as the page names it, `list`, `skill 2` or `hall`, on a buffer.
+fn called(checker: &dyn Checker, call: &str, images: &Images, out: &mut [u8]) -> u64 {
+    match call.split_once(' ') {
+        None if call == "list" => checker.list(&images.catalogue, &images.fit, out),
+        None if call == "hall" => checker.hall(&images.catalogue, &images.hall),
+        Some(("skill", result)) => {
+            let result = result.parse().unwrap();
+            checker.skill(&images.catalogue, &images.fit, result, out)
+        }
+        _ => panic!("no call `{call}`"),
+    }
+}
+
+#[test]
+fn the_entries_are_the_pages() {
+    let images = Images::of_the_page();
+    for call in ["list", "skill 2"] {
+        let expected = bytes(call);
+        for (name, checker) in checkers() {
+            let mut out = vec![UNTOUCHED; expected.len() + ENTRY];
+            let word = called(&*checker, call, &images, &mut out);
+            assert_eq!(word, (expected.len() / ENTRY) as u64, "{name}, {call}");
+            let (entries, behind) = out.split_at(expected.len());
+            assert_eq!(entries, expected, "{name}, {call}");
+            assert_eq!(behind, [UNTOUCHED; ENTRY], "{name}, {call}");
+        }
+    }
+}
+
+#[test]
+fn the_words_are_the_pages() {
+    let rows = table("Worked bytes", "call");
+    for row in &rows {
+        let [call, lent, changed, word, _] = row[..] else {
+            panic!("five cells: {row:?}");
+        };
+        let mut images = Images::of_the_page();
+        let changes = changed.split(';').map(str::trim);
+        changes
+            .filter(|change| !change.is_empty())
+            .for_each(|change| images.change(change));
+        let word = u64::from_str_radix(word.strip_prefix("0x").unwrap(), 16).unwrap();
+        let written = if call == "hall" {
+            0
+        } else {
+            ENTRY * (word as u32 as usize)
+        };
+        for (name, checker) in checkers() {
+            let mut out = vec![UNTOUCHED; lent.parse().unwrap_or(0)];
+            assert_eq!(
+                called(&*checker, call, &images, &mut out),
+                word,
+                "{name}: {row:?}"
+            );
+            assert!(
+                out[written..].iter().all(|byte| *byte == UNTOUCHED),
+                "{name}: {row:?} writes its entries alone"
+            );
+        }
+    }
+}
+
+/// Of the refusals' table, every number but 9 is given by some row.
+#[test]
+fn every_refusal_but_9_is_shown() {
+    let mut shown: Vec<u64> = table("Worked bytes", "call")
+        .iter()
+        .map(|row| u64::from_str_radix(row[3].strip_prefix("0x").unwrap(), 16).unwrap() >> 32)
+        .filter(|refusal| *refusal != 0)
+        .chain([9])
+        .collect();
+    let mut numbers: Vec<u64> = table("Refusals in their order", "no.")
+        .iter()
+        .map(|row| row[0].parse().unwrap())
+        .collect();
+    for list in [&mut shown, &mut numbers] {
+        list.sort_unstable();
+        list.dedup();
+    }
+    assert_eq!(shown, numbers);
+    assert_eq!(numbers, (1..=10).collect::<Vec<u64>>());
+}
