@@ -164,6 +164,23 @@ impl FitBuilder {
         self
     }
 
+    /// The types that the fit names: ship, mode, skills and items.
+    pub(crate) fn type_ids(&self) -> impl Iterator<Item = i32> {
+        let pairs = self.pairs.iter().map(|pair| &pair.0);
+        let items = pairs.chain(&self.items).map(|item| item.type_id);
+        let skills = self.skills.iter().map(|skill| skill.0);
+        let own = [self.ship_type].into_iter().chain(self.mode);
+        own.chain(skills).chain(items)
+    }
+
+    /// Attribute ids and values of all results.
+    pub(crate) fn values(&self) -> impl Iterator<Item = (i32, f64)> {
+        let pairs = self.pairs.iter().map(|pair| &pair.1);
+        let results = pairs.chain(&self.results);
+        let all = [&self.ship, &self.character].into_iter().chain(results);
+        all.flat_map(|result| result.attributes.iter().copied())
+    }
+
     /// The image.
     ///
     /// # Errors
