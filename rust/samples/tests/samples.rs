@@ -34,6 +34,12 @@ fn the_names_are_those_of_the_catalogue() {
     assert!(stored.contains("\ngroup 60 Damage Control\n"));
 }
 
+/// Nothing of the samples goes unchecked, so that nobody is warned of them.
+#[test]
+fn the_catalogue_lacks_no_name_and_no_mark() {
+    assert_eq!(types().unwrap().catalogue().missing().to_string(), "");
+}
+
 /// Every group that a type of the samples is in has its name there.
 #[test]
 fn every_group_of_the_samples_has_a_name() {
