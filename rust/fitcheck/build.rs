@@ -47,8 +47,12 @@ fn directory(named: Option<PathBuf>) -> Result<PathBuf, String> {
         if library::is_in(&named) {
             return Ok(named);
         }
+        let from = match named.is_relative() {
+            true => " (a relative path counts from the folder of this crate)",
+            false => "",
+        };
         return Err(format!(
-            "FITCHECK_LIB_DIR is {}, and there is no {LIBRARY} in it.\n\
+            "FITCHECK_LIB_DIR is {}{from}, and there is no {LIBRARY} in it.\n\
              Build it by `{BUILD}` at the repository root and name the directory that has it, or \
              take FITCHECK_LIB_DIR away: target/staticlib is looked at by itself.",
             named.display()

@@ -206,3 +206,27 @@ fn the_headers_numbers_are_the_crates() {
     assert_eq!(number("FITCHECK_MOST_SKILLS"), fitcheck::MOST_SKILLS);
     assert_eq!(number("FITCHECK_FITS_PER_CALL"), fitcheck::FITS_PER_CALL);
 }
+
+/// A rule, refusal or slot that is added later breaks no caller's `match`.
+#[test]
+fn every_public_enum_may_grow() {
+    let folder = Path::new(env!("CARGO_MANIFEST_DIR")).join("src");
+    let mut found = 0;
+    for file in fs::read_dir(&folder).unwrap() {
+        let path = file.unwrap().path();
+        let Ok(text) = fs::read_to_string(&path) else {
+            continue;
+        };
+        let lines: Vec<&str> = text.lines().map(str::trim).collect();
+        for (at, line) in lines.iter().enumerate() {
+            if line.starts_with("pub enum ") {
+                let above = lines[..at].iter().rev();
+                let mut above = above.take_while(|line| line.starts_with('#'));
+                let may_grow = above.any(|line| *line == "#[non_exhaustive]");
+                assert!(may_grow, "{}: {line}", path.display());
+                found += 1;
+            }
+        }
+    }
+    assert!(found >= 8, "{found} enums");
+}

@@ -6,7 +6,7 @@ use std::path::{Path, PathBuf};
 use std::process::{Command, Output};
 use std::time::{Duration, SystemTime};
 
-use crate::{folder, library};
+use crate::library;
 
 const MANIFEST: &str = "\
 [workspace]
@@ -32,13 +32,14 @@ struct Site(PathBuf);
 
 impl Site {
     fn new(test: &str) -> Site {
-        let site = Site(folder(test));
+        let name = format!("fitcheck-{test}-{}", std::process::id());
+        let site = Site(std::env::temp_dir().join(name));
         let here = Path::new(env!("CARGO_MANIFEST_DIR"));
         let inside = site.0.join("yazukoremi");
         fs::create_dir_all(site.0.join("src")).unwrap();
         fs::write(site.0.join("Cargo.toml"), MANIFEST).unwrap();
         fs::write(site.0.join("src/main.rs"), PROGRAM).unwrap();
-        copy(&here.join(".."), &inside.join("rust"));
+        workspace(&here.join(".."), &inside.join("rust"));
         fs::create_dir_all(inside.join("crates/fitcheck/src")).unwrap();
         fs::write(inside.join("crates.txt"), "fitcheck:\n").unwrap();
         fs::write(site.source(), "// the calls\n").unwrap();
@@ -82,18 +83,35 @@ fn touch(path: &Path, seconds: u64) {
     file.set_modified(when).unwrap();
 }
 
+impl Drop for Site {
+    fn drop(&mut self) {
+        // What is left behind stands in the system's own temporary folder.
+        let _ = fs::remove_dir_all(&self.0);
+    }
+}
+
+/// Copies the workspace: its manifest and its crates.
+fn workspace(from: &Path, to: &Path) {
+    fs::create_dir_all(to).unwrap();
+    fs::copy(from.join("Cargo.toml"), to.join("Cargo.toml")).unwrap();
+    for entry in fs::read_dir(from).unwrap() {
+        let (path, name) = (entry.as_ref().unwrap().path(), entry.unwrap().file_name());
+        if path.join("Cargo.toml").is_file() || name == "stand-ins" {
+            copy(&path, &to.join(name));
+        }
+    }
+}
+
 /// Copies a folder but for what cargo builds in it.
 fn copy(from: &Path, to: &Path) {
     fs::create_dir_all(to).unwrap();
     for entry in fs::read_dir(from).unwrap() {
         let entry = entry.unwrap();
         let target = to.join(entry.file_name());
-        if entry.file_type().unwrap().is_dir() {
-            if entry.file_name() != "target" {
-                copy(&entry.path(), &target);
-            }
-        } else {
+        if !entry.file_type().unwrap().is_dir() {
             fs::copy(entry.path(), target).unwrap();
+        } else if entry.file_name() != "target" {
+            copy(&entry.path(), &target);
         }
     }
 }

@@ -298,3 +298,23 @@ fn pack_says_what_is_wrong_and_where() {
         "ship Hull\n"
     );
 }
+
+/// The command makes of the samples' words the bytes that stand beside them,
+/// which `rust/samples` holds against the original.
+#[test]
+fn pack_makes_the_samples() {
+    let samples = Path::new(env!("CARGO_MANIFEST_DIR")).join("../../samples");
+    for sample in ["clear", "faulted", "refused"] {
+        let out = folder(&format!("pack-{sample}"));
+        let words = ["fit.txt", "--out", out.to_str().unwrap()];
+        let (status, _, err) = pack(&words, &samples.join(sample));
+        assert_eq!((status, err.as_str()), (0, ""));
+        for file in ["types.bin", "fit.bin"] {
+            let stored = fs::read(samples.join(sample).join(file)).unwrap();
+            assert!(
+                fs::read(out.join(file)).unwrap() == stored,
+                "{sample}/{file}"
+            );
+        }
+    }
+}

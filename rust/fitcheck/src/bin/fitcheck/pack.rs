@@ -11,6 +11,7 @@ use crate::files::{self, about, shown};
 use crate::{DONE, Trouble};
 
 pub fn run(asked: &Pack, out: &mut impl Write) -> Result<u8, Trouble> {
+    let words = files::text(&asked.fit)?;
     let beside = asked.fit.parent().unwrap_or(Path::new(""));
     let types_path = match &asked.types {
         Some(path) => path.clone(),
@@ -19,7 +20,7 @@ pub fn run(asked: &Pack, out: &mut impl Write) -> Result<u8, Trouble> {
     let types =
         Types::parse(&files::text(&types_path)?).map_err(|error| about(&types_path, &error))?;
     let fit = types
-        .fit(&files::text(&asked.fit)?)
+        .fit(&words)
         .map_err(|error| about(&asked.fit, &error))?;
     let catalogue = types
         .catalogue()
