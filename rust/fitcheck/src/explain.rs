@@ -230,8 +230,8 @@ impl<'a> Explainer<'a> {
                 let places = places.join(", ");
                 match type_id.map(|type_id| (type_id, self.names.type_name(type_id))) {
                     Some((_, Some(name))) => format!("{name} (items {places})"),
-                    Some((type_id, None)) => format!("items {places} (type {type_id})"),
-                    None => format!("items {places}"),
+                    Some((type_id, None)) => format!("type {type_id} (items {places})"),
+                    None => format!("each of items {places}"),
                 }
             })
             .collect();

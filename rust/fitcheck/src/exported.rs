@@ -8,7 +8,8 @@
 unsafe extern "C" {
     // The number of this set of calls and images. Nothing else tells a library
     // of other parameters apart, so whoever makes a call needs this symbol too.
-    // It is raised here and in crates/fitcheck/src/lib.rt, at the same time.
+    // It is raised here, in include/fitcheck.h for C, and in the Rattle source,
+    // crates/fitcheck/src/lib.rt, at the same time.
     #[link_name = "fit_interface_1"]
     fn fit_interface() -> u64;
 

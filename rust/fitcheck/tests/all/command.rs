@@ -112,10 +112,10 @@ fn help_and_version() {
         assert!(ran.err.is_empty());
     }
     let ran = fitcheck(&["--version"]);
-    let version = env!("CARGO_PKG_VERSION");
+    let (version, interface) = (env!("CARGO_PKG_VERSION"), fitcheck::interface());
     assert_eq!(
         ran.out,
-        format!("fitcheck {version}, library interface 1\n")
+        format!("fitcheck {version}, library interface {interface}\n")
     );
 }
 

@@ -158,7 +158,7 @@ fn a_changed_declaration_is_noticed() {
         ("result: u32", "result: u64"),
         ("out: *mut u8", "out: *const u8"),
         ("fn fit_hall", "fn fit_halls"),
-        ("fit_interface_1", "fit_interface_2"),
+        (library::interface(), "fit_interface_0"),
     ] {
         assert!(EXPORTED.contains(from), "{from}");
         assert_ne!(rust(&EXPORTED.replace(from, to)), exports, "{from}");
@@ -167,7 +167,7 @@ fn a_changed_declaration_is_noticed() {
         ("size_t fit_length", "uint32_t fit_length"),
         ("uint8_t *out", "const uint8_t *out"),
         ("uint32_t result,", ""),
-        ("fit_interface_1", "fit_interface_2"),
+        (library::interface(), "fit_interface_0"),
     ] {
         assert!(HEADER.contains(from), "{from}");
         assert_ne!(header(&HEADER.replace(from, to)), exports, "{from}");

@@ -388,11 +388,11 @@ fn what_repeats_is_said_once() {
     );
     assert_eq!(
         Explainer::new(&fit, &Names::new()).explain_all(&entries)[0],
-        "Low slot 0 is shared by items 0, 1 (type 2048)"
+        "Low slot 0 is shared by type 2048 (items 0, 1)"
     );
     // Without the fit nobody knows of what type the items are.
     let blind = Explainer::new(&[], &names).explain_all(&entries);
-    let together = "items 0, 1, 3 cannot be fitted to this ship";
+    let together = "each of items 0, 1, 3 cannot be fitted to this ship";
     assert!(blind.iter().any(|said| said == together), "{blind:?}");
 }
 
