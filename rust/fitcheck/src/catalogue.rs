@@ -155,55 +155,51 @@ impl CatalogueBuilder {
         if bytes > CATALOGUE_BYTES {
             return Err(BuildError::CatalogueTooLong { bytes });
         }
-        let names = sorted(&self.names);
-        let effects = sorted(&self.effects);
-        let types = sorted(&self.types);
-        let links = sorted(&self.links);
-        let bases = sorted(&self.bases);
-        if let Some(attribute) = twice(&names) {
+        let rows = CatalogueBuilder {
+            names: sorted(&self.names),
+            effects: sorted(&self.effects),
+            types: sorted(&self.types),
+            links: sorted(&self.links),
+            bases: sorted(&self.bases),
+        };
+        if let Some(attribute) = twice(&rows.names) {
             return Err(BuildError::DuplicateName { attribute });
         }
-        if let Some(effect_id) = twice(&effects) {
+        if let Some(effect_id) = twice(&rows.effects) {
             return Err(BuildError::DuplicateEffect { effect_id });
         }
-        if let Some(type_id) = twice(&types) {
+        if let Some(type_id) = twice(&rows.types) {
             return Err(BuildError::DuplicateType { type_id });
         }
+        rows.laid_out()
+    }
 
-        let mut image = Vec::with_capacity(bytes);
+    /// The image of rows that are in order: sizes, then the five blocks, each
+    /// all keys and then all values.
+    fn laid_out(&self) -> Result<Vec<u8>, BuildError> {
+        let mut image = Vec::with_capacity(self.length());
         for rows in [
-            names.len(),
-            effects.len(),
-            types.len(),
-            links.len(),
-            bases.len(),
+            self.names.len(),
+            self.effects.len(),
+            self.types.len(),
+            self.links.len(),
+            self.bases.len(),
         ] {
             // The length allows far fewer rows than 32 bits count.
             image.extend((rows as u32).to_le_bytes());
         }
-        names
-            .iter()
-            .for_each(|row| image.extend(u32::from(row.0.number()).to_le_bytes()));
-        names
-            .iter()
-            .for_each(|row| image.extend(row.1.to_le_bytes()));
-        keys(&mut image, &effects);
-        effects
-            .iter()
-            .for_each(|row| image.extend(u32::from(row.1.number()).to_le_bytes()));
-        keys(&mut image, &types);
-        for (_, info) in &types {
-            image.extend(info.group_id.to_le_bytes());
-            image.extend(info.category_id.to_le_bytes());
-            image.extend(u32::from(info.volume.is_some()).to_le_bytes());
-            image.extend(info.volume.unwrap_or(0.0).to_le_bytes());
-        }
-        keys(&mut image, &links);
-        links
-            .iter()
-            .for_each(|row| image.extend(row.1.to_le_bytes()));
-        keys(&mut image, &bases);
-        for (type_id, (attribute_id, value)) in &bases {
+        let number = |row: &(Attribute, i32)| u32::from(row.0.number()).to_le_bytes();
+        image.extend(self.names.iter().flat_map(number));
+        image.extend(self.names.iter().flat_map(|row| row.1.to_le_bytes()));
+        keys(&mut image, &self.effects);
+        let mark = |row: &(i32, Mark)| u32::from(row.1.number()).to_le_bytes();
+        image.extend(self.effects.iter().flat_map(mark));
+        keys(&mut image, &self.types);
+        self.types.iter().for_each(|row| row.1.put(&mut image));
+        keys(&mut image, &self.links);
+        image.extend(self.links.iter().flat_map(|row| row.1.to_le_bytes()));
+        keys(&mut image, &self.bases);
+        for (type_id, (attribute_id, value)) in &self.bases {
             image.extend(attribute_id.to_le_bytes());
             let stored = exact(*value).ok_or(BuildError::BaseValue {
                 type_id: *type_id,
@@ -213,6 +209,15 @@ impl CatalogueBuilder {
             image.extend(stored.to_le_bytes());
         }
         Ok(image)
+    }
+}
+
+impl TypeInfo {
+    fn put(&self, image: &mut Vec<u8>) {
+        image.extend(self.group_id.to_le_bytes());
+        image.extend(self.category_id.to_le_bytes());
+        image.extend(u32::from(self.volume.is_some()).to_le_bytes());
+        image.extend(self.volume.unwrap_or(0.0).to_le_bytes());
     }
 }
 

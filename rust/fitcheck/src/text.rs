@@ -146,36 +146,43 @@ impl Types {
                 self.names.name_group(line.number(id)?, &name);
                 Ok(None)
             }
-            [
-                "type",
-                id,
-                "group",
-                group,
-                "category",
-                category,
-                "volume",
-                volume,
-                _,
-                ..,
-            ] => {
-                let type_id = line.number(id)?;
-                let volume = match volume {
-                    "-" => None,
-                    given => Some(line.number(given)?),
-                };
-                let (group, category) = (line.number(group)?, line.number(category)?);
-                self.catalogue.type_info(type_id, group, category, volume);
-                let name = words[8..].join(" ");
-                self.names.name_type(type_id, &name);
-                match self.types.insert(name, type_id) {
-                    Some(_) => Err(line.wrong("another type is called so")),
-                    None => Ok(Some(type_id)),
-                }
-            }
+            ["type", ..] => self.type_row(line, &words).map(Some),
             _ => Err(line.wrong(
                 "not `name NAME ID`, `effect ID MARK`, `group ID NAME` or \
                  `type ID group ID category ID volume M3 NAME`",
             )),
+        }
+    }
+
+    /// A line that begins with `type`; the type's id.
+    fn type_row(&mut self, line: &Line<'_>, words: &[&str]) -> Result<i32, TextError> {
+        let [
+            _,
+            id,
+            "group",
+            group,
+            "category",
+            category,
+            "volume",
+            volume,
+            _,
+            ..,
+        ] = *words
+        else {
+            return Err(line.wrong("not `type ID group ID category ID volume M3 NAME`"));
+        };
+        let type_id = line.number(id)?;
+        let volume = match volume {
+            "-" => None,
+            given => Some(line.number(given)?),
+        };
+        let (group, category) = (line.number(group)?, line.number(category)?);
+        self.catalogue.type_info(type_id, group, category, volume);
+        let name = words[8..].join(" ");
+        self.names.name_type(type_id, &name);
+        match self.types.insert(name, type_id) {
+            Some(_) => Err(line.wrong("another type is called so")),
+            None => Ok(type_id),
         }
     }
 

@@ -137,6 +137,9 @@ fn a_wrong_line_of_a_catalogue_is_named() {
         assert_eq!(Types::parse(text).unwrap_err().to_string(), wrong);
     }
     let wrong = Types::parse("type 1").unwrap_err().to_string();
+    let shape = "not `type ID group ID category ID volume M3 NAME`";
+    assert_eq!(wrong, format!("line 1: {shape}: type 1"));
+    let wrong = Types::parse("Rifter").unwrap_err().to_string();
     assert!(
         wrong.starts_with("line 1: not `name NAME ID`, `effect ID MARK`, "),
         "{wrong}"

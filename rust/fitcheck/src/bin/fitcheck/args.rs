@@ -164,18 +164,14 @@ pub fn parse(line: impl IntoIterator<Item = OsString>) -> Result<Command, String
     let Some((command, _)) = plain.next() else {
         return Err("nothing is asked".to_string());
     };
+    let shown = command.display();
     let mut next = |what: &str| {
         let word = plain.next().filter(|word| !word.0.is_empty());
-        word.ok_or_else(|| format!("{} wants a {what}", command.display()))
+        word.ok_or_else(|| format!("{shown} wants a {what}"))
     };
     let asked = match command.to_str() {
         Some("help") => return Ok(Command::Help),
-        Some("explain") => Command::Explain(Explain {
-            catalogue: source(next("CATALOGUE")?),
-            fit: source(next("FIT")?),
-            names: words.value("--names"),
-            json: std::mem::take(&mut words.json),
-        }),
+        Some("explain") => explain(&mut words, &mut next)?,
         Some("hall") => Command::Hall(Hall {
             catalogue: source(next("CATALOGUE")?),
             folder: next("FOLDER")?.0.into(),
@@ -186,23 +182,31 @@ pub fn parse(line: impl IntoIterator<Item = OsString>) -> Result<Command, String
             types: words.value("--types"),
             out: words.value("--out"),
         }),
-        _ => return Err(format!("there is no command {}", command.display())),
+        _ => return Err(format!("there is no command {shown}")),
     };
     let unused = words.values.first().map(|value| value.0);
-    if let Some(option) = unused.or(words.json.then_some("--json")) {
-        return Err(format!("{} takes no {option}", command.display()));
+    match (unused.or(words.json.then_some("--json")), plain.next()) {
+        (Some(option), _) => Err(format!("{shown} takes no {option}")),
+        (None, Some((more, _))) => Err(format!("{} is one word too many", more.display())),
+        (None, None) => Ok(asked),
     }
-    if let Some((more, _)) = plain.next() {
-        return Err(format!("{} is one word too many", more.display()));
+}
+
+/// Two images, of which one at most is standard input.
+fn explain(
+    words: &mut Words,
+    next: &mut impl FnMut(&str) -> Result<(OsString, bool), String>,
+) -> Result<Command, String> {
+    let (catalogue, fit) = (source(next("CATALOGUE")?), source(next("FIT")?));
+    if (&catalogue, &fit) == (&Source::StandardInput, &Source::StandardInput) {
+        return Err("standard input is one image, not both".to_string());
     }
-    match &asked {
-        Command::Explain(Explain { catalogue, fit, .. })
-            if (catalogue, fit) == (&Source::StandardInput, &Source::StandardInput) =>
-        {
-            Err("standard input is one image, not both".to_string())
-        }
-        _ => Ok(asked),
-    }
+    Ok(Command::Explain(Explain {
+        catalogue,
+        fit,
+        names: words.value("--names"),
+        json: std::mem::take(&mut words.json),
+    }))
 }
 
 /// A path, or `-` for standard input where it does not stand behind `--`.
