@@ -1,43 +1,60 @@
-//! Finds `libfitcheck.a`, the proved library, or has `rt` build it; without it
-//! this crate cannot be built, and the message says what to do.
+//! Finds `libfitcheck.a`, the proved library, or has `rt` build it; without
+//! one that belongs to the calls and sources here this crate is not built, and
+//! the message says what to do.
 
 #![forbid(unsafe_code)]
 
-#[path = "../library.rs"]
 mod library;
 
 use std::io::ErrorKind;
 use std::path::PathBuf;
 use std::process::Command;
 
-use library::LIBRARY;
+use library::{BUILD, LIBRARY, Verdict};
 
 fn main() {
     println!("cargo:rerun-if-changed=build.rs");
-    println!("cargo:rerun-if-changed=../library.rs");
-    match directory() {
-        Ok(directory) => library::link(&directory),
-        Err(message) => message
-            .lines()
-            .for_each(|line| println!("cargo::error={line}")),
+    println!("cargo:rerun-if-changed=library.rs");
+    println!("cargo:rerun-if-changed=src/exported.rs");
+    match judged() {
+        Ok(directory) => {
+            library::link(&directory);
+            // For the tests, which link it from C.
+            println!("cargo:rustc-env=FITCHECK_LINKED={}", directory.display());
+        }
+        Err(message) => library::tell("error", &message),
     }
 }
 
-/// The directory that has the library, or why there is none.
-fn directory() -> Result<PathBuf, String> {
-    if !library::is_for_this_target() {
-        return Err(format!(
-            "{LIBRARY} is for x86-64, and this build is for another target."
-        ));
+/// The directory of a library that may be linked, or why there is none.
+fn judged() -> Result<PathBuf, String> {
+    let named = library::named();
+    let directory = directory(named.clone())?;
+    match library::verdict(&directory, &library::root(), named.is_some()) {
+        Verdict::Fit => {}
+        Verdict::Doubtful(message) => library::tell("warning", &message),
+        Verdict::Unfit(message) => return Err(message),
     }
-    if let Some(named) = library::named() {
+    Ok(directory)
+}
+
+/// The directory that has the library, or why there is none.
+fn directory(named: Option<PathBuf>) -> Result<PathBuf, String> {
+    if let Some(problem) = library::target_problem() {
+        return Err(problem);
+    }
+    if let Some(named) = named {
         if library::is_in(&named) {
             return Ok(named);
         }
+        let from = match named.is_relative() {
+            true => " (a relative path counts from the folder of this crate)",
+            false => "",
+        };
         return Err(format!(
-            "FITCHECK_LIB_DIR is {}, and there is no {LIBRARY} in it.\n\
-             Build it by `rt staticlib fitcheck` at the repository root and name the directory \
-             that has it, or take FITCHECK_LIB_DIR away: target/staticlib is looked at by itself.",
+            "FITCHECK_LIB_DIR is {}{from}, and there is no {LIBRARY} in it.\n\
+             Build it by `{BUILD}` at the repository root and name the directory that has it, or \
+             take FITCHECK_LIB_DIR away: target/staticlib is looked at by itself.",
             named.display()
         ));
     }
@@ -50,8 +67,7 @@ fn directory() -> Result<PathBuf, String> {
         return Ok(built);
     }
     Err(format!(
-        "`rt staticlib fitcheck` ended well and left no {LIBRARY} in the repository's \
-         target/staticlib."
+        "`{BUILD}` ended well and left no {LIBRARY} in the repository's target/staticlib."
     ))
 }
 
@@ -66,8 +82,7 @@ fn build() -> Result<(), String> {
         return Err(format!(
             "{missing}\n\
              This crate stands outside its repository, so it cannot build the library itself: run \
-             `rt staticlib fitcheck` in the repository and set FITCHECK_LIB_DIR to the directory \
-             that has it."
+             `{BUILD}` in the repository and set FITCHECK_LIB_DIR to the directory that has it."
         ));
     }
     let run = Command::new("rt")
@@ -83,7 +98,7 @@ fn build() -> Result<(), String> {
             let last = &lines[lines.len().saturating_sub(10)..];
             Err(format!(
                 "{missing}\n\
-                 `rt staticlib fitcheck` was run to build it and failed ({}). Its last lines:\n{}",
+                 `{BUILD}` was run to build it and failed ({}). Its last lines:\n{}",
                 run.status,
                 last.join("\n")
             ))
@@ -91,11 +106,10 @@ fn build() -> Result<(), String> {
         Err(error) if error.kind() == ErrorKind::NotFound => Err(format!(
             "{missing}\n\
              Install the Rattle kit, which puts `rt` on the PATH, and build again (this build then \
-             runs `rt staticlib fitcheck` itself); or set FITCHECK_LIB_DIR to a directory that \
-             has {LIBRARY}."
+             runs `{BUILD}` itself); or set FITCHECK_LIB_DIR to a directory that has {LIBRARY}."
         )),
         Err(error) => Err(format!(
-            "{missing}\n`rt staticlib fitcheck` could not be run to build it: {error}."
+            "{missing}\n`{BUILD}` could not be run to build it: {error}."
         )),
     }
 }

@@ -1,6 +1,6 @@
 //! The stack and the heap of the three calls.
 
-#[path = "../../library.rs"]
+#[path = "../../fitcheck/library.rs"]
 #[allow(dead_code)]
 mod library;
 

@@ -23,35 +23,13 @@ mod linked {
 }
 
 #[cfg(fitcheck)]
-mod linked {
-    use super::Checker;
+#[path = "../../fitcheck/src/exported.rs"]
+#[allow(dead_code)]
+mod exported;
 
-    // A slice passes as a pointer and then a length.
-    unsafe extern "C" {
-        fn fit_list(
-            catalogue: *const u8,
-            catalogue_length: usize,
-            fit: *const u8,
-            fit_length: usize,
-            out: *mut u8,
-            out_length: usize,
-        ) -> u64;
-        fn fit_skill(
-            catalogue: *const u8,
-            catalogue_length: usize,
-            fit: *const u8,
-            fit_length: usize,
-            result: u32,
-            out: *mut u8,
-            out_length: usize,
-        ) -> u64;
-        fn fit_hall(
-            catalogue: *const u8,
-            catalogue_length: usize,
-            input: *const u8,
-            input_length: usize,
-        ) -> u64;
-    }
+#[cfg(fitcheck)]
+mod linked {
+    use super::{Checker, exported};
 
     struct Rattle;
 
@@ -59,46 +37,17 @@ mod linked {
         Some(Box::new(Rattle))
     }
 
-    // SAFETY, for all three: each pointer comes from a slice with its own
-    // length, `out` is lent mutably and overlaps neither image, and the
-    // library keeps no pointer after it returns.
     impl Checker for Rattle {
         fn list(&self, catalogue: &[u8], fit: &[u8], out: &mut [u8]) -> u64 {
-            unsafe {
-                fit_list(
-                    catalogue.as_ptr(),
-                    catalogue.len(),
-                    fit.as_ptr(),
-                    fit.len(),
-                    out.as_mut_ptr(),
-                    out.len(),
-                )
-            }
+            exported::list(catalogue, fit, out)
         }
 
         fn skill(&self, catalogue: &[u8], fit: &[u8], result: u32, out: &mut [u8]) -> u64 {
-            unsafe {
-                fit_skill(
-                    catalogue.as_ptr(),
-                    catalogue.len(),
-                    fit.as_ptr(),
-                    fit.len(),
-                    result,
-                    out.as_mut_ptr(),
-                    out.len(),
-                )
-            }
+            exported::skill(catalogue, fit, result, out)
         }
 
         fn hall(&self, catalogue: &[u8], input: &[u8]) -> u64 {
-            unsafe {
-                fit_hall(
-                    catalogue.as_ptr(),
-                    catalogue.len(),
-                    input.as_ptr(),
-                    input.len(),
-                )
-            }
+            exported::hall(catalogue, input)
         }
     }
 }

@@ -12,8 +12,8 @@ use std::path::Path;
 use std::{env, fs};
 
 use fitcheck::{
-    Attribute, BuildError, CatalogueBuilder, Explainer, FitBuilder, FitItem, ItemResult, Mark,
-    Names, Slot, State,
+    Attribute, BuildError, CatalogueBuilder, Explainer, FitBuilder, FitItem, ItemResult,
+    ListOptions, Mark, Names, SkillOptions, Slot, State,
 };
 
 const NAMES: &str = "\
@@ -48,25 +48,36 @@ const REQUIRED_SKILL: i32 = 182;
 const REQUIRED_LEVEL: i32 = 277;
 const MAX_GROUP_FITTED: i32 = 1544;
 
+// Of the 88 names the rules ask for, those that these fits have values for.
+const NAMES_USED: [(Attribute, i32); 10] = [
+    (Attribute::PowerOutput, POWER_OUTPUT),
+    (Attribute::PowerLoad, POWER_LOAD),
+    (Attribute::CpuOutput, CPU_OUTPUT),
+    (Attribute::CpuLoad, CPU_LOAD),
+    (Attribute::LowSlots, LOW_SLOTS),
+    (Attribute::HiSlots, HI_SLOTS),
+    (Attribute::TurretSlotsLeft, TURRETS),
+    (Attribute::RequiredSkill1, REQUIRED_SKILL),
+    (Attribute::RequiredSkill1Level, REQUIRED_LEVEL),
+    (Attribute::MaxGroupFitted, MAX_GROUP_FITTED),
+];
+
 /// What the rules have to know of the type data.
 fn catalogue() -> Result<Vec<u8>, BuildError> {
     let mut catalogue = CatalogueBuilder::new();
-    for (name, attribute_id) in [
-        (Attribute::PowerOutput, POWER_OUTPUT),
-        (Attribute::PowerLoad, POWER_LOAD),
-        (Attribute::CpuOutput, CPU_OUTPUT),
-        (Attribute::CpuLoad, CPU_LOAD),
-        (Attribute::LowSlots, LOW_SLOTS),
-        (Attribute::HiSlots, HI_SLOTS),
-        (Attribute::TurretSlotsLeft, TURRETS),
-        (Attribute::RequiredSkill1, REQUIRED_SKILL),
-        (Attribute::RequiredSkill1Level, REQUIRED_LEVEL),
-        (Attribute::MaxGroupFitted, MAX_GROUP_FITTED),
-    ] {
+    for (name, attribute_id) in NAMES_USED {
         catalogue.name(name, attribute_id);
     }
-    for (effect_id, name) in [(11, "loPower"), (12, "hiPower"), (42, "turretFitted")] {
-        catalogue.effect(effect_id, Mark::of_effect(name));
+    // A name without an id turns its rules off, and the command warns of it. A
+    // site has all ids in its type data; here any others will do.
+    for name in catalogue.missing_names() {
+        catalogue.name(name, 100_000 + i32::from(name.number()));
+    }
+    for (mark, effect_id) in Mark::ALL[1..]
+        .iter()
+        .zip([12, 13, 11, 2663, 3772, 6306, 42, 40])
+    {
+        catalogue.effect(effect_id, *mark);
     }
     // Type, group, category, volume.
     catalogue
@@ -86,7 +97,7 @@ fn catalogue() -> Result<Vec<u8>, BuildError> {
         .link(AUTOCANNON, 42)
         .link(DAMAGE_CONTROL, 11)
         // One skill asks for another.
-        .base(SMALL_PROJECTILE_TURRET, REQUIRED_SKILL, GUNNERY as f32)
+        .base(SMALL_PROJECTILE_TURRET, REQUIRED_SKILL, GUNNERY.into())
         .base(SMALL_PROJECTILE_TURRET, REQUIRED_LEVEL, 1.0);
     catalogue.build()
 }
@@ -152,15 +163,15 @@ pub fn say() -> Result<String, Box<dyn Error>> {
     {
         text += &format!("with {with}:\n");
         let explainer = Explainer::new(fit, &names);
-        for entry in fitcheck::list(&catalogue, fit)? {
+        for entry in fitcheck::list(&catalogue, fit, &ListOptions::new())? {
             text += &format!("  {}\n", explainer.explain(&entry));
         }
         // Result 2 is the first item's.
-        for entry in fitcheck::skills(&catalogue, fit, 2)? {
+        for entry in fitcheck::skills(&catalogue, fit, 2, &SkillOptions::new())? {
             text += &format!("  {}\n", explainer.explain_skill(2, &entry));
         }
     }
-    let hall = fitcheck::hall(&catalogue, &fits)?;
+    let hall = fitcheck::hall(&catalogue, &[&fits[0], &fits[1]])?;
     text += &format!("{} of {} clear to fly\n", hall.clear, fits.len());
     Ok(text)
 }

@@ -1,7 +1,10 @@
 //! The three calls over slices.
 
+use std::ops::AddAssign;
+
 use crate::{
-    ENTRY_BYTES, Entry, FIT_BYTES, FITS_PER_CALL, MOST_ENTRIES, MOST_SKILLS, Refusal, ffi,
+    ENTRY_BYTES, Entry, FIT_BYTES, FITS_PER_CALL, ListOptions, MOST_ENTRIES, MOST_SKILLS, Refusal,
+    SkillOptions, exported,
 };
 
 /// How many entries the first try has room for; few fits break more rules.
@@ -26,20 +29,23 @@ const LAST_ROOM: usize = 1 << 20;
 /// itself, so it is never [`Refusal::BufferLength`].
 ///
 /// ```
-/// use fitcheck::{Entry, Refusal, Rule, Target};
+/// use fitcheck::{Entry, ListOptions, Refusal, Rule, Target};
 ///
 /// // No type is known, so the ship is no hull.
-/// let entries = fitcheck::list(&[0; 20], &[0; 36])?;
+/// let options = ListOptions::new();
+/// let entries = fitcheck::list(&[0; 20], &[0; 36], &options)?;
 /// assert_eq!(entries, [Entry { target: Target::Ship, rule: Rule::NotAHull }]);
 ///
-/// assert_eq!(fitcheck::list(&[0; 20], &[0; 35]), Err(Refusal::FitLength));
+/// let refused = fitcheck::list(&[0; 20], &[0; 35], &options);
+/// assert_eq!(refused, Err(Refusal::FitLength));
 /// # Ok::<(), Refusal>(())
 /// ```
-pub fn list(catalogue: &[u8], fit: &[u8]) -> Result<Vec<Entry>, Refusal> {
-    grown(FIRST_ROOM, MOST_ENTRIES, |room| {
-        ffi::list(catalogue, fit, room)
-    })
-    .map(|bytes| decoded(&bytes))
+pub fn list(
+    catalogue: &[u8],
+    fit: &[u8],
+    options: &ListOptions<'_>,
+) -> Result<Vec<Entry>, Refusal> {
+    listed(catalogue, fit, options).map(|bytes| decoded(&bytes))
 }
 
 /// As [`list`], into the caller's buffer, without any allocation. The entries
@@ -53,23 +59,25 @@ pub fn list(catalogue: &[u8], fit: &[u8]) -> Result<Vec<Entry>, Refusal> {
 /// As [`list`], and [`Refusal::BufferLength`] where the entries do not fit.
 ///
 /// ```
-/// use fitcheck::{Entry, Refusal, Rule};
+/// use fitcheck::{Entry, ListOptions, Refusal, Rule};
 ///
+/// let options = ListOptions::new();
 /// let mut buffer = [0; 48];
-/// let entries = fitcheck::list_into(&[0; 20], &[0; 36], &mut buffer)?;
+/// let entries = fitcheck::list_into(&[0; 20], &[0; 36], &options, &mut buffer)?;
 /// assert_eq!(entries.len(), 1);
 /// assert_eq!(Entry::from_bytes(&entries[0]).rule, Rule::NotAHull);
 ///
-/// let short = fitcheck::list_into(&[0; 20], &[0; 36], &mut buffer[..23]);
+/// let short = fitcheck::list_into(&[0; 20], &[0; 36], &options, &mut buffer[..23]);
 /// assert_eq!(short, Err(Refusal::BufferLength));
 /// # Ok::<(), Refusal>(())
 /// ```
 pub fn list_into<'a>(
     catalogue: &[u8],
     fit: &[u8],
+    options: &ListOptions<'_>,
     buffer: &'a mut [u8],
 ) -> Result<&'a [[u8; ENTRY_BYTES]], Refusal> {
-    let word = ffi::list(catalogue, fit, buffer);
+    let word = list_word(catalogue, fit, options, buffer);
     written(word, buffer)
 }
 
@@ -87,7 +95,7 @@ pub fn list_into<'a>(
 ///
 /// ```
 /// use fitcheck::{
-///     Attribute, CatalogueBuilder, FitBuilder, ItemResult, Refusal, Rule, State,
+///     Attribute, CatalogueBuilder, FitBuilder, ItemResult, Refusal, Rule, SkillOptions, State,
 /// };
 ///
 /// // Attribute 182 names a skill and 277 its level; the ship asks for skill
@@ -101,16 +109,22 @@ pub fn list_into<'a>(
 ///     .ship(ItemResult::new(State::Online).with(182, 3329.0).with(277, 2.0))
 ///     .build()?;
 ///
-/// let lacking = fitcheck::skills(&catalogue, &fit, 0)?;
+/// let skills = |result| fitcheck::skills(&catalogue, &fit, result, &SkillOptions::new());
+/// let lacking = skills(0)?;
 /// assert_eq!(lacking.len(), 1);
 /// assert_eq!(lacking[0].rule, Rule::Skill { type_id: 3329, required: 2, level: 1 });
-/// assert_eq!(fitcheck::skills(&catalogue, &fit, 1)?, []);
-/// assert_eq!(fitcheck::skills(&catalogue, &fit, 2), Err(Refusal::NoSuchResult));
+/// assert_eq!(skills(1)?, []);
+/// assert_eq!(skills(2), Err(Refusal::NoSuchResult));
 /// # Ok::<(), Box<dyn std::error::Error>>(())
 /// ```
-pub fn skills(catalogue: &[u8], fit: &[u8], result: u32) -> Result<Vec<Entry>, Refusal> {
+pub fn skills(
+    catalogue: &[u8],
+    fit: &[u8],
+    result: u32,
+    options: &SkillOptions,
+) -> Result<Vec<Entry>, Refusal> {
     grown(FIRST_ROOM, MOST_SKILLS, |room| {
-        ffi::skill(catalogue, fit, result, room)
+        skill_word(catalogue, fit, result, options, room)
     })
     .map(|bytes| decoded(&bytes))
 }
@@ -124,7 +138,8 @@ pub fn skills(catalogue: &[u8], fit: &[u8], result: u32) -> Result<Vec<Entry>, R
 ///
 /// ```
 /// let mut buffer = [0; fitcheck::MOST_SKILLS * fitcheck::ENTRY_BYTES];
-/// let entries = fitcheck::skills_into(&[0; 20], &[0; 36], 0, &mut buffer)?;
+/// let options = fitcheck::SkillOptions::new();
+/// let entries = fitcheck::skills_into(&[0; 20], &[0; 36], 0, &options, &mut buffer)?;
 /// assert!(entries.is_empty());
 /// # Ok::<(), fitcheck::Refusal>(())
 /// ```
@@ -132,10 +147,28 @@ pub fn skills_into<'a>(
     catalogue: &[u8],
     fit: &[u8],
     result: u32,
+    options: &SkillOptions,
     buffer: &'a mut [u8],
 ) -> Result<&'a [[u8; ENTRY_BYTES]], Refusal> {
-    let word = ffi::skill(catalogue, fit, result, buffer);
+    let word = skill_word(catalogue, fit, result, options, buffer);
     written(word, buffer)
+}
+
+/// The list call with what the options say: today they have no choice.
+fn list_word(catalogue: &[u8], fit: &[u8], _: &ListOptions<'_>, room: &mut [u8]) -> u64 {
+    exported::list(catalogue, fit, room)
+}
+
+/// The skill call with what the options say: today they have no choice.
+fn skill_word(catalogue: &[u8], fit: &[u8], result: u32, _: &SkillOptions, room: &mut [u8]) -> u64 {
+    exported::skill(catalogue, fit, result, room)
+}
+
+/// The bytes of a list's entries.
+fn listed(catalogue: &[u8], fit: &[u8], options: &ListOptions<'_>) -> Result<Vec<u8>, Refusal> {
+    grown(FIRST_ROOM, MOST_ENTRIES, |room| {
+        list_word(catalogue, fit, options, room)
+    })
 }
 
 /// How many fits are clear to fly, faulted and refused; see [`hall`].
@@ -147,6 +180,15 @@ pub struct Hall {
     pub faulted: usize,
     /// Fits that are refused, by 4 to 7.
     pub refused: usize,
+}
+
+/// The numbers of two halls together.
+impl AddAssign for Hall {
+    fn add_assign(&mut self, more: Hall) {
+        self.clear += more.clear;
+        self.faulted += more.faulted;
+        self.refused += more.refused;
+    }
 }
 
 /// How many of the fits are clear to fly, faulted and refused. The three
@@ -162,20 +204,18 @@ pub struct Hall {
 /// ```
 /// use fitcheck::{Hall, Refusal};
 ///
-/// let fits = [[0; 36].as_slice(), &[0; 35]];
-/// let hall = fitcheck::hall(&[0; 20], &fits)?;
+/// let hall = fitcheck::hall(&[0; 20], &[&[0; 36], &[0; 35]])?;
 /// assert_eq!(hall, Hall { clear: 0, faulted: 1, refused: 1 });
+/// assert_eq!(fitcheck::hall(&[0; 20], &[])?, Hall::default());
+/// assert_eq!(fitcheck::hall(&[0; 3], &[]), Err(Refusal::CatalogueLength));
 /// # Ok::<(), Refusal>(())
 /// ```
-pub fn hall<F: AsRef<[u8]>>(catalogue: &[u8], fits: &[F]) -> Result<Hall, Refusal> {
+pub fn hall(catalogue: &[u8], fits: &[&[u8]]) -> Result<Hall, Refusal> {
     let mut sum = Hall::default();
     let mut rest = fits;
     loop {
         let (now, later) = rest.split_at(rest.len().min(FITS_PER_CALL));
-        let part = counted(ffi::hall(catalogue, &hall_input(now)), now.len())?;
-        sum.clear += part.clear;
-        sum.faulted += part.faulted;
-        sum.refused += part.refused;
+        sum += counted(exported::hall(catalogue, &hall_input(now)), now.len())?;
         rest = later;
         if rest.is_empty() {
             return Ok(sum);
@@ -184,6 +224,7 @@ pub fn hall<F: AsRef<[u8]>>(catalogue: &[u8], fits: &[F]) -> Result<Hall, Refusa
 }
 
 /// What became of one fit; see [`verdicts`].
+#[non_exhaustive]
 #[derive(Debug, Clone, Copy, PartialEq, Eq)]
 pub enum Verdict {
     /// It breaks no rule.
@@ -206,33 +247,26 @@ pub enum Verdict {
 /// ```
 /// use fitcheck::{Refusal, Verdict};
 ///
-/// let fits = [[0; 36].as_slice(), &[0; 35]];
-/// let verdicts = fitcheck::verdicts(&[0; 20], &fits)?;
+/// let verdicts = fitcheck::verdicts(&[0; 20], &[&[0; 36], &[0; 35]])?;
 /// assert_eq!(verdicts[0], Verdict::Faulted { entries: 1 });
 /// assert_eq!(verdicts[1], Verdict::Refused(Refusal::FitLength));
 /// # Ok::<(), Refusal>(())
 /// ```
-pub fn verdicts<F: AsRef<[u8]>>(catalogue: &[u8], fits: &[F]) -> Result<Vec<Verdict>, Refusal> {
-    let none: [&[u8]; 0] = [];
-    hall(catalogue, &none)?;
+pub fn verdicts(catalogue: &[u8], fits: &[&[u8]]) -> Result<Vec<Verdict>, Refusal> {
+    hall(catalogue, &[])?;
     fits.iter()
-        .map(|fit| {
-            let listed = grown(FIRST_ROOM, MOST_ENTRIES, |room| {
-                ffi::list(catalogue, fit.as_ref(), room)
-            });
-            match listed {
-                Ok(bytes) if bytes.is_empty() => Ok(Verdict::Clear),
-                Ok(bytes) => Ok(Verdict::Faulted {
-                    entries: bytes.len() / ENTRY_BYTES,
-                }),
-                Err(
-                    refusal @ (Refusal::FitLength
-                    | Refusal::FitOrder
-                    | Refusal::FitField
-                    | Refusal::LaunchedDrones),
-                ) => Ok(Verdict::Refused(refusal)),
-                Err(other) => Err(other),
-            }
+        .map(|fit| match listed(catalogue, fit, &ListOptions::new()) {
+            Ok(bytes) if bytes.is_empty() => Ok(Verdict::Clear),
+            Ok(bytes) => Ok(Verdict::Faulted {
+                entries: bytes.len() / ENTRY_BYTES,
+            }),
+            Err(
+                refusal @ (Refusal::FitLength
+                | Refusal::FitOrder
+                | Refusal::FitField
+                | Refusal::LaunchedDrones),
+            ) => Ok(Verdict::Refused(refusal)),
+            Err(other) => Err(other),
         })
         .collect()
 }
@@ -281,14 +315,13 @@ fn decoded(bytes: &[u8]) -> Vec<Entry> {
 
 /// The input of a hall call: the number of fits, their lengths, and the fits
 /// end to end.
-fn hall_input<F: AsRef<[u8]>>(fits: &[F]) -> Vec<u8> {
+fn hall_input(fits: &[&[u8]]) -> Vec<u8> {
     let fits: Vec<&[u8]> = fits
         .iter()
-        .map(F::as_ref)
         // A longer one passes a limit or is unlike its sizes, so it is refused
         // by 4 whatever it holds. So is the empty one, which takes its place:
         // every length then goes into 32 bits.
-        .map(|fit| if fit.len() > FIT_BYTES { &[] } else { fit })
+        .map(|fit| if fit.len() > FIT_BYTES { &[] } else { *fit })
         .collect();
     let mut input = Vec::new();
     input.extend((fits.len() as u32).to_le_bytes());
@@ -382,10 +415,9 @@ mod tests {
     /// Document 01: "u32 K, K lengths (u32), then K fits end to end".
     #[test]
     fn a_hall_input_is_laid_out_as_document_01_says() {
-        let none: [&[u8]; 0] = [];
-        assert_eq!(hall_input(&none), [0; 4]);
+        assert_eq!(hall_input(&[]), [0; 4]);
         assert_eq!(
-            hall_input(&[[5u8, 6].as_slice(), &[7]]),
+            hall_input(&[&[5, 6], &[7]]),
             [2, 0, 0, 0, 2, 0, 0, 0, 1, 0, 0, 0, 5, 6, 7]
         );
     }

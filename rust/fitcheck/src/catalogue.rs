@@ -1,5 +1,6 @@
 //! Builds a catalogue: the type data in document 01's bytes.
 
+use crate::missing::{Missing, lacking};
 use crate::{Attribute, BuildError, CATALOGUE_BYTES, Mark};
 
 /// Builds a catalogue image that every call accepts.
@@ -15,7 +16,7 @@ use crate::{Attribute, BuildError, CATALOGUE_BYTES, Mark};
 /// let mut builder = CatalogueBuilder::new();
 /// builder
 ///     .name(Attribute::HiSlots, 14)
-///     .effect(12, Mark::of_effect("hiPower"))
+///     .effect(12, Mark::HiPower)
 ///     .type_info(587, 25, 6, Some(27_289.0))
 ///     .type_info(484, 55, 7, Some(5.0))
 ///     .link(484, 12)
@@ -33,7 +34,7 @@ pub struct CatalogueBuilder {
     effects: Vec<(i32, Mark)>,
     types: Vec<(i32, TypeInfo)>,
     links: Vec<(i32, i32)>,
-    bases: Vec<(i32, (i32, f32))>,
+    bases: Vec<(i32, (i32, f64))>,
 }
 
 #[derive(Debug, Clone, Copy)]
@@ -86,9 +87,51 @@ impl CatalogueBuilder {
     }
 
     /// Gives a type a base value, behind those it has.
-    pub fn base(&mut self, type_id: i32, attribute_id: i32, value: f32) -> &mut Self {
+    ///
+    /// The image stores an f32 today. A value that no f32 is stays out: `build`
+    /// answers with [`BuildError::BaseValue`], so that nothing is rounded
+    /// behind the caller's back. Where rounding is meant, as in data that was
+    /// f32 to begin with, give `f64::from(value as f32)`. Every NaN is stored
+    /// as one; no call tells them apart.
+    ///
+    /// ```
+    /// use fitcheck::CatalogueBuilder;
+    ///
+    /// let mut builder = CatalogueBuilder::new();
+    /// assert!(builder.base(3302, 277, 0.5).build().is_ok());
+    /// let wrong = builder.base(3302, 182, 16_777_217.0).build().unwrap_err();
+    /// assert_eq!(
+    ///     wrong.to_string(),
+    ///     "base value 16777217 of attribute 182 of type 3302: the image stores f32, and the \
+    ///      nearest is 16777216",
+    /// );
+    /// ```
+    pub fn base(&mut self, type_id: i32, attribute_id: i32, value: f64) -> &mut Self {
         self.bases.push((type_id, (attribute_id, value)));
         self
+    }
+
+    /// What the rows so far leave unchecked: see [`Missing`].
+    ///
+    /// ```
+    /// use fitcheck::{Attribute, CatalogueBuilder};
+    ///
+    /// let mut builder = CatalogueBuilder::new();
+    /// builder.name(Attribute::CpuLoad, 49);
+    /// assert_eq!(builder.missing_names().len(), 87);
+    /// assert_eq!(builder.missing().names, builder.missing_names());
+    /// ```
+    pub fn missing(&self) -> Missing {
+        Missing {
+            names: self.missing_names(),
+            marks: lacking(&Mark::ALL[1..], self.effects.iter().map(|row| row.1)),
+        }
+    }
+
+    /// The attribute names that have no id so far; rules that ask for them
+    /// list nothing.
+    pub fn missing_names(&self) -> Vec<Attribute> {
+        lacking(Attribute::ALL, self.names.iter().map(|row| row.0))
     }
 
     /// How long the image is.
@@ -105,67 +148,83 @@ impl CatalogueBuilder {
     /// # Errors
     ///
     /// [`BuildError::DuplicateName`], [`BuildError::DuplicateEffect`],
-    /// [`BuildError::DuplicateType`], or [`BuildError::CatalogueTooLong`]
-    /// beyond [`CATALOGUE_BYTES`].
+    /// [`BuildError::DuplicateType`], [`BuildError::BaseValue`], or
+    /// [`BuildError::CatalogueTooLong`] beyond [`CATALOGUE_BYTES`].
     pub fn build(&self) -> Result<Vec<u8>, BuildError> {
         let bytes = self.length();
         if bytes > CATALOGUE_BYTES {
             return Err(BuildError::CatalogueTooLong { bytes });
         }
-        let names = sorted(&self.names);
-        let effects = sorted(&self.effects);
-        let types = sorted(&self.types);
-        let links = sorted(&self.links);
-        let bases = sorted(&self.bases);
-        if let Some(attribute) = twice(&names) {
+        let rows = CatalogueBuilder {
+            names: sorted(&self.names),
+            effects: sorted(&self.effects),
+            types: sorted(&self.types),
+            links: sorted(&self.links),
+            bases: sorted(&self.bases),
+        };
+        if let Some(attribute) = twice(&rows.names) {
             return Err(BuildError::DuplicateName { attribute });
         }
-        if let Some(effect_id) = twice(&effects) {
+        if let Some(effect_id) = twice(&rows.effects) {
             return Err(BuildError::DuplicateEffect { effect_id });
         }
-        if let Some(type_id) = twice(&types) {
+        if let Some(type_id) = twice(&rows.types) {
             return Err(BuildError::DuplicateType { type_id });
         }
+        rows.laid_out()
+    }
 
-        let mut image = Vec::with_capacity(bytes);
+    /// The image of rows that are in order: sizes, then the five blocks, each
+    /// all keys and then all values.
+    fn laid_out(&self) -> Result<Vec<u8>, BuildError> {
+        let mut image = Vec::with_capacity(self.length());
         for rows in [
-            names.len(),
-            effects.len(),
-            types.len(),
-            links.len(),
-            bases.len(),
+            self.names.len(),
+            self.effects.len(),
+            self.types.len(),
+            self.links.len(),
+            self.bases.len(),
         ] {
             // The length allows far fewer rows than 32 bits count.
             image.extend((rows as u32).to_le_bytes());
         }
-        names
-            .iter()
-            .for_each(|row| image.extend(u32::from(row.0.number()).to_le_bytes()));
-        names
-            .iter()
-            .for_each(|row| image.extend(row.1.to_le_bytes()));
-        keys(&mut image, &effects);
-        effects
-            .iter()
-            .for_each(|row| image.extend(u32::from(row.1.number()).to_le_bytes()));
-        keys(&mut image, &types);
-        for (_, info) in &types {
-            image.extend(info.group_id.to_le_bytes());
-            image.extend(info.category_id.to_le_bytes());
-            image.extend(u32::from(info.volume.is_some()).to_le_bytes());
-            image.extend(info.volume.unwrap_or(0.0).to_le_bytes());
-        }
-        keys(&mut image, &links);
-        links
-            .iter()
-            .for_each(|row| image.extend(row.1.to_le_bytes()));
-        keys(&mut image, &bases);
-        for (_, (attribute_id, value)) in &bases {
+        let number = |row: &(Attribute, i32)| u32::from(row.0.number()).to_le_bytes();
+        image.extend(self.names.iter().flat_map(number));
+        image.extend(self.names.iter().flat_map(|row| row.1.to_le_bytes()));
+        keys(&mut image, &self.effects);
+        let mark = |row: &(i32, Mark)| u32::from(row.1.number()).to_le_bytes();
+        image.extend(self.effects.iter().flat_map(mark));
+        keys(&mut image, &self.types);
+        self.types.iter().for_each(|row| row.1.put(&mut image));
+        keys(&mut image, &self.links);
+        image.extend(self.links.iter().flat_map(|row| row.1.to_le_bytes()));
+        keys(&mut image, &self.bases);
+        for (type_id, (attribute_id, value)) in &self.bases {
             image.extend(attribute_id.to_le_bytes());
-            image.extend(value.to_le_bytes());
+            let stored = exact(*value).ok_or(BuildError::BaseValue {
+                type_id: *type_id,
+                attribute_id: *attribute_id,
+                value: *value,
+            })?;
+            image.extend(stored.to_le_bytes());
         }
         Ok(image)
     }
+}
+
+impl TypeInfo {
+    fn put(&self, image: &mut Vec<u8>) {
+        image.extend(self.group_id.to_le_bytes());
+        image.extend(self.category_id.to_le_bytes());
+        image.extend(u32::from(self.volume.is_some()).to_le_bytes());
+        image.extend(self.volume.unwrap_or(0.0).to_le_bytes());
+    }
+}
+
+/// The f32 that is this number, if one is.
+fn exact(value: f64) -> Option<f32> {
+    let stored = value as f32;
+    (value.is_nan() || f64::from(stored).to_bits() == value.to_bits()).then_some(stored)
 }
 
 /// The rows by key; those of equal key stay in their order.

@@ -7,7 +7,7 @@ use crate::{Attribute, SlotType};
 
 /// Why a builder makes no image: the field, and what stands in it.
 #[non_exhaustive]
-#[derive(Debug, Clone, Copy, PartialEq, Eq)]
+#[derive(Debug, Clone, Copy, PartialEq)]
 pub enum BuildError {
     /// An attribute name has two ids.
     DuplicateName {
@@ -23,6 +23,15 @@ pub enum BuildError {
     DuplicateType {
         /// Its id.
         type_id: i32,
+    },
+    /// A base value that no f32 is, and the image stores f32.
+    BaseValue {
+        /// The type that has it.
+        type_id: i32,
+        /// The attribute.
+        attribute_id: i32,
+        /// The value.
+        value: f64,
     },
     /// The catalogue is longer than the checker takes.
     CatalogueTooLong {
@@ -66,6 +75,7 @@ pub enum BuildError {
 }
 
 /// The parts of a fit that have a limit.
+#[non_exhaustive]
 #[derive(Debug, Clone, Copy, PartialEq, Eq)]
 pub enum FitPart {
     /// Listed skills.
@@ -112,6 +122,16 @@ impl fmt::Display for BuildError {
             BuildError::DuplicateType { type_id } => {
                 write!(formatter, "type id {type_id} stands twice")
             }
+            BuildError::BaseValue {
+                type_id,
+                attribute_id,
+                value,
+            } => write!(
+                formatter,
+                "base value {value} of attribute {attribute_id} of type {type_id}: the image \
+                 stores f32, and the nearest is {}",
+                f64::from(*value as f32)
+            ),
             BuildError::CatalogueTooLong { bytes } => write!(
                 formatter,
                 "the catalogue has {bytes} bytes: the most is {}",

@@ -5,6 +5,24 @@ use crate::{Entry, FitImage, GroupLimit, Names, Resource, Rule, SlotKind, Target
 /// How many of the items that share a slot are named.
 const NAMED_ITEMS: usize = 3;
 
+/// Stands for the subject in a sentence whose items are not known yet. No name
+/// has it: control characters are refused there.
+const SUBJECT: &str = "\u{0}";
+
+/// Whom a sentence is about.
+enum About {
+    Item(usize),
+    Else(String),
+}
+
+/// A sentence about one or more items of a type, or about something else.
+struct Said {
+    type_id: Option<i32>,
+    items: Vec<usize>,
+    /// With [`SUBJECT`] in the subject's place.
+    sentence: String,
+}
+
 /// One entry in a sentence; for several entries of one fit, see [`Explainer`].
 ///
 /// ```
@@ -65,7 +83,168 @@ impl<'a> Explainer<'a> {
 
     /// The entry in a sentence, without a full stop.
     pub fn explain(&self, entry: &Entry) -> String {
-        let subject = self.subject(entry.target);
+        self.sentence(entry, &self.subject(entry.target))
+    }
+
+    /// The entries in sentences, in their order. What repeats stands once: of
+    /// items of one type about which the same is said all are named in one
+    /// sentence, and of a slot that items share there is one.
+    ///
+    /// ```
+    /// use fitcheck::{
+    ///     Entry, Explainer, FitBuilder, FitItem, ItemResult, Names, Rule, Slot, State, Target,
+    /// };
+    ///
+    /// let mut fit = FitBuilder::new(587);
+    /// for slot in 0..3 {
+    ///     fit.item(FitItem::new(484, Slot::High(slot)), ItemResult::new(State::Online));
+    /// }
+    /// let fit = fit.build()?;
+    /// let names = Names::parse("587 Rifter\n484 125mm Gatling AutoCannon I\n")?;
+    /// let entries = [0, 1, 2].map(|index| Entry {
+    ///     target: Target::Item { index },
+    ///     rule: Rule::ShipRestricted,
+    /// });
+    /// assert_eq!(
+    ///     Explainer::new(&fit, &names).explain_all(&entries),
+    ///     ["125mm Gatling AutoCannon I (items 0, 1, 2) cannot be fitted to this ship, Rifter"],
+    /// );
+    /// # Ok::<(), Box<dyn std::error::Error>>(())
+    /// ```
+    pub fn explain_all(&self, entries: &[Entry]) -> Vec<String> {
+        let mut said = Vec::new();
+        for entry in entries {
+            match (entry.target, entry.rule) {
+                (Target::Item { index }, Rule::SlotTaken) => self.share(&mut said, index),
+                (Target::Item { index }, _) => {
+                    let sentence = self.sentence(entry, SUBJECT);
+                    self.group(&mut said, About::Item(index), sentence);
+                }
+                _ => said.push(Said {
+                    type_id: None,
+                    items: Vec::new(),
+                    sentence: self.explain(entry),
+                }),
+            }
+        }
+        said.iter().map(|said| self.finished(said)).collect()
+    }
+
+    /// The same for entries of [`skills`](crate::skills), each with the number
+    /// of its result.
+    pub fn explain_all_skills(&self, entries: &[(u32, Entry)]) -> Vec<String> {
+        let mut said = Vec::new();
+        for (result, entry) in entries {
+            let about = match result {
+                0 | 1 => About::Else(self.result_words(*result)),
+                result => About::Item(*result as usize - 2),
+            };
+            let sentence = match entry.rule {
+                Rule::Skill {
+                    type_id,
+                    required,
+                    level,
+                } => self.skill_words(SUBJECT, type_id, required, level),
+                _ => self.sentence(entry, SUBJECT),
+            };
+            self.group(&mut said, about, sentence);
+        }
+        said.iter().map(|said| self.finished(said)).collect()
+    }
+
+    /// Adds a sentence, or the item to those of its type of which the same is
+    /// said already.
+    fn group(&self, said: &mut Vec<Said>, about: About, sentence: String) {
+        let index = match about {
+            About::Item(index) => index,
+            About::Else(subject) => {
+                return said.push(Said {
+                    type_id: None,
+                    items: Vec::new(),
+                    sentence: sentence.replace(SUBJECT, &subject),
+                });
+            }
+        };
+        let type_id = self
+            .fit
+            .and_then(|fit| fit.item(index))
+            .map(|it| it.type_id);
+        let same = |it: &&mut Said| it.type_id == type_id && it.sentence == sentence;
+        match said.iter_mut().find(same) {
+            Some(group) => group.items.push(index),
+            None => said.push(Said {
+                type_id,
+                items: vec![index],
+                sentence,
+            }),
+        }
+    }
+
+    /// Adds the one sentence about the slot that an item shares, where it is
+    /// not there yet.
+    fn share(&self, said: &mut Vec<Said>, index: usize) {
+        let target = Target::Item { index };
+        let sentence = match self.fit.and_then(|fit| Some((fit, fit.item(index)?.slot))) {
+            Some((fit, slot)) => {
+                let sharing = |other: &usize| fit.item(*other).is_some_and(|it| it.slot == slot);
+                let items: Vec<usize> = (0..fit.pairs()).filter(sharing).collect();
+                format!("{slot} is shared by {}", self.several_words(&items))
+            }
+            None => self.slot_taken(&self.subject(target), target),
+        };
+        if !said.iter().any(|it| it.sentence == sentence) {
+            said.push(Said {
+                type_id: None,
+                items: Vec::new(),
+                sentence,
+            });
+        }
+    }
+
+    fn finished(&self, said: &Said) -> String {
+        match said.items[..] {
+            [] => said.sentence.clone(),
+            _ => said
+                .sentence
+                .replace(SUBJECT, &self.several_words(&said.items)),
+        }
+    }
+
+    /// Items by name and places, those of one type together.
+    fn several_words(&self, items: &[usize]) -> String {
+        let type_of = |index: &usize| Some(self.fit?.item(*index)?.type_id);
+        let mut types: Vec<(Option<i32>, Vec<usize>)> = Vec::new();
+        for index in items {
+            match types.iter_mut().find(|it| it.0 == type_of(index)) {
+                Some(same) => same.1.push(*index),
+                None => types.push((type_of(index), vec![*index])),
+            }
+        }
+        let words: Vec<String> = types
+            .iter()
+            .map(|(type_id, items)| {
+                if let [index] = items[..] {
+                    return self.item_words(index);
+                }
+                let places: Vec<String> = items.iter().map(usize::to_string).collect();
+                let places = places.join(", ");
+                match type_id.map(|type_id| (type_id, self.names.type_name(type_id))) {
+                    Some((_, Some(name))) => format!("{name} (items {places})"),
+                    Some((type_id, None)) => format!("type {type_id} (items {places})"),
+                    None => format!("each of items {places}"),
+                }
+            })
+            .collect();
+        match words.split_last() {
+            Some((last, first)) if !first.is_empty() => {
+                format!("{} and {last}", first.join(", "))
+            }
+            _ => words.concat(),
+        }
+    }
+
+    /// The sentence with this subject.
+    fn sentence(&self, entry: &Entry, subject: &str) -> String {
         let place = self.place(entry.target);
         match entry.rule {
             Rule::Resource {
@@ -90,7 +269,7 @@ impl<'a> Explainer<'a> {
             Rule::NotAnImplant => {
                 format!("{subject} is {place} and is not an implant or booster")
             }
-            Rule::SlotTaken => self.slot_taken(&subject, entry.target),
+            Rule::SlotTaken => self.slot_taken(subject, entry.target),
             Rule::WrongSlotIndex { expected } => {
                 format!("{subject} is {place} and belongs in slot {expected}")
             }
@@ -101,7 +280,7 @@ impl<'a> Explainer<'a> {
                 type_id,
                 required,
                 level,
-            } => self.skill_words(&subject, type_id, required, level),
+            } => self.skill_words(subject, type_id, required, level),
             Rule::RigSize { ship, item } if ship == item => format!(
                 "{subject} is a rig of another size than the ship takes; cut to whole numbers \
                  both sizes are {ship}"
@@ -305,7 +484,7 @@ impl<'a> Explainer<'a> {
     }
 }
 
-fn resource_words(resource: Resource) -> &'static str {
+pub(crate) fn resource_words(resource: Resource) -> &'static str {
     match resource {
         Resource::Cpu => "CPU",
         Resource::Powergrid => "Powergrid",

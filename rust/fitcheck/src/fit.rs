@@ -28,6 +28,13 @@ impl FitItem {
         self.quantity = quantity;
         self
     }
+
+    fn put(&self, image: &mut Vec<u8>) {
+        image.extend(self.type_id.to_le_bytes());
+        image.extend(self.quantity.to_le_bytes());
+        image.extend([self.slot.slot_type().number(), 0]);
+        image.extend(self.slot.index().to_le_bytes());
+    }
 }
 
 /// What the ship, the character or an item calculated to.
@@ -164,6 +171,20 @@ impl FitBuilder {
         self
     }
 
+    /// The types that the fit names: ship, mode, skills and items.
+    pub(crate) fn type_ids(&self) -> impl Iterator<Item = i32> {
+        let own = [self.ship_type].into_iter().chain(self.mode);
+        let skills = self.skills.iter().map(|skill| skill.0);
+        own.chain(skills)
+            .chain(self.all_items().map(|item| item.type_id))
+    }
+
+    /// Attribute ids and values of all results.
+    pub(crate) fn values(&self) -> impl Iterator<Item = (i32, f64)> {
+        self.all_results()
+            .flat_map(|result| result.attributes.iter().copied())
+    }
+
     /// The image.
     ///
     /// # Errors
@@ -171,24 +192,7 @@ impl FitBuilder {
     /// [`BuildError::TooMany`], [`BuildError::Unpaired`],
     /// [`BuildError::DuplicateSkill`] or [`BuildError::DuplicateAttribute`].
     pub fn build(&self) -> Result<Vec<u8>, BuildError> {
-        let items: Vec<&FitItem> = self
-            .pairs
-            .iter()
-            .map(|pair| &pair.0)
-            .chain(&self.items)
-            .collect();
-        let results: Vec<&ItemResult> = [&self.ship, &self.character]
-            .into_iter()
-            .chain(self.pairs.iter().map(|pair| &pair.1))
-            .chain(&self.results)
-            .collect();
-        let attributes = results.iter().map(|result| result.attributes.len()).sum();
-        let sizes = [
-            (FitPart::Skills, self.skills.len()),
-            (FitPart::Items, items.len()),
-            (FitPart::Results, results.len() - 2),
-            (FitPart::Attributes, attributes),
-        ];
+        let sizes = self.sizes();
         for (part, count) in sizes {
             if count > part.most() {
                 return Err(BuildError::TooMany { part, count });
@@ -202,16 +206,7 @@ impl FitBuilder {
         }
         let skills =
             ascending(&self.skills).map_err(|type_id| BuildError::DuplicateSkill { type_id })?;
-        let mut values = Vec::with_capacity(results.len());
-        for (number, result) in results.iter().enumerate() {
-            let sorted = ascending(&result.attributes).map_err(|attribute_id| {
-                BuildError::DuplicateAttribute {
-                    result: number,
-                    attribute_id,
-                }
-            })?;
-            values.push(sorted);
-        }
+        let values = self.values_in_order()?;
 
         let mut image = Vec::new();
         for (_, count) in sizes {
@@ -221,29 +216,55 @@ impl FitBuilder {
         image.extend(self.ship_type.to_le_bytes());
         image.extend(u32::from(self.mode.is_some()).to_le_bytes());
         image.extend(self.mode.unwrap_or(0).to_le_bytes());
-        skills
-            .iter()
-            .for_each(|skill| image.extend(skill.0.to_le_bytes()));
+        image.extend(skills.iter().flat_map(|skill| skill.0.to_le_bytes()));
         image.extend(skills.iter().map(|skill| skill.1));
-        for item in items {
-            image.extend(item.type_id.to_le_bytes());
-            image.extend(item.quantity.to_le_bytes());
-            image.extend([item.slot.slot_type().number(), 0]);
-            image.extend(item.slot.index().to_le_bytes());
-        }
-        for result in results {
+        self.all_items().for_each(|item| item.put(&mut image));
+        for result in self.all_results() {
             image.extend([result.state.number(), 0]);
             // All counts together are at most 30,000.
             image.extend((result.attributes.len() as u16).to_le_bytes());
         }
-        let values = values.concat();
-        values
-            .iter()
-            .for_each(|value| image.extend(value.0.to_le_bytes()));
-        values
-            .iter()
-            .for_each(|value| image.extend(value.1.to_le_bytes()));
+        image.extend(values.iter().flat_map(|value| value.0.to_le_bytes()));
+        image.extend(values.iter().flat_map(|value| value.1.to_le_bytes()));
         Ok(image)
+    }
+
+    /// How many rows each part has, in the image's order.
+    fn sizes(&self) -> [(FitPart, usize); 4] {
+        let attributes = self.all_results().map(|result| result.attributes.len());
+        [
+            (FitPart::Skills, self.skills.len()),
+            (FitPart::Items, self.all_items().count()),
+            (FitPart::Results, self.all_results().count() - 2),
+            (FitPart::Attributes, attributes.sum()),
+        ]
+    }
+
+    /// The items, those that have a result first.
+    fn all_items(&self) -> impl Iterator<Item = &FitItem> {
+        self.pairs.iter().map(|pair| &pair.0).chain(&self.items)
+    }
+
+    /// The results: ship, character, then items.
+    fn all_results(&self) -> impl Iterator<Item = &ItemResult> {
+        let own = [&self.ship, &self.character].into_iter();
+        let pairs = self.pairs.iter().map(|pair| &pair.1);
+        own.chain(pairs).chain(&self.results)
+    }
+
+    /// The attributes of all results, ids ascending within each.
+    fn values_in_order(&self) -> Result<Vec<(i32, f64)>, BuildError> {
+        let mut values = Vec::new();
+        for (number, result) in self.all_results().enumerate() {
+            let sorted = ascending(&result.attributes).map_err(|attribute_id| {
+                BuildError::DuplicateAttribute {
+                    result: number,
+                    attribute_id,
+                }
+            })?;
+            values.extend(sorted);
+        }
+        Ok(values)
     }
 }
 

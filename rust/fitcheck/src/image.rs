@@ -1,6 +1,72 @@
-//! What a fit image holds, as far as a sentence about it needs it.
+//! What the images hold, as far as a sentence about them needs it.
 
-use crate::{FitItem, FitPart, Slot, SlotType};
+use crate::missing::{Missing, lacking};
+use crate::{Attribute, CATALOGUE_BYTES, FitItem, FitPart, Mark, Slot, SlotType};
+
+/// Reads which names have an id in a catalogue image, and which marks its
+/// effects have.
+///
+/// It judges the length alone: whether the catalogue is refused is for the
+/// calls to say.
+///
+/// ```
+/// use fitcheck::{Attribute, CatalogueBuilder, CatalogueImage};
+///
+/// let image = CatalogueBuilder::new().name(Attribute::CpuLoad, 49).build()?;
+/// let catalogue = CatalogueImage::new(&image).unwrap();
+/// assert_eq!(catalogue.missing_names().len(), 87);
+/// assert!(!catalogue.missing_names().contains(&Attribute::CpuLoad));
+/// # Ok::<(), fitcheck::BuildError>(())
+/// ```
+#[derive(Debug, Clone, Copy)]
+pub struct CatalogueImage<'a> {
+    names: &'a [[u8; 4]],
+    marks: &'a [[u8; 4]],
+}
+
+impl<'a> CatalogueImage<'a> {
+    /// The catalogue of an image, where it is not too long and its length is
+    /// what its sizes make it.
+    pub fn new(image: &'a [u8]) -> Option<CatalogueImage<'a>> {
+        let mut length = 20;
+        for (block, width) in [8, 8, 20, 8, 12].into_iter().enumerate() {
+            // Five products of 32 bits with less than 6 are far below 64.
+            length += u64::from(word(image, 4 * block)?) * width;
+        }
+        if length != image.len() as u64 || image.len() > CATALOGUE_BYTES {
+            return None;
+        }
+        let names = word(image, 0)? as usize;
+        let effects = word(image, 4)? as usize;
+        let (words, _) = image.as_chunks();
+        Some(CatalogueImage {
+            names: words.get(5..5 + names)?,
+            marks: words.get(5 + 2 * names + effects..5 + 2 * names + 2 * effects)?,
+        })
+    }
+
+    /// What the catalogue leaves unchecked: see [`Missing`].
+    pub fn missing(&self) -> Missing {
+        Missing {
+            names: self.missing_names(),
+            marks: lacking(&Mark::ALL[1..], numbered(self.marks, Mark::from_number)),
+        }
+    }
+
+    /// The attribute names that have no id; rules that ask for them list
+    /// nothing.
+    pub fn missing_names(&self) -> Vec<Attribute> {
+        lacking(Attribute::ALL, numbered(self.names, Attribute::from_number))
+    }
+}
+
+/// The cases whose numbers the words are.
+fn numbered<T>(words: &[[u8; 4]], case: impl Fn(u8) -> Option<T>) -> impl Iterator<Item = T> {
+    words.iter().filter_map(move |word| {
+        let number = u32::from_le_bytes(*word);
+        case(u8::try_from(number).ok()?)
+    })
+}
 
 /// Reads the ship, mode and items of a fit image, and how many results it has.
 ///

@@ -17,8 +17,8 @@
 //!
 //! ```
 //! use fitcheck::{
-//!     Attribute, CatalogueBuilder, Explainer, FitBuilder, FitItem, ItemResult, Names, Slot,
-//!     State,
+//!     Attribute, CatalogueBuilder, Explainer, FitBuilder, FitItem, ItemResult, ListOptions,
+//!     Names, Slot, State,
 //! };
 //!
 //! // What the type data says: two attributes, a ship and a module.
@@ -38,7 +38,7 @@
 //!
 //! let names = Names::parse("587 Rifter\n2048 Damage Control II\n")?;
 //! let explainer = Explainer::new(&fit, &names);
-//! let sentences: Vec<String> = fitcheck::list(&catalogue, &fit)?
+//! let sentences: Vec<String> = fitcheck::list(&catalogue, &fit, &ListOptions::new())?
 //!     .iter()
 //!     .map(|entry| explainer.explain(entry))
 //!     .collect();
@@ -68,28 +68,35 @@ mod error;
 #[forbid(unsafe_code)]
 mod explain;
 #[allow(unsafe_code)]
-mod ffi;
+mod exported;
 #[forbid(unsafe_code)]
 mod fit;
 #[forbid(unsafe_code)]
 mod image;
 #[forbid(unsafe_code)]
+pub mod json;
+#[forbid(unsafe_code)]
 mod mark;
+#[forbid(unsafe_code)]
+mod missing;
 #[forbid(unsafe_code)]
 mod names;
 #[forbid(unsafe_code)]
 mod numbered;
 #[forbid(unsafe_code)]
+mod options;
+#[forbid(unsafe_code)]
 mod refusal;
+#[forbid(unsafe_code)]
+mod report;
 #[forbid(unsafe_code)]
 mod rule;
 #[forbid(unsafe_code)]
 mod slot;
-
-/// The page's code is run with the doc tests.
-#[cfg(doctest)]
-#[doc = include_str!("../../../docs/CALLING.md")]
-struct Page;
+#[forbid(unsafe_code)]
+pub mod text;
+#[forbid(unsafe_code)]
+mod type_data;
 
 pub use attribute::Attribute;
 pub use call::{Hall, Verdict, hall, list, list_into, skills, skills_into, verdicts};
@@ -98,12 +105,16 @@ pub use entry::Entry;
 pub use error::{BuildError, FitPart};
 pub use explain::{Explainer, explain};
 pub use fit::{FitBuilder, FitItem, ItemResult};
-pub use image::FitImage;
+pub use image::{CatalogueImage, FitImage};
 pub use mark::Mark;
+pub use missing::{Missing, Unchecked};
 pub use names::{Names, NamesError};
+pub use options::{ListOptions, SkillOptions};
 pub use refusal::Refusal;
+pub use report::Report;
 pub use rule::{GroupLimit, Resource, Rule, SlotKind, Target};
 pub use slot::{Slot, SlotType, State};
+pub use type_data::{TypeData, TypeInfo, type_ids_of};
 
 /// Bytes of one entry.
 pub const ENTRY_BYTES: usize = 24;
@@ -123,4 +134,14 @@ pub const CATALOGUE_BYTES: usize = 16_777_216;
 pub const FIT_BYTES: usize = 36 + 5 * 1_024 + 12 * 256 + 4 * 256 + 12 * 30_000;
 
 /// The library takes no more fits in one hall call; [`hall`] splits.
-const FITS_PER_CALL: usize = 64;
+pub const FITS_PER_CALL: usize = 64;
+
+/// The number of the calls and images that the linked library has. A library
+/// of another number than this crate was written for does not link.
+///
+/// ```
+/// println!("calls of interface {}", fitcheck::interface());
+/// ```
+pub fn interface() -> u64 {
+    exported::interface()
+}

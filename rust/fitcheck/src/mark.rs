@@ -30,16 +30,22 @@ numbered! {
 }
 
 impl Mark {
-    /// The mark of an effect by its name in EVE's type data; most effects have
-    /// [`Mark::Other`].
+    /// The mark of an effect by its name in EVE's type data; none where the
+    /// name is not one of the eight that say something about slots.
+    ///
+    /// Most effects are none of them, and [`Mark::Other`] is right for those.
+    /// A name that was misspelt is none of them either, and would turn the
+    /// slot checks of its types off: so the caller says what is meant.
     ///
     /// ```
     /// use fitcheck::Mark;
     ///
-    /// assert_eq!(Mark::of_effect("turretFitted"), Mark::TurretFitted);
-    /// assert_eq!(Mark::of_effect("armorRepair"), Mark::Other);
+    /// assert_eq!(Mark::of_effect("turretFitted"), Some(Mark::TurretFitted));
+    /// assert_eq!(Mark::of_effect("armorRepair"), None);
+    /// assert_eq!(Mark::of_effect("turretfitted"), None);
+    /// assert_eq!(Mark::of_effect("armorRepair").unwrap_or(Mark::Other), Mark::Other);
     /// ```
-    pub fn of_effect(name: &str) -> Mark {
-        Mark::from_name(name).unwrap_or(Mark::Other)
+    pub fn of_effect(name: &str) -> Option<Mark> {
+        Mark::from_name(name).filter(|mark| *mark != Mark::Other)
     }
 }

@@ -22,6 +22,17 @@ use std::fmt;
 /// assert_eq!(wrong.to_string(), "line 2: not an id and a name");
 /// # Ok::<(), fitcheck::NamesError>(())
 /// ```
+///
+/// They may also come from memory, and be written as such a text:
+///
+/// ```
+/// use fitcheck::Names;
+///
+/// let mut names = Names::new();
+/// names.name_type(587, "Rifter").name_group(25, "Frigate");
+/// assert_eq!(names.to_string(), "587 Rifter\ngroup 25 Frigate\n");
+/// assert_eq!(Names::parse(&names.to_string()), Ok(names));
+/// ```
 #[derive(Debug, Clone, Default, PartialEq, Eq)]
 pub struct Names {
     types: BTreeMap<i32, String>,
@@ -44,7 +55,40 @@ impl fmt::Display for NamesError {
 
 impl Error for NamesError {}
 
+/// A line for each name, as [`Names::parse`] reads them: types, then groups,
+/// each by ascending id.
+impl fmt::Display for Names {
+    fn fmt(&self, formatter: &mut fmt::Formatter<'_>) -> fmt::Result {
+        for (type_id, name) in &self.types {
+            writeln!(formatter, "{type_id} {name}")?;
+        }
+        for (group_id, name) in &self.groups {
+            writeln!(formatter, "group {group_id} {name}")?;
+        }
+        Ok(())
+    }
+}
+
 impl Names {
+    /// No names.
+    pub fn new() -> Names {
+        Names::default()
+    }
+
+    /// Says what a type is called. A later name takes the place of an earlier
+    /// one; control characters become spaces and those at the ends are taken
+    /// away, and a name of nothing else is none.
+    pub fn name_type(&mut self, type_id: i32, name: &str) -> &mut Self {
+        put(&mut self.types, type_id, name);
+        self
+    }
+
+    /// Says what a group is called; see [`Names::name_type`].
+    pub fn name_group(&mut self, group_id: i32, name: &str) -> &mut Self {
+        put(&mut self.groups, group_id, name);
+        self
+    }
+
     /// The names of a text.
     ///
     /// # Errors
@@ -96,6 +140,14 @@ impl Names {
     }
 }
 
+fn put(table: &mut BTreeMap<i32, String>, id: i32, name: &str) {
+    let name = name.replace(char::is_control, " ");
+    match name.trim() {
+        "" => table.remove(&id),
+        name => table.insert(id, name.to_string()),
+    };
+}
+
 /// The first word and what follows the space behind it.
 fn word(line: &str) -> Option<(&str, &str)> {
     let (first, rest) = line.split_once(char::is_whitespace)?;
@@ -111,6 +163,19 @@ mod tests {
         let names = Names::parse("\u{FEFF}587 Rifter\r\n\r\n  -3\t 'Sansha' Ægir \r\n").unwrap();
         assert_eq!(names.type_name(587), Some("Rifter"));
         assert_eq!(names.type_name(-3), Some("'Sansha' Ægir"));
+    }
+
+    #[test]
+    fn names_from_memory_stay_on_their_line() {
+        let mut names = Names::new();
+        names
+            .name_type(5, " a\u{1B}b\nc ")
+            .name_type(6, "first")
+            .name_type(6, "second")
+            .name_type(7, "gone")
+            .name_type(7, "\n")
+            .name_group(5, "g");
+        assert_eq!(names.to_string(), "5 a b c\n6 second\ngroup 5 g\n");
     }
 
     #[test]

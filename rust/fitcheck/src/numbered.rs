@@ -6,6 +6,7 @@ macro_rules! numbered {
         $enum:ident { $($(#[$about_case:meta])* $case:ident = $name:literal,)+ }
     ) => {
         $(#[$about])*
+        #[non_exhaustive]
         #[derive(Debug, Clone, Copy, PartialEq, Eq, PartialOrd, Ord, Hash)]
         pub enum $enum {
             $(

@@ -10,7 +10,7 @@ use std::fmt;
 /// ```
 /// use fitcheck::Refusal;
 ///
-/// let refusal = fitcheck::list(&[0; 3], &[]).unwrap_err();
+/// let refusal = fitcheck::hall(&[0; 3], &[]).unwrap_err();
 /// assert_eq!(refusal, Refusal::CatalogueLength);
 /// assert_eq!(refusal.number(), 1);
 /// ```
@@ -49,7 +49,7 @@ pub enum Refusal {
 
 impl Refusal {
     /// Every refusal of document 01, by its number from 1.
-    pub const ALL: [Refusal; 10] = [
+    pub const ALL: &'static [Refusal] = &[
         Refusal::CatalogueLength,
         Refusal::CatalogueOrder,
         Refusal::CatalogueField,
@@ -80,6 +80,19 @@ impl Refusal {
         }
     }
 
+    /// The refusal of a number, if there is one.
+    ///
+    /// ```
+    /// use fitcheck::Refusal;
+    ///
+    /// assert_eq!(Refusal::from_number(4), Some(Refusal::FitLength));
+    /// assert_eq!(Refusal::from_number(0), None);
+    /// ```
+    pub fn from_number(number: u32) -> Option<Refusal> {
+        let of_number = |refusal: &&Refusal| refusal.number() == number;
+        Refusal::ALL.iter().find(of_number).copied()
+    }
+
     /// Whether the catalogue is to blame, so that no fit can be checked by it.
     pub fn is_of_catalogue(self) -> bool {
         matches!(
@@ -92,9 +105,10 @@ impl Refusal {
     /// none.
     pub(crate) fn or_count(word: u64) -> Result<u32, Refusal> {
         let count = (word & 0xFFFF_FFFF) as u32;
-        match (word >> 32, count) {
-            (0, count) => Ok(count),
-            (number @ 1..=10, 0) => Err(Refusal::ALL[number as usize - 1]),
+        let number = (word >> 32) as u32;
+        match (Refusal::from_number(number), count) {
+            (None, count) if number == 0 => Ok(count),
+            (Some(refusal), 0) => Err(refusal),
             _ => Err(Refusal::Unexpected { word }),
         }
     }

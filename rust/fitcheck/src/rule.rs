@@ -5,6 +5,7 @@
 use crate::numbered::numbered;
 
 /// What an entry is about.
+#[non_exhaustive]
 #[derive(Debug, Clone, Copy, PartialEq, Eq)]
 pub enum Target {
     /// The ship, for what it carries as a whole.

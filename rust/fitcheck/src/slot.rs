@@ -62,6 +62,7 @@ numbered! {
 
 /// Where an item is. The number is the position in its rack, starting at 0;
 /// for implants and boosters, the slot as EVE numbers it, starting at 1.
+#[non_exhaustive]
 #[derive(Debug, Clone, Copy, PartialEq, Eq, Hash)]
 pub enum Slot {
     /// A high slot.

@@ -134,7 +134,11 @@ fn what_is_compiled_is_what_is_published() {
             let path = published().join(name);
             assert_eq!(lines[0], format!("include!({path:?});"));
         } else {
-            assert_eq!(compiled, fs::read(published().join(name)).unwrap(), "{name}");
+            assert_eq!(
+                compiled,
+                fs::read(published().join(name)).unwrap(),
+                "{name}"
+            );
         }
     }
 }

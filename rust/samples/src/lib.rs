@@ -1,21 +1,12 @@
 //! The samples at the repository's root: a catalogue and fits described in
-//! text, which this crate turns into the images that `./check` reads.
-//!
-//! `samples/types.txt` and `samples/clear/fit.txt` say how their lines are
-//! read. A line that is indented belongs to the line above it that is not;
-//! `#` starts a comment.
-
-mod catalogue;
-mod fit;
-mod lines;
+//! text, which become the images that `./check` reads. The text is read by
+//! `fitcheck::text`; what the images have to be is held against the original.
 
 use std::fs;
 use std::path::{Path, PathBuf};
 
 use compare::checker::{Checker, ENTRY};
-
-pub use catalogue::World;
-pub use fit::fit;
+use fitcheck::text::Types;
 
 /// The samples, each a folder.
 pub const SAMPLES: [&str; 3] = ["clear", "faulted", "refused"];
@@ -42,18 +33,21 @@ pub fn text(file: &str) -> Result<String, String> {
 }
 
 /// The catalogue that all samples share.
-pub fn world() -> Result<World, String> {
-    World::read(&text("types.txt")?).map_err(|wrong| format!("types.txt, {wrong}"))
+pub fn types() -> Result<Types, String> {
+    Types::parse(&text("types.txt")?).map_err(|wrong| format!("types.txt, {wrong}"))
 }
 
 /// The images that the descriptions of a sample make.
 pub fn images(sample: &str) -> Result<Images, String> {
-    let world = world()?;
+    let types = types()?;
     let file = format!("{sample}/fit.txt");
-    let fit = fit(&text(&file)?, &world).map_err(|wrong| format!("{file}, {wrong}"))?;
+    let fit = types
+        .fit(&text(&file)?)
+        .map_err(|wrong| format!("{file}, {wrong}"))?;
+    let built = |wrong| format!("{sample}: {wrong}");
     Ok(Images {
-        types: world.catalogue().image(),
-        fit: fit.image(),
+        types: types.catalogue().build().map_err(built)?,
+        fit: fit.build().map_err(built)?,
     })
 }
 

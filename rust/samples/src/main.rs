@@ -13,7 +13,7 @@ use std::{env, fs};
 use compare::checker::Checker;
 use compare::reference::Original;
 use compare::words;
-use samples::{Images, LENT, SAMPLES, folder, images, printed, world};
+use samples::{Images, LENT, SAMPLES, folder, images, printed, types};
 
 fn main() -> ExitCode {
     let folders: Vec<String> = env::args().skip(1).collect();
@@ -44,7 +44,8 @@ fn stored(folder: &Path) -> Result<Images, String> {
 
 fn names_written() -> Result<(), String> {
     let path = folder().join("names.txt");
-    fs::write(&path, world()?.names()).map_err(|error| format!("{}: {error}", path.display()))
+    fs::write(&path, types()?.names().to_string())
+        .map_err(|error| format!("{}: {error}", path.display()))
 }
 
 fn written(sample: &str) -> Result<(), String> {

@@ -4,7 +4,7 @@
 use std::fs;
 
 use compare::reference::Original;
-use samples::{SAMPLES, folder, images, printed, text, world};
+use samples::{SAMPLES, folder, images, printed, text, types};
 
 #[test]
 fn the_bytes_are_made_from_the_descriptions() {
@@ -27,10 +27,33 @@ fn the_names_are_those_of_the_catalogue() {
     let stored = text("names.txt").unwrap();
     assert_eq!(
         stored,
-        world().unwrap().names(),
+        types().unwrap().names().to_string(),
         "run `cargo run -p samples`"
     );
     assert!(stored.contains("\n587 Rifter\n"));
+    assert!(stored.contains("\ngroup 60 Damage Control\n"));
+}
+
+/// Nothing of the samples goes unchecked, so that nobody is warned of them.
+#[test]
+fn the_catalogue_lacks_no_name_and_no_mark() {
+    assert_eq!(types().unwrap().catalogue().missing().to_string(), "");
+}
+
+/// Every group that a type of the samples is in has its name there.
+#[test]
+fn every_group_of_the_samples_has_a_name() {
+    let types = types().unwrap();
+    let mut groups = 0;
+    for line in text("types.txt").unwrap().lines() {
+        let words: Vec<&str> = line.split_whitespace().collect();
+        if let ["type", _, "group", group, ..] = words[..] {
+            let group = group.parse().unwrap();
+            assert!(types.names().group_name(group).is_some(), "group {group}");
+            groups += 1;
+        }
+    }
+    assert!(groups > 10, "{groups} types");
 }
 
 #[test]

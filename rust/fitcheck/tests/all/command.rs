@@ -1,13 +1,15 @@
 //! The command `fitcheck`, run as a user runs it.
 
 use std::fs;
-use std::path::{Path, PathBuf};
-use std::process::Command;
+use std::io::Write;
+use std::path::Path;
+use std::process::{Command, Output, Stdio};
 
 use fitcheck::{
-    Attribute, CatalogueBuilder, FitBuilder, FitItem, ItemResult, Refusal, Slot, State,
+    Attribute, CatalogueBuilder, FitBuilder, FitItem, ItemResult, Mark, Refusal, Slot, State,
 };
 
+use crate::folder;
 use crate::json::Value;
 
 /// What a run gave.
@@ -22,21 +24,29 @@ fn fitcheck(words: &[&str]) -> Ran {
         .args(words)
         .output()
         .unwrap();
+    ended(ran)
+}
+
+/// The same with bytes on standard input.
+fn piped(words: &[&str], bytes: &[u8]) -> Ran {
+    let mut child = Command::new(env!("CARGO_BIN_EXE_fitcheck"))
+        .args(words)
+        .stdin(Stdio::piped())
+        .stdout(Stdio::piped())
+        .stderr(Stdio::piped())
+        .spawn()
+        .unwrap();
+    // One that takes no more of it than it needs closes the pipe.
+    let _ = child.stdin.take().unwrap().write_all(bytes);
+    ended(child.wait_with_output().unwrap())
+}
+
+fn ended(ran: Output) -> Ran {
     Ran {
         status: ran.status.code().expect("it ends by itself"),
         out: String::from_utf8(ran.stdout).unwrap(),
         err: String::from_utf8(ran.stderr).unwrap(),
     }
-}
-
-/// A folder of a test's own, empty.
-fn folder(test: &str) -> PathBuf {
-    let folder = Path::new(env!("CARGO_TARGET_TMPDIR")).join(test);
-    if folder.exists() {
-        fs::remove_dir_all(&folder).unwrap();
-    }
-    fs::create_dir_all(&folder).unwrap();
-    folder
 }
 
 fn put(folder: &Path, name: &str, bytes: &[u8]) -> String {
@@ -45,21 +55,44 @@ fn put(folder: &Path, name: &str, bytes: &[u8]) -> String {
     path.to_str().unwrap().to_string()
 }
 
+/// A catalogue that lacks nothing: those names have these ids, others others.
+fn whole(names: &[(Attribute, i32)]) -> CatalogueBuilder {
+    let mut catalogue = CatalogueBuilder::new();
+    for (name, id) in names {
+        catalogue.name(*name, *id);
+    }
+    for name in catalogue.missing_names() {
+        catalogue.name(name, 100_000 + i32::from(name.number()));
+    }
+    for mark in &Mark::ALL[1..] {
+        catalogue.effect(mark.number().into(), *mark);
+    }
+    catalogue
+}
+
 /// A Rifter whose CPU is infinitely used, with two items in one slot, one of
 /// which wants a skill; the catalogue that it belongs to.
 fn faulted() -> (Vec<u8>, Vec<u8>) {
-    let catalogue = CatalogueBuilder::new()
-        .name(Attribute::CpuLoad, 49)
-        .name(Attribute::CpuOutput, 48)
-        .name(Attribute::RequiredSkill1, 182)
-        .name(Attribute::RequiredSkill1Level, 277)
+    let names = [
+        (Attribute::CpuLoad, 49),
+        (Attribute::CpuOutput, 48),
+        (Attribute::RequiredSkill1, 182),
+        (Attribute::RequiredSkill1Level, 277),
+        (Attribute::LowSlots, 12),
+    ];
+    let catalogue = whole(&names)
         .type_info(587, 25, 6, None)
         .type_info(2048, 60, 7, None)
         .build()
         .unwrap();
     let online = || ItemResult::new(State::Online);
     let fit = FitBuilder::new(587)
-        .ship(online().with(49, f64::INFINITY).with(48, 130.0))
+        .ship(
+            online()
+                .with(49, f64::INFINITY)
+                .with(48, 130.0)
+                .with(12, 4.0),
+        )
         .item(FitItem::new(2048, Slot::Low(1)), online())
         .item(
             FitItem::new(2048, Slot::Low(1)),
@@ -79,7 +112,11 @@ fn help_and_version() {
         assert!(ran.err.is_empty());
     }
     let ran = fitcheck(&["--version"]);
-    assert_eq!(ran.out, format!("fitcheck {}\n", env!("CARGO_PKG_VERSION")));
+    let (version, interface) = (env!("CARGO_PKG_VERSION"), fitcheck::interface());
+    assert_eq!(
+        ran.out,
+        format!("fitcheck {version}, library interface {interface}\n")
+    );
 }
 
 #[test]
@@ -112,6 +149,7 @@ fn files_that_cannot_be_read_are_named_and_have_status_1() {
     let nowhere = folder.join("nowhere").to_str().unwrap().to_string();
     let itself = folder.to_str().unwrap();
     let names = put(&folder, "names.txt", b"587 Rifter\nno id\n");
+    let types = put(&folder, "types.txt", b"name cpuLoad 49\n");
     let latin = put(&folder, "latin.txt", b"587 Rift\xE9r\n");
     for (words, about) in [
         (vec!["explain", &nowhere, &fit], nowhere.as_str()),
@@ -122,6 +160,8 @@ fn files_that_cannot_be_read_are_named_and_have_status_1() {
             &nowhere,
         ),
         (vec!["explain", &catalogue, &fit, "--names", &latin], &latin),
+        (vec!["pack", &nowhere, "--types", &types], &nowhere),
+        (vec!["pack", &fit, "--types", &nowhere], &nowhere),
         (vec!["hall", &catalogue, &nowhere], &nowhere),
         (vec!["hall", &catalogue, &fit], &fit),
         (vec!["hall", &nowhere, itself], &nowhere),
@@ -156,17 +196,19 @@ fn document_01s_smallest_images() {
          type 0 is not a ship, structure or container, so nothing can be fitted to it\n\
          skills: none is lacking\n"
     );
-    assert!(ran.err.is_empty());
     assert_eq!(ran.status, 3);
 
     let ran = fitcheck(&["explain", "--json", &catalogue, &fit]);
-    assert_eq!(
-        ran.out,
-        "{\"status\":\"faulted\",\"entries\":[{\"target\":{\"type\":\"ship\"},\
+    let (begins, ends) = (
+        "{\"version\":1,\"status\":\"faulted\",\"unchecked\":[{\"rule\":\"resource\",\
+         \"what\":\"resources (CPU)\",\"names\":[\"cpuLoad\",\"cpuOutput\"],\"marks\":[]},",
+        "],\"entries\":[{\"target\":{\"type\":\"ship\"},\
          \"rule\":{\"type\":\"not_a_hull\"},\"sentence\":\"type 0 is not a ship, structure or \
          container, so nothing can be fitted to it\"}],\"skills\":[{\"result\":0,\"entries\":[]},\
-         {\"result\":1,\"entries\":[]}]}\n"
+         {\"result\":1,\"entries\":[]}]}\n",
     );
+    assert!(ran.out.starts_with(begins), "{}", ran.out);
+    assert!(ran.out.ends_with(ends), "{}", ran.out);
     assert_eq!(ran.status, 3);
 }
 
@@ -211,8 +253,7 @@ fn a_faulted_fit_in_sentences_with_names() {
         ran.out,
         "faulted: 3 entries\n  \
          CPU: inf of 130 used\n  \
-         \"Damage\\Control\" (item 0) shares Low slot 1 with \"Damage\\Control\" (item 1)\n  \
-         \"Damage\\Control\" (item 1) shares Low slot 1 with \"Damage\\Control\" (item 0)\n\
+         Low slot 1 is shared by \"Damage\\Control\" (items 0, 1)\n\
          skills: lacking for 1 of 4 results\n  \
          \"Damage\\Control\" (item 1) needs Hull Upgrades at level 4, and it is not trained\n"
     );
@@ -221,7 +262,12 @@ fn a_faulted_fit_in_sentences_with_names() {
     let ran = fitcheck(&["explain", &catalogue, &fit, "--json", "--names", &names]);
     assert_eq!(ran.status, 3);
     let value = Value::parse(&ran.out);
-    assert_eq!(value.names(), ["status", "entries", "skills"]);
+    assert_eq!(
+        value.names(),
+        ["version", "status", "unchecked", "entries", "skills"]
+    );
+    assert_eq!(value.get("version").number(), 1.0);
+    assert!(value.get("unchecked").list().is_empty());
     assert_eq!(value.get("status").text(), "faulted");
     let entries = value.get("entries").list();
     assert_eq!(entries.len(), 3);
@@ -250,13 +296,13 @@ fn a_faulted_fit_in_sentences_with_names() {
 /// Document 01: over 512 distinct wanted skills is refusal 9 of that result.
 #[test]
 fn a_refused_walk_is_said_beside_the_list() {
-    let mut catalogue = CatalogueBuilder::new();
-    catalogue
-        .name(Attribute::RequiredSkill1, 182)
-        .name(Attribute::RequiredSkill1Level, 277)
-        .type_info(587, 25, 6, None);
+    let mut catalogue = whole(&[
+        (Attribute::RequiredSkill1, 182),
+        (Attribute::RequiredSkill1Level, 277),
+    ]);
+    catalogue.type_info(587, 25, 6, None);
     for skill in 1..513 {
-        catalogue.base(skill, 182, (skill + 1) as f32);
+        catalogue.base(skill, 182, f64::from(skill + 1));
     }
     let fit = FitBuilder::new(587)
         .character(ItemResult::default().with(182, 1.0))
@@ -299,6 +345,7 @@ fn refused_images_are_named_and_have_status_1() {
         let ran = fitcheck(&[words[0], words[1], words[2], "--json"]);
         assert_eq!((ran.status, ran.err.as_str()), (1, said.as_str()));
         let value = Value::parse(&ran.out);
+        assert_eq!(value.names(), ["version", "status", "refusal"]);
         assert_eq!(value.get("status").text(), "refused");
         let given = value.get("refusal");
         assert_eq!(given.get("number").number(), f64::from(number));
@@ -345,8 +392,19 @@ fn a_hall_of_more_than_64_fits() {
     let value = Value::parse(&ran.out);
     assert_eq!(
         value.names(),
-        ["status", "clear", "faulted", "refused", "fits"]
+        [
+            "version",
+            "status",
+            "unchecked",
+            "fits",
+            "clear",
+            "faulted",
+            "refused",
+            "unread"
+        ]
     );
+    assert_eq!(value.get("status").text(), "counted");
+    assert_eq!(value.get("unread").number(), 0.0);
     assert_eq!(value.get("clear").number(), 70.0);
     assert_eq!(value.get("faulted").number(), 2.0);
     assert_eq!(value.get("refused").number(), 1.0);
@@ -369,4 +427,144 @@ fn an_empty_hall_is_counted() {
         (ran.status, ran.out.as_str()),
         (0, "0 clear, 0 faulted, 0 refused\n")
     );
+    let fits = folder.join("fits");
+    let ran = fitcheck(&["hall", &catalogue, fits.to_str().unwrap(), "--json"]);
+    let value = Value::parse(&ran.out);
+    assert!(value.get("fits").list().is_empty());
+    assert_eq!(value.get("clear").number(), 0.0);
+}
+
+/// A file that cannot be read is said, the others are counted, and the status
+/// tells that not all were.
+#[test]
+fn one_bad_file_does_not_stop_the_hall() {
+    let folder = folder("bad-file");
+    let (types, faulted) = faulted();
+    let catalogue = put(&folder, "types.bin", &types);
+    let hall = folder.join("fits");
+    fs::create_dir(&hall).unwrap();
+    put(&hall, "a.fit", &faulted);
+    std::os::unix::fs::symlink("nowhere", hall.join("b.fit")).unwrap();
+    put(&hall, "c.fit", &FitBuilder::new(587).build().unwrap());
+    let hall = hall.to_str().unwrap();
+
+    let ran = fitcheck(&["hall", &catalogue, hall]);
+    assert_eq!(ran.status, 1);
+    let lines: Vec<&str> = ran.out.lines().collect();
+    assert_eq!(lines.len(), 4, "{}", ran.out);
+    assert_eq!(lines[0], "a.fit: faulted, 3 entries");
+    assert!(lines[1].starts_with("b.fit: cannot be read: No such file"));
+    assert_eq!(lines[2], "c.fit: clear");
+    assert_eq!(lines[3], "1 clear, 1 faulted, 0 refused, 1 not read");
+
+    let ran = fitcheck(&["hall", &catalogue, hall, "--json"]);
+    assert_eq!(ran.status, 1);
+    let value = Value::parse(&ran.out);
+    let bad = &value.get("fits").list()[1];
+    assert_eq!(bad.names(), ["file", "status", "reason"]);
+    assert_eq!(bad.get("status").text(), "unread");
+    assert_eq!(value.get("unread").number(), 1.0);
+    assert_eq!(value.get("clear").number(), 1.0);
+}
+
+/// More fits than memory is allowed for: they are read as it goes.
+#[test]
+fn a_hall_holds_few_fits_at_a_time() {
+    let folder = folder("long-hall");
+    let (types, _) = faulted();
+    let catalogue = put(&folder, "types.bin", &types);
+    let hall = folder.join("fits");
+    fs::create_dir(&hall).unwrap();
+    // The longest fit there is, by hard links.
+    let mut fit = FitBuilder::new(587);
+    let values = (0..30_000).map(|id| (200_000 + id, 0.0)).collect();
+    fit.ship(ItemResult {
+        attributes: values,
+        ..ItemResult::default()
+    });
+    let first = put(&hall, "0000.fit", &fit.build().unwrap());
+    for number in 1..1_000 {
+        fs::hard_link(&first, hall.join(format!("{number:04}.fit"))).unwrap();
+    }
+    // 1,000 of them have 360 MB; the limit is on all that the process maps.
+    let ran = Command::new("sh")
+        .args(["-c", "ulimit -v 200000 && exec \"$0\" \"$@\""])
+        .args([env!("CARGO_BIN_EXE_fitcheck"), "hall", &catalogue])
+        .arg(&hall)
+        .output()
+        .unwrap();
+    let ran = ended(ran);
+    assert!(
+        ran.out.ends_with("1000 clear, 0 faulted, 0 refused\n"),
+        "{}",
+        ran.err
+    );
+}
+
+#[test]
+fn a_fit_may_come_by_standard_input() {
+    let folder = folder("piped");
+    let (types, fit) = faulted();
+    let catalogue = put(&folder, "types.bin", &types);
+    let path = put(&folder, "rifter.fit", &fit);
+    let from_file = fitcheck(&["explain", &catalogue, &path]);
+    let ran = piped(&["explain", &catalogue, "-"], &fit);
+    assert_eq!((ran.status, ran.out), (3, from_file.out.clone()));
+    let ran = piped(&["explain", "-", &path], &types);
+    assert_eq!((ran.status, ran.out), (3, from_file.out));
+
+    let ran = piped(&["explain", &catalogue, "-"], &fit[..50]);
+    assert_eq!(ran.status, 1);
+    let said = format!(
+        "fitcheck: standard input: refused by 4: {}\n",
+        Refusal::FitLength
+    );
+    assert_eq!(ran.err, said);
+    let ran = piped(&["explain", "-", "-"], &fit);
+    assert_eq!(ran.status, 2);
+}
+
+/// A catalogue without names leaves nearly every fit clear; both commands say
+/// which rules fall away, in JSON too.
+#[test]
+fn what_a_catalogue_lacks_is_said_aloud() {
+    let folder = folder("lacking");
+    let (_, fit) = faulted();
+    let fit = put(&folder, "rifter.fit", &fit);
+    let bare = CatalogueBuilder::new()
+        .type_info(587, 25, 6, None)
+        .type_info(2048, 60, 7, None)
+        .build()
+        .unwrap();
+    let bare = put(&folder, "bare.bin", &bare);
+    let warning = format!(
+        "fitcheck: {bare}: warning: the catalogue has no id for 88 of 88 attribute names and no \
+         effect for 8 of 8 slot marks, so these are not checked: resources; slots of the ship; "
+    );
+    let ran = fitcheck(&["explain", &bare, &fit]);
+    assert!(ran.err.starts_with(&warning), "{}", ran.err);
+    assert!(ran.err.ends_with("; required skills\n"), "{}", ran.err);
+    assert_eq!(ran.err.lines().count(), 1);
+    let hall = folder.join("fits");
+    fs::create_dir(&hall).unwrap();
+    let hall = hall.to_str().unwrap();
+    let ran = fitcheck(&["hall", &bare, hall]);
+    assert!(ran.err.starts_with(&warning), "{}", ran.err);
+    for words in [
+        ["explain", &bare, &fit, "--json"],
+        ["hall", &bare, hall, "--json"],
+    ] {
+        let ran = fitcheck(&words);
+        assert!(ran.err.starts_with(&warning), "{}", ran.err);
+        let value = Value::parse(&ran.out);
+        let unchecked = value.get("unchecked").list();
+        assert_eq!(unchecked[0].names(), ["rule", "what", "names", "marks"]);
+        assert_eq!(unchecked[0].get("rule").text(), "resource");
+        assert_eq!(unchecked[0].get("names").list().len(), 2);
+        assert!(unchecked.len() > 30, "{}", unchecked.len());
+    }
+    // One that lacks nothing is warned of by nobody.
+    let whole = put(&folder, "whole.bin", &whole(&[]).build().unwrap());
+    assert!(fitcheck(&["hall", &whole, hall]).err.is_empty());
+    assert!(fitcheck(&["explain", &whole, &fit]).err.is_empty());
 }

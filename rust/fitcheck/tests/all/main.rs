@@ -1,15 +1,30 @@
-//! The crate against document 01 and against the original, by running.
+//! The crate and its command by running them, and what is declared in more
+//! than one place. (What is held against the original stands in `rust/site`.)
 
 #![forbid(unsafe_code)]
 
-mod buffers;
-mod builders;
 mod command;
-mod common;
-mod entries;
-mod hall;
+mod declared;
+mod dependency;
 mod json;
-mod original;
+#[path = "../../library.rs"]
+#[allow(dead_code)]
+mod library;
+mod missing;
 mod page;
 mod sentences;
-mod threads;
+mod stale;
+mod text;
+
+use std::fs;
+use std::path::{Path, PathBuf};
+
+/// A folder of a test's own, empty.
+fn folder(test: &str) -> PathBuf {
+    let folder = Path::new(env!("CARGO_TARGET_TMPDIR")).join(test);
+    if folder.exists() {
+        fs::remove_dir_all(&folder).unwrap();
+    }
+    fs::create_dir_all(&folder).unwrap();
+    folder
+}

@@ -1,8 +1,8 @@
 //! Every rule's sentence, of entries that a call really gave.
 
 use fitcheck::{
-    Attribute, CatalogueBuilder, Explainer, FitBuilder, FitItem, ItemResult, Mark, Names, Slot,
-    State,
+    Attribute, CatalogueBuilder, Explainer, FitBuilder, FitItem, ItemResult, ListOptions, Mark,
+    Names, SkillOptions, Slot, State,
 };
 
 const NAMES: &str = "\
@@ -62,7 +62,7 @@ fn said(catalogue: &CatalogueBuilder, fit: &FitBuilder) -> Vec<String> {
     let (catalogue, fit) = (catalogue.build().unwrap(), fit.build().unwrap());
     let names = Names::parse(NAMES).unwrap();
     let explainer = Explainer::new(&fit, &names);
-    let entries = fitcheck::list(&catalogue, &fit).unwrap();
+    let entries = fitcheck::list(&catalogue, &fit, &ListOptions::new()).unwrap();
     let sentences = entries.iter().map(|entry| explainer.explain(entry));
     sentences.collect()
 }
@@ -320,7 +320,7 @@ fn skills_that_are_lacking() {
     let names = Names::parse(NAMES).unwrap();
     let explainer = Explainer::new(&fit, &names);
     let said = |result: u32| {
-        let entries = fitcheck::skills(&catalogue, &fit, result).unwrap();
+        let entries = fitcheck::skills(&catalogue, &fit, result, &SkillOptions::new()).unwrap();
         assert_eq!(entries.len(), 1);
         explainer.explain_skill(result, &entries[0])
     };
@@ -340,9 +340,93 @@ fn skills_that_are_lacking() {
         said(3),
         "item 1 needs Minmatar Frigate at level 5, and it is trained to level 2"
     );
-    let entries = fitcheck::skills(&catalogue, &fit, 0).unwrap();
+    let entries = fitcheck::skills(&catalogue, &fit, 0, &SkillOptions::new()).unwrap();
     assert_eq!(
         explainer.explain(&entries[0]),
         "the fit needs Minmatar Frigate at level 3, and it is trained to level 2"
+    );
+}
+
+/// Of items of one type about which the same is said all stand in one
+/// sentence; a slot that is shared stands once; nothing else is lost.
+#[test]
+fn what_repeats_is_said_once() {
+    let (limit, restricted) = (
+        id(Attribute::MaxGroupFitted),
+        id(Attribute::CanFitShipType1),
+    );
+    let mut fit = FitBuilder::new(587);
+    fit.ship(roomy())
+        .item(
+            FitItem::new(2048, Slot::Low(0)),
+            result().with(limit, 1.0).with(restricted, 1.0),
+        )
+        .item(
+            FitItem::new(2048, Slot::Low(0)),
+            result().with(limit, 1.0).with(restricted, 1.0),
+        )
+        .item(FitItem::new(2048, Slot::Low(2)), result().with(limit, 2.0))
+        .item(
+            FitItem::new(484, Slot::High(1)),
+            result().with(restricted, 1.0),
+        )
+        .item(FitItem::new(99, Slot::High(1)), result());
+    let (catalogue, fit) = (catalogue().build().unwrap(), fit.build().unwrap());
+    let entries = fitcheck::list(&catalogue, &fit, &ListOptions::new()).unwrap();
+    let names = Names::parse(NAMES).unwrap();
+    assert_eq!(
+        Explainer::new(&fit, &names).explain_all(&entries),
+        [
+            "Low slot 0 is shared by Damage Control II (items 0, 1)",
+            "High slot 1 is shared by 125mm Gatling AutoCannon I (item 3) and item 4 (type 99)",
+            "item 4 (type 99) is in High slot 1 and is not a module",
+            "Damage Control II (items 0, 1) cannot be fitted to this ship, Rifter",
+            "125mm Gatling AutoCannon I (item 3) cannot be fitted to this ship, Rifter",
+            "3 of Damage Control (group 60) are fitted, and Damage Control II (items 0, 1) allows 1",
+            "3 of Damage Control (group 60) are fitted, and Damage Control II (item 2) allows 2",
+        ]
+    );
+    assert_eq!(
+        Explainer::new(&fit, &Names::new()).explain_all(&entries)[0],
+        "Low slot 0 is shared by type 2048 (items 0, 1)"
+    );
+    // Without the fit nobody knows of what type the items are.
+    let blind = Explainer::new(&[], &names).explain_all(&entries);
+    let together = "each of items 0, 1, 3 cannot be fitted to this ship";
+    assert!(blind.iter().any(|said| said == together), "{blind:?}");
+}
+
+#[test]
+fn skills_that_several_items_lack_are_said_once() {
+    let wanting = |level: f64| {
+        result()
+            .with(id(Attribute::RequiredSkill1), 3329.0)
+            .with(id(Attribute::RequiredSkill1Level), level)
+    };
+    let mut fit = FitBuilder::new(587);
+    fit.ship(wanting(3.0))
+        .character(wanting(3.0))
+        .item(FitItem::new(484, Slot::High(0)), wanting(3.0))
+        .item(FitItem::new(484, Slot::High(1)), wanting(4.0))
+        .item(FitItem::new(484, Slot::High(2)), wanting(3.0))
+        .item(FitItem::new(2048, Slot::Low(0)), wanting(3.0));
+    let (catalogue, fit) = (catalogue().build().unwrap(), fit.build().unwrap());
+    let mut lacking = Vec::new();
+    for result in 0..6 {
+        let skills = fitcheck::skills(&catalogue, &fit, result, &SkillOptions::new()).unwrap();
+        lacking.extend(skills.into_iter().map(|entry| (result, entry)));
+    }
+    let names = Names::parse(NAMES).unwrap();
+    let rest = "at level 3, and it is not trained";
+    assert_eq!(
+        Explainer::new(&fit, &names).explain_all_skills(&lacking),
+        [
+            &format!("Rifter (the ship) needs Minmatar Frigate {rest}"),
+            &format!("the character needs Minmatar Frigate {rest}"),
+            &format!("125mm Gatling AutoCannon I (items 0, 2) needs Minmatar Frigate {rest}"),
+            "125mm Gatling AutoCannon I (item 1) needs Minmatar Frigate at level 4, and it is not \
+             trained",
+            &format!("Damage Control II (item 3) needs Minmatar Frigate {rest}"),
+        ]
     );
 }

@@ -3,9 +3,12 @@
 use std::ffi::OsString;
 use std::path::PathBuf;
 
+use crate::files::Source;
+
 pub const USAGE: &str = "\
 Usage: fitcheck explain CATALOGUE FIT [--names FILE] [--json]
        fitcheck hall CATALOGUE FOLDER [--json]
+       fitcheck pack FIT.txt [--types FILE] [--out FOLDER]
        fitcheck --help | --version";
 
 pub const HELP: &str = "\
@@ -13,29 +16,36 @@ Says which fitting rules of EVE Online a fit breaks.
 
 Usage: fitcheck explain CATALOGUE FIT [--names FILE] [--json]
        fitcheck hall CATALOGUE FOLDER [--json]
+       fitcheck pack FIT.txt [--types FILE] [--out FOLDER]
        fitcheck --help | --version
 
 explain  One fit: every rule that it breaks, in a sentence each, and the skills
          that the ship, the character and each item want and the character
-         lacks.
+         lacks. What repeats is said once.
 hall     Every file of a folder, in the order of the names' bytes: clear,
          faulted with the number of entries, or refused with the reason; then
-         the three numbers. Folders in it, and names that begin with a dot, are
-         passed over.
+         the three numbers. A file that cannot be read is said and passed over,
+         as are folders in it and names that begin with a dot.
+pack     A fit in words, as docs/CALLING.md describes them, made into the
+         images FIT.bin and types.bin, with names.txt beside them.
 
-CATALOGUE and FIT are the images of document 01.
+CATALOGUE and FIT are images; one of them may be -, standard input. A catalogue
+that lacks names or effects leaves rules unchecked: which, a warning says.
 
 --names FILE  What types and groups are called: a line `2048 Damage Control II`
               for a type, `group 60 Damage Control` for a group; empty lines
               and lines that begin with # are passed over.
+--types FILE  The catalogue in words; else types.txt beside FIT.txt or one
+              folder above it.
+--out FOLDER  Where the images go; else beside FIT.txt.
 --json        One JSON object on a line, for other programs. Numbers that JSON
               does not have are the strings \"NaN\", \"Infinity\" and
               \"-Infinity\".
 --            Everything behind it is a path.
 
 Status: 0  explain: the fit is clear (skills may be lacking);
-           hall: counted, whatever the numbers
-        1  refused, or a file cannot be read
+           hall: all files counted, whatever the numbers; pack: written
+        1  refused, or a file cannot be read or written
         2  wrong usage
         3  explain: the fit is faulted
 ";
@@ -46,87 +56,164 @@ pub enum Command {
     Version,
     Explain(Explain),
     Hall(Hall),
+    Pack(Pack),
 }
 
 #[derive(Debug, PartialEq)]
 pub struct Explain {
-    pub catalogue: PathBuf,
-    pub fit: PathBuf,
+    pub catalogue: Source,
+    pub fit: Source,
     pub names: Option<PathBuf>,
     pub json: bool,
 }
 
 #[derive(Debug, PartialEq)]
 pub struct Hall {
-    pub catalogue: PathBuf,
+    pub catalogue: Source,
     pub folder: PathBuf,
     pub json: bool,
 }
 
-/// What is asked, or what is wrong with how it is asked.
-pub fn parse(line: impl IntoIterator<Item = OsString>) -> Result<Command, String> {
-    let mut words = line.into_iter();
-    let mut paths = Vec::new();
-    let mut names = None;
-    let mut json = false;
-    let mut options = true;
-    while let Some(word) = words.next() {
-        let text = word.to_str().filter(|_| options).unwrap_or("");
-        match text {
-            "--help" | "-h" => return Ok(Command::Help),
-            "--version" | "-V" => return Ok(Command::Version),
-            "--json" => json = true,
-            "--names" => {
-                let file = words.next().ok_or("--names wants a file")?;
-                once(&mut names, file)?;
-            }
-            "--" => options = false,
-            _ => match text.strip_prefix("--names=") {
-                Some("") => return Err("--names wants a file".to_string()),
-                Some(file) => once(&mut names, file.into())?,
-                None if text.len() > 1 && text.starts_with('-') => {
-                    return Err(format!("there is no option {text}"));
+#[derive(Debug, PartialEq)]
+pub struct Pack {
+    pub fit: PathBuf,
+    pub types: Option<PathBuf>,
+    pub out: Option<PathBuf>,
+}
+
+/// The words of a command line, sorted out.
+#[derive(Default)]
+struct Words {
+    /// What stands for itself, and whether it stands behind `--`.
+    plain: Vec<(OsString, bool)>,
+    /// Options that have a value.
+    values: Vec<(&'static str, OsString)>,
+    json: bool,
+    help: bool,
+    version: bool,
+}
+
+/// Options that have a value, and what it is.
+const VALUED: [(&str, &str); 3] = [
+    ("--names", "file"),
+    ("--types", "file"),
+    ("--out", "folder"),
+];
+
+impl Words {
+    fn sorted(line: impl IntoIterator<Item = OsString>) -> Result<Words, String> {
+        let mut words = Words::default();
+        let mut line = line.into_iter();
+        let mut is_path = false;
+        while let Some(word) = line.next() {
+            match word.to_str().filter(|_| !is_path).unwrap_or("") {
+                "--help" | "-h" => words.help = true,
+                "--version" | "-V" => words.version = true,
+                "--json" => words.json = true,
+                "--" => is_path = true,
+                text if text.len() > 1 && text.starts_with('-') => {
+                    let (name, value) = match text.split_once('=') {
+                        Some((name, value)) => (name, Some(value.into())),
+                        None => (text, None),
+                    };
+                    words.valued(name, value, &mut line)?;
                 }
-                None => paths.push(word),
-            },
+                _ => words.plain.push((word, is_path)),
+            }
         }
+        Ok(words)
     }
 
-    let mut paths = paths.into_iter();
-    let Some(command) = paths.next() else {
-        return Err("nothing is asked".to_string());
-    };
-    let mut path = |what: &str| {
-        let path = paths.next().filter(|path| !path.is_empty());
-        path.map(PathBuf::from)
-            .ok_or_else(|| format!("{} wants a {what}", command.display()))
-    };
-    let asked = match command.to_str() {
-        Some("help") => return Ok(Command::Help),
-        Some("explain") => Command::Explain(Explain {
-            catalogue: path("CATALOGUE")?,
-            fit: path("FIT")?,
-            names: names.map(PathBuf::from),
-            json,
-        }),
-        Some("hall") if names.is_some() => return Err("hall takes no --names".to_string()),
-        Some("hall") => Command::Hall(Hall {
-            catalogue: path("CATALOGUE")?,
-            folder: path("FOLDER")?,
-            json,
-        }),
-        _ => return Err(format!("there is no command {}", command.display())),
-    };
-    match paths.next() {
-        Some(more) => Err(format!("{} is one word too many", more.display())),
-        None => Ok(asked),
+    /// Takes an option that has a value: behind `=`, or else the next word.
+    fn valued(
+        &mut self,
+        name: &str,
+        value: Option<OsString>,
+        line: &mut impl Iterator<Item = OsString>,
+    ) -> Result<(), String> {
+        let known = VALUED.iter().find(|known| known.0 == name);
+        let Some((name, what)) = known else {
+            return Err(format!("there is no option {name}"));
+        };
+        if self.values.iter().any(|value| value.0 == *name) {
+            return Err(format!("{name} stands twice"));
+        }
+        let value = value.or_else(|| line.next()).filter(|it| !it.is_empty());
+        let value = value.ok_or_else(|| format!("{name} wants a {what}"))?;
+        self.values.push((name, value));
+        Ok(())
+    }
+
+    /// The value of an option, taken out.
+    fn value(&mut self, name: &str) -> Option<PathBuf> {
+        let at = self.values.iter().position(|value| value.0 == name)?;
+        Some(self.values.remove(at).1.into())
     }
 }
 
-fn once(names: &mut Option<OsString>, file: OsString) -> Result<(), String> {
-    match names.replace(file) {
-        Some(_) => Err("--names stands twice".to_string()),
-        None => Ok(()),
+/// What is asked, or what is wrong with how it is asked.
+pub fn parse(line: impl IntoIterator<Item = OsString>) -> Result<Command, String> {
+    let mut words = Words::sorted(line)?;
+    if words.help {
+        return Ok(Command::Help);
+    }
+    if words.version {
+        return Ok(Command::Version);
+    }
+    let mut plain = std::mem::take(&mut words.plain).into_iter();
+    let Some((command, _)) = plain.next() else {
+        return Err("nothing is asked".to_string());
+    };
+    let shown = command.display();
+    let mut next = |what: &str| {
+        let word = plain.next().filter(|word| !word.0.is_empty());
+        word.ok_or_else(|| format!("{shown} wants a {what}"))
+    };
+    let asked = match command.to_str() {
+        Some("help") => return Ok(Command::Help),
+        Some("explain") => explain(&mut words, &mut next)?,
+        Some("hall") => Command::Hall(Hall {
+            catalogue: source(next("CATALOGUE")?),
+            folder: next("FOLDER")?.0.into(),
+            json: std::mem::take(&mut words.json),
+        }),
+        Some("pack") => Command::Pack(Pack {
+            fit: next("FIT.txt")?.0.into(),
+            types: words.value("--types"),
+            out: words.value("--out"),
+        }),
+        _ => return Err(format!("there is no command {shown}")),
+    };
+    let unused = words.values.first().map(|value| value.0);
+    match (unused.or(words.json.then_some("--json")), plain.next()) {
+        (Some(option), _) => Err(format!("{shown} takes no {option}")),
+        (None, Some((more, _))) => Err(format!("{} is one word too many", more.display())),
+        (None, None) => Ok(asked),
+    }
+}
+
+/// Two images, of which one at most is standard input.
+fn explain(
+    words: &mut Words,
+    next: &mut impl FnMut(&str) -> Result<(OsString, bool), String>,
+) -> Result<Command, String> {
+    let (catalogue, fit) = (source(next("CATALOGUE")?), source(next("FIT")?));
+    if (&catalogue, &fit) == (&Source::StandardInput, &Source::StandardInput) {
+        return Err("standard input is one image, not both".to_string());
+    }
+    Ok(Command::Explain(Explain {
+        catalogue,
+        fit,
+        names: words.value("--names"),
+        json: std::mem::take(&mut words.json),
+    }))
+}
+
+/// A path, or `-` for standard input where it does not stand behind `--`.
+fn source((word, is_path): (OsString, bool)) -> Source {
+    match word == "-" && !is_path {
+        true => Source::StandardInput,
+        false => Source::File(word.into()),
     }
 }
 
@@ -138,11 +225,15 @@ mod tests {
         parse(line.split_whitespace().map(OsString::from))
     }
 
+    fn file(path: &str) -> Source {
+        Source::File(path.into())
+    }
+
     #[test]
     fn options_may_stand_anywhere() {
         let expected = Command::Explain(Explain {
-            catalogue: "c".into(),
-            fit: "f".into(),
+            catalogue: file("c"),
+            fit: file("f"),
             names: Some("n".into()),
             json: true,
         });
@@ -154,11 +245,32 @@ mod tests {
             assert_eq!(parsed(line).as_ref(), Ok(&expected), "{line}");
         }
         let dashed = Command::Hall(Hall {
-            catalogue: "-".into(),
+            catalogue: file("-"),
             folder: "--json".into(),
             json: false,
         });
         assert_eq!(parsed("hall -- - --json"), Ok(dashed));
+        let packed = Command::Pack(Pack {
+            fit: "f.txt".into(),
+            types: Some("t".into()),
+            out: Some("o".into()),
+        });
+        assert_eq!(parsed("pack --out o f.txt --types=t"), Ok(packed));
+    }
+
+    #[test]
+    fn a_dash_is_standard_input() {
+        let piped = Command::Explain(Explain {
+            catalogue: file("c"),
+            fit: Source::StandardInput,
+            names: None,
+            json: false,
+        });
+        assert_eq!(parsed("explain c -"), Ok(piped));
+        assert_eq!(
+            parsed("explain - -"),
+            Err("standard input is one image, not both".to_string())
+        );
     }
 
     #[test]
@@ -173,6 +285,10 @@ mod tests {
             ("explain c f --names=", "--names wants a file"),
             ("explain c f --names a --names b", "--names stands twice"),
             ("hall c f --names a", "hall takes no --names"),
+            ("pack f --json", "pack takes no --json"),
+            ("explain c f --types t", "explain takes no --types"),
+            ("pack", "pack wants a FIT.txt"),
+            ("pack f --out=", "--out wants a folder"),
             ("explain c f --jsn", "there is no option --jsn"),
             ("explian c f", "there is no command explian"),
         ] {

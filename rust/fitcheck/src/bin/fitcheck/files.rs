@@ -1,29 +1,54 @@
-//! Images and names from files.
+//! Images and names from files and from standard input.
 
 use std::ffi::{OsStr, OsString};
+use std::fmt;
 use std::fs::{self, File};
-use std::io::Read;
-use std::path::Path;
+use std::io::{self, Read};
+use std::path::{Path, PathBuf};
 
 use fitcheck::{CATALOGUE_BYTES, FIT_BYTES, Names};
 
+/// Where an image is read from.
+#[derive(Debug, Clone, PartialEq)]
+pub enum Source {
+    File(PathBuf),
+    StandardInput,
+}
+
+impl fmt::Display for Source {
+    fn fmt(&self, formatter: &mut fmt::Formatter<'_>) -> fmt::Result {
+        match self {
+            Source::File(path) => formatter.write_str(&shown(path.as_os_str())),
+            Source::StandardInput => formatter.write_str("standard input"),
+        }
+    }
+}
+
 /// A catalogue's bytes. Of one that is too long, as many as show it.
-pub fn catalogue(path: &Path) -> Result<Vec<u8>, String> {
-    at_most(path, CATALOGUE_BYTES)
+pub fn catalogue(source: &Source) -> Result<Vec<u8>, String> {
+    at_most(source, CATALOGUE_BYTES).map_err(|error| format!("{source}: {error}"))
 }
 
 /// A fit's bytes. Of one that is too long, as many as show it.
-pub fn fit(path: &Path) -> Result<Vec<u8>, String> {
-    at_most(path, FIT_BYTES)
+pub fn fit(source: &Source) -> Result<Vec<u8>, String> {
+    at_most(source, FIT_BYTES).map_err(|error| format!("{source}: {error}"))
 }
 
-/// The file, or one byte more than the longest image: that is refused for its
-/// length whatever would follow.
-fn at_most(path: &Path, longest: usize) -> Result<Vec<u8>, String> {
+/// The same of a file in a folder, whose name is said elsewhere.
+pub fn image(path: &Path) -> Result<Vec<u8>, String> {
+    let source = Source::File(path.to_path_buf());
+    at_most(&source, FIT_BYTES).map_err(|error| error.to_string())
+}
+
+/// What is there, or one byte more than the longest image: that is refused for
+/// its length whatever would follow.
+fn at_most(source: &Source, longest: usize) -> io::Result<Vec<u8>> {
     let mut bytes = Vec::new();
-    File::open(path)
-        .and_then(|file| file.take(longest as u64 + 1).read_to_end(&mut bytes))
-        .map_err(|error| about(path, &error))?;
+    let most = longest as u64 + 1;
+    match source {
+        Source::File(path) => File::open(path)?.take(most).read_to_end(&mut bytes)?,
+        Source::StandardInput => io::stdin().lock().take(most).read_to_end(&mut bytes)?,
+    };
     Ok(bytes)
 }
 
@@ -32,33 +57,34 @@ pub fn names(path: Option<&Path>) -> Result<Names, String> {
     let Some(path) = path else {
         return Ok(Names::default());
     };
-    let text = fs::read_to_string(path).map_err(|error| about(path, &error))?;
-    Names::parse(&text).map_err(|error| about(path, &error))
+    Names::parse(&text(path)?).map_err(|error| about(path, &error))
 }
 
-/// A folder's fits with the names of their files, in the order of the names.
-pub fn fits(folder: &Path) -> Result<Vec<(OsString, Vec<u8>)>, String> {
+/// The text of a file.
+pub fn text(path: &Path) -> Result<String, String> {
+    fs::read_to_string(path).map_err(|error| about(path, &error))
+}
+
+/// A folder's fits by the names of their files, in the order of the names.
+/// Folders and names that begin with a dot are passed over; what a file that
+/// cannot be looked at is, its reading will say.
+pub fn fits(folder: &Path) -> Result<Vec<(OsString, PathBuf)>, String> {
     let mut files = Vec::new();
     for entry in fs::read_dir(folder).map_err(|error| about(folder, &error))? {
         let entry = entry.map_err(|error| about(folder, &error))?;
         let name = entry.file_name();
-        if name.as_encoded_bytes().starts_with(b".") {
-            continue;
-        }
         let path = entry.path();
-        let kind = fs::metadata(&path).map_err(|error| about(&path, &error))?;
-        if kind.is_file() {
+        let is_other = fs::metadata(&path).is_ok_and(|kind| !kind.is_file());
+        if !name.as_encoded_bytes().starts_with(b".") && !is_other {
             files.push((name, path));
         }
     }
     files.sort();
-    files
-        .into_iter()
-        .map(|(name, path)| Ok((name, fit(&path)?)))
-        .collect()
+    Ok(files)
 }
 
-fn about(path: &Path, error: &dyn std::error::Error) -> String {
+/// What is wrong with a file.
+pub fn about(path: &Path, error: &dyn std::error::Error) -> String {
     format!("{}: {error}", shown(path.as_os_str()))
 }
 

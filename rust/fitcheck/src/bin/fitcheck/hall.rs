@@ -1,96 +1,160 @@
 //! `fitcheck hall`: a folder of fits, and how many are clear to fly.
 
-use std::ffi::OsString;
+use std::ffi::{OsStr, OsString};
+use std::io::Write;
+use std::path::PathBuf;
 
-use fitcheck::Verdict;
+use fitcheck::json::{self, Json};
+use fitcheck::{CatalogueImage, FITS_PER_CALL, Hall, Verdict};
 
-use crate::Report;
-use crate::args::Hall;
+use crate::args;
 use crate::files::{self, shown};
-use crate::json::{self, Json};
+use crate::{DONE, FAILED, Trouble, refused, warn};
 
-pub fn run(asked: &Hall) -> Result<Report, String> {
-    let catalogue = files::catalogue(&asked.catalogue)?;
-    let (names, fits): (Vec<_>, Vec<_>) = files::fits(&asked.folder)?.into_iter().unzip();
-
-    let refused = |refusal| Report::refused(&asked.catalogue, refusal, asked.json);
-    let numbers = match fitcheck::hall(&catalogue, &fits) {
-        Ok(numbers) => numbers,
-        Err(refusal) => return Ok(refused(refusal)),
-    };
-    let verdicts = match fitcheck::verdicts(&catalogue, &fits) {
-        Ok(verdicts) => verdicts,
-        Err(refusal) => return Ok(refused(refusal)),
-    };
-    // The numbers are the hall call's own, the lines are the list call's.
-    // Both are proved; whoever reads them side by side gets no two stories.
-    if counted(&verdicts) != numbers {
-        return Err(format!(
-            "the hall call gives {numbers:?}, the lists {:?}: the library is not the proved one",
-            counted(&verdicts)
-        ));
-    }
-
-    let text = match asked.json {
-        true => in_json(&names, &verdicts, numbers),
-        false => in_words(&names, &verdicts, numbers),
-    };
-    Ok(Report::done(text))
+/// What became of the files so far.
+#[derive(Default)]
+struct Sum {
+    hall: Hall,
+    unread: usize,
+    /// How many were said.
+    said: usize,
 }
 
-fn counted(verdicts: &[Verdict]) -> fitcheck::Hall {
-    let mut numbers = fitcheck::Hall::default();
+pub fn run(asked: &args::Hall, out: &mut impl Write) -> Result<u8, Trouble> {
+    let catalogue = files::catalogue(&asked.catalogue)?;
+    let fits = files::fits(&asked.folder)?;
+    if let Err(refusal) = fitcheck::hall(&catalogue, &[]) {
+        return refused(out, &asked.catalogue, refusal, asked.json);
+    }
+    warn(&asked.catalogue, &catalogue);
+
+    let mut sum = Sum::default();
+    if asked.json {
+        begin(&catalogue, out)?;
+    }
+    // No more fits are held at a time than one call takes.
+    for batch in fits.chunks(FITS_PER_CALL) {
+        counted(&catalogue, batch, asked.json, &mut sum, out)?;
+    }
+    match asked.json {
+        true => end(&sum, out)?,
+        false => writeln!(out, "{}", in_words(&sum))?,
+    }
+    Ok(if sum.unread == 0 { DONE } else { FAILED })
+}
+
+/// The object up to its first fit.
+fn begin(catalogue: &[u8], out: &mut impl Write) -> Result<(), Trouble> {
+    let missing = CatalogueImage::new(catalogue).map(|catalogue| catalogue.missing());
+    let unchecked = missing.unwrap_or_default().unchecked();
+    let mut fields = json::versioned("counted");
+    fields.push(("unchecked", json::unchecked(&unchecked)));
+    let object = Json::Object(fields).to_string();
+    let open = object.strip_suffix('}').unwrap_or(&object);
+    write!(out, "{open},\"fits\":[")?;
+    Ok(())
+}
+
+/// The object from its last fit on.
+fn end(sum: &Sum, out: &mut impl Write) -> Result<(), Trouble> {
+    let numbers = Json::Object(vec![
+        ("clear", Json::count(sum.hall.clear)),
+        ("faulted", Json::count(sum.hall.faulted)),
+        ("refused", Json::count(sum.hall.refused)),
+        ("unread", Json::count(sum.unread)),
+    ]);
+    let object = numbers.to_string();
+    let close = object.strip_prefix('{').unwrap_or(&object);
+    writeln!(out, "],{close}")?;
+    Ok(())
+}
+
+/// Reads some fits, says what became of each, and adds them up.
+fn counted(
+    catalogue: &[u8],
+    batch: &[(OsString, PathBuf)],
+    json: bool,
+    sum: &mut Sum,
+    out: &mut impl Write,
+) -> Result<(), Trouble> {
+    let read: Vec<Result<Vec<u8>, String>> = batch.iter().map(|fit| files::image(&fit.1)).collect();
+    let images: Vec<&[u8]> = read.iter().flatten().map(Vec::as_slice).collect();
+    let refused = |refusal| format!("the catalogue, taken before, is refused: {refusal}");
+    let numbers = fitcheck::hall(catalogue, &images).map_err(refused)?;
+    let verdicts = fitcheck::verdicts(catalogue, &images).map_err(refused)?;
+    // The numbers are the hall call's own, the lines are the list call's.
+    // Both are proved; whoever reads them side by side gets no two stories.
+    if added(&verdicts) != numbers {
+        return Err(Trouble::Given(format!(
+            "the hall call gives {numbers:?}, the lists {:?}: the library is not the proved one",
+            added(&verdicts)
+        )));
+    }
+
+    let mut verdicts = verdicts.iter();
+    for ((name, _), image) in batch.iter().zip(&read) {
+        let verdict = match image {
+            Ok(_) => Ok(verdicts.next().expect("each image has a verdict")),
+            Err(reason) => Err(reason.as_str()),
+        };
+        sum.unread += usize::from(verdict.is_err());
+        match json {
+            true if sum.said == 0 => write!(out, "{}", fit_json(name, verdict))?,
+            true => write!(out, ",{}", fit_json(name, verdict))?,
+            false => writeln!(out, "{}: {}", shown(name), fit_words(verdict))?,
+        }
+        sum.said += 1;
+    }
+    sum.hall += numbers;
+    Ok(())
+}
+
+fn added(verdicts: &[Verdict]) -> Hall {
+    let mut numbers = Hall::default();
     for verdict in verdicts {
         match verdict {
             Verdict::Clear => numbers.clear += 1,
             Verdict::Faulted { .. } => numbers.faulted += 1,
-            Verdict::Refused(_) => numbers.refused += 1,
+            _ => numbers.refused += 1,
         }
     }
     numbers
 }
 
-fn in_words(names: &[OsString], verdicts: &[Verdict], numbers: fitcheck::Hall) -> String {
-    let mut text = String::new();
-    for (name, verdict) in names.iter().zip(verdicts) {
-        let name = shown(name);
-        text += &match verdict {
-            Verdict::Clear => format!("{name}: clear\n"),
-            Verdict::Faulted { entries: 1 } => format!("{name}: faulted, 1 entry\n"),
-            Verdict::Faulted { entries } => format!("{name}: faulted, {entries} entries\n"),
-            Verdict::Refused(refusal) => {
-                format!("{name}: refused by {}: {refusal}\n", refusal.number())
-            }
-        };
+/// One fit in words: what became of it, or why it was not read.
+fn fit_words(verdict: Result<&Verdict, &str>) -> String {
+    match verdict {
+        Ok(Verdict::Clear) => "clear".to_string(),
+        Ok(Verdict::Faulted { entries: 1 }) => "faulted, 1 entry".to_string(),
+        Ok(Verdict::Faulted { entries }) => format!("faulted, {entries} entries"),
+        Ok(Verdict::Refused(refusal)) => format!("refused by {}: {refusal}", refusal.number()),
+        Ok(other) => format!("{other:?}"),
+        Err(reason) => format!("cannot be read: {reason}"),
     }
-    text + &format!(
-        "{} clear, {} faulted, {} refused\n",
-        numbers.clear, numbers.faulted, numbers.refused
-    )
 }
 
-fn in_json(names: &[OsString], verdicts: &[Verdict], numbers: fitcheck::Hall) -> String {
-    let fits = names.iter().zip(verdicts).map(|(name, verdict)| {
-        let mut fields = vec![("file", Json::text(name.to_string_lossy()))];
-        fields.extend(match verdict {
-            Verdict::Clear => vec![("status", Json::text("clear"))],
-            Verdict::Faulted { entries } => vec![
-                ("status", Json::text("faulted")),
-                ("entries", Json::count(*entries)),
-            ],
-            Verdict::Refused(refusal) => vec![
-                ("status", Json::text("refused")),
-                ("refusal", json::refusal(*refusal)),
-            ],
-        });
-        Json::Object(fields)
-    });
-    let object = Json::Object(vec![
-        ("status", Json::text("counted")),
-        ("clear", Json::count(numbers.clear)),
-        ("faulted", Json::count(numbers.faulted)),
-        ("refused", Json::count(numbers.refused)),
-        ("fits", Json::List(fits.collect())),
-    ]);
-    format!("{object}\n")
+/// The same in JSON.
+fn fit_json(name: &OsStr, verdict: Result<&Verdict, &str>) -> Json {
+    let file = name.to_string_lossy();
+    match verdict {
+        Ok(verdict) => json::verdict(&file, verdict),
+        Err(reason) => Json::Object(vec![
+            ("file", Json::text(file)),
+            ("status", Json::text("unread")),
+            ("reason", Json::text(reason)),
+        ]),
+    }
+}
+
+fn in_words(sum: &Sum) -> String {
+    let Hall {
+        clear,
+        faulted,
+        refused,
+    } = sum.hall;
+    let numbers = format!("{clear} clear, {faulted} faulted, {refused} refused");
+    match sum.unread {
+        0 => numbers,
+        unread => format!("{numbers}, {unread} not read"),
+    }
 }

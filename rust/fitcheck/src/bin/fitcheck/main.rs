@@ -7,25 +7,15 @@ mod args;
 mod explain;
 mod files;
 mod hall;
-mod json;
+mod pack;
 
 use std::io::{self, ErrorKind, Write};
-use std::path::Path;
 use std::process::ExitCode;
 
-use fitcheck::Refusal;
+use fitcheck::{CatalogueImage, Refusal, json};
 
 use args::Command;
-use json::Json;
-
-/// What a command says, and how it ends.
-struct Report {
-    /// For standard output.
-    text: String,
-    /// For standard error, where something is wrong.
-    complaint: Option<String>,
-    status: u8,
-}
+use files::Source;
 
 /// The statuses that `--help` lists.
 const DONE: u8 = 0;
@@ -33,65 +23,95 @@ const FAILED: u8 = 1;
 const WRONG_USAGE: u8 = 2;
 const FAULTED: u8 = 3;
 
-impl Report {
-    fn done(text: String) -> Report {
-        Report {
-            text,
-            complaint: None,
-            status: DONE,
-        }
-    }
+/// Why a command ends early.
+enum Trouble {
+    /// Something is wrong with what was given; the words for standard error.
+    Given(String),
+    /// Standard output cannot be written.
+    Output(io::Error),
+}
 
-    fn failed(complaint: String) -> Report {
-        Report {
-            text: String::new(),
-            complaint: Some(complaint),
-            status: FAILED,
-        }
+impl From<String> for Trouble {
+    fn from(words: String) -> Trouble {
+        Trouble::Given(words)
     }
+}
 
-    /// A catalogue or fit that is refused.
-    fn refused(path: &Path, refusal: Refusal, json: bool) -> Report {
-        let path = files::shown(path.as_os_str());
-        let number = refusal.number();
-        let mut report = Report::failed(format!("{path}: refused by {number}: {refusal}"));
-        if json {
-            let object = Json::Object(vec![
-                ("status", Json::text("refused")),
-                ("refusal", json::refusal(refusal)),
-            ]);
-            report.text = format!("{object}\n");
+impl From<io::Error> for Trouble {
+    fn from(error: io::Error) -> Trouble {
+        Trouble::Output(error)
+    }
+}
+
+/// Says something on standard error.
+fn complain(words: &str) {
+    // There is nowhere left to say that standard error is closed.
+    let _ = writeln!(io::stderr(), "fitcheck: {words}");
+}
+
+/// Says that an image is refused, in JSON too where that is asked for.
+fn refused(
+    out: &mut impl Write,
+    source: &Source,
+    refusal: Refusal,
+    json: bool,
+) -> Result<u8, Trouble> {
+    complain(&format!(
+        "{source}: refused by {}: {refusal}",
+        refusal.number()
+    ));
+    if json {
+        writeln!(out, "{}", json::refused(refusal))?;
+    }
+    Ok(FAILED)
+}
+
+/// Warns of what a catalogue leaves unchecked.
+fn warn(source: &Source, catalogue: &[u8]) {
+    let missing = CatalogueImage::new(catalogue).map(|catalogue| catalogue.missing());
+    if let Some(missing) = missing.filter(|missing| !missing.is_empty()) {
+        complain(&format!("{source}: warning: {missing}"));
+    }
+}
+
+fn run(out: &mut impl Write) -> Result<u8, Trouble> {
+    match args::parse(std::env::args_os().skip(1)) {
+        Ok(Command::Help) => {
+            out.write_all(args::HELP.as_bytes())?;
+            Ok(DONE)
         }
-        report
+        Ok(Command::Version) => {
+            let (version, interface) = (env!("CARGO_PKG_VERSION"), fitcheck::interface());
+            writeln!(out, "fitcheck {version}, library interface {interface}")?;
+            Ok(DONE)
+        }
+        Ok(Command::Explain(asked)) => explain::run(&asked, out),
+        Ok(Command::Hall(asked)) => hall::run(&asked, out),
+        Ok(Command::Pack(asked)) => pack::run(&asked, out),
+        Err(wrong) => {
+            complain(&format!("{wrong}\n\n{}", args::USAGE));
+            Ok(WRONG_USAGE)
+        }
     }
 }
 
 fn main() -> ExitCode {
-    let report = match args::parse(std::env::args_os().skip(1)) {
-        Ok(Command::Help) => Report::done(args::HELP.to_string()),
-        Ok(Command::Version) => Report::done(format!("fitcheck {}\n", env!("CARGO_PKG_VERSION"))),
-        Ok(Command::Explain(asked)) => explain::run(&asked).unwrap_or_else(Report::failed),
-        Ok(Command::Hall(asked)) => hall::run(&asked).unwrap_or_else(Report::failed),
-        Err(wrong) => Report {
-            text: String::new(),
-            complaint: Some(format!("{wrong}\n\n{}", args::USAGE)),
-            status: WRONG_USAGE,
-        },
-    };
-    if let Some(complaint) = &report.complaint {
-        // There is nowhere left to say that standard error is closed.
-        let _ = writeln!(io::stderr(), "fitcheck: {complaint}");
-    }
-    let mut out = io::stdout().lock();
-    match out
-        .write_all(report.text.as_bytes())
-        .and_then(|()| out.flush())
-    {
-        Ok(()) => ExitCode::from(report.status),
+    let mut out = io::BufWriter::new(io::stdout().lock());
+    let ended = run(&mut out);
+    let flushed = out.flush();
+    match (ended, flushed) {
+        (Err(Trouble::Given(words)), _) => {
+            complain(&words);
+            ExitCode::from(FAILED)
+        }
+        (Ok(status), Ok(())) => ExitCode::from(status),
         // Whoever reads the output has had enough of it.
-        Err(error) if error.kind() == ErrorKind::BrokenPipe => ExitCode::from(report.status),
-        Err(error) => {
-            let _ = writeln!(io::stderr(), "fitcheck: standard output: {error}");
+        (Ok(status), Err(error)) if error.kind() == ErrorKind::BrokenPipe => ExitCode::from(status),
+        (Err(Trouble::Output(error)), _) if error.kind() == ErrorKind::BrokenPipe => {
+            ExitCode::from(FAILED)
+        }
+        (Err(Trouble::Output(error)), _) | (_, Err(error)) => {
+            complain(&format!("standard output: {error}"));
             ExitCode::from(FAILED)
         }
     }

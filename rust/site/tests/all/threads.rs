@@ -4,6 +4,7 @@ use std::thread;
 
 use compare::checker::Checker;
 use compare::reference::Original;
+use fitcheck::ListOptions;
 
 use crate::common::images;
 
@@ -18,7 +19,8 @@ fn threads_do_not_disturb_each_other() {
                         let mut expected = vec![0; 24 * fitcheck::MOST_ENTRIES];
                         let word = Original.list(&catalogue, &fit, &mut expected);
                         let mut room = vec![0; 24 * fitcheck::MOST_ENTRIES];
-                        let listed = fitcheck::list_into(&catalogue, &fit, &mut room);
+                        let listed =
+                            fitcheck::list_into(&catalogue, &fit, &ListOptions::new(), &mut room);
                         match listed {
                             Ok(entries) => {
                                 assert_eq!(entries.len() as u64, word);

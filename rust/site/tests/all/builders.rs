@@ -8,8 +8,8 @@ use compare::plain::Plain;
 use compare::reference::Original;
 use compare::rng::Rng;
 use fitcheck::{
-    Attribute, BuildError, CatalogueBuilder, FitBuilder, FitItem, FitPart, ItemResult, Mark,
-    Refusal, Slot, SlotType, State,
+    Attribute, BuildError, CatalogueBuilder, FitBuilder, FitItem, FitPart, ItemResult, ListOptions,
+    Mark, Refusal, Slot, SlotType, State,
 };
 
 use crate::common::{models, numbers};
@@ -58,7 +58,8 @@ fn catalogue_of(rng: &mut Rng, model: &Catalogue) -> CatalogueBuilder {
         builder.link(row.type_id, row.effect);
     }
     for row in mixed(rng, &model.bases, |row| row.type_id) {
-        builder.base(row.type_id, row.attribute, f32::from_bits(row.value));
+        let value = f64::from(f32::from_bits(row.value));
+        builder.base(row.type_id, row.attribute, value);
     }
     builder
 }
@@ -109,7 +110,7 @@ fn assert_accepted(catalogue: &[u8], fit: &[u8]) {
         // 7 is about what the fit says, not about its form.
         assert!(matches!(word >> 32, 0 | 7), "refused by {}", word >> 32);
     }
-    let listed = fitcheck::list(catalogue, fit);
+    let listed = fitcheck::list(catalogue, fit, &ListOptions::new());
     assert!(matches!(listed, Ok(_) | Err(Refusal::LaunchedDrones)));
 }
 
@@ -128,6 +129,12 @@ fn rows_in_any_order_give_the_image_that_the_comparison_lays_out() {
             // Of a type without volume the bits are free; the builder has zeros.
             for row in model.types.iter_mut().filter(|row| row.flag == 0) {
                 row.volume = 0;
+            }
+            // A NaN that signals is stored as one that does not.
+            for row in &mut model.bases {
+                if f32::from_bits(row.value).is_nan() {
+                    row.value |= 1 << 22;
+                }
             }
             let image = model.image();
             if compare::reference::Catalogue::decode(&image).is_ok()
@@ -178,7 +185,11 @@ fn whatever_is_put_in_the_image_is_accepted_or_not_built() {
         }
         for _ in 0..rng.below(8) {
             catalogue.link(id(rng), id(rng));
-            catalogue.base(id(rng), id(rng), f32::from_bits(rng.draw() as u32));
+            let value = match rng.below(8) {
+                0 => f64::from_bits(rng.draw()),
+                _ => f32::from_bits(rng.draw() as u32).into(),
+            };
+            catalogue.base(id(rng), id(rng), value);
         }
         let result = |rng: &mut Rng| {
             let mut result = ItemResult::new(rng.pick(State::ALL));
@@ -375,7 +386,10 @@ fn a_catalogue_at_its_limit_is_built_and_accepted_and_a_longer_one_is_not_built(
     let image = builder.build().unwrap();
     assert_eq!(image.len(), 16_777_216);
     let fit = FitBuilder::new(1).build().unwrap();
-    assert_eq!(fitcheck::list(&image, &fit), Ok(vec![]));
+    assert_eq!(
+        fitcheck::list(&image, &fit, &ListOptions::new()),
+        Ok(vec![])
+    );
 
     builder.link(1, 1);
     let bytes = 16_777_224;
@@ -395,6 +409,43 @@ fn items_and_results_that_would_pair_up_are_not_built() {
             items: 1,
             results: 1
         }
+    );
+}
+
+/// Document 01's bases are f32: a value that is none is named, never rounded.
+#[test]
+fn a_base_value_that_no_f32_is_is_not_built() {
+    let built = |value: f64| CatalogueBuilder::new().base(3302, 182, value).build();
+    for value in [
+        0.0,
+        -0.0,
+        0.1f32.into(),
+        f32::MAX.into(),
+        f64::from(f32::from_bits(1)),
+        f64::INFINITY,
+        f64::NAN,
+        16_777_216.0,
+    ] {
+        let image = built(value).unwrap();
+        let stored = f32::from_le_bytes(*image.last_chunk().unwrap());
+        let same = stored.is_nan() && value.is_nan();
+        assert!(same || f64::from(stored).to_bits() == value.to_bits());
+    }
+    for value in [0.1, 16_777_217.0, 1e39, 1e-50, f64::MIN_POSITIVE] {
+        let error = built(value).unwrap_err();
+        assert_eq!(
+            error,
+            BuildError::BaseValue {
+                type_id: 3302,
+                attribute_id: 182,
+                value
+            }
+        );
+    }
+    assert_eq!(
+        built(0.1).unwrap_err().to_string(),
+        "base value 0.1 of attribute 182 of type 3302: the image stores f32, and the nearest is \
+         0.10000000149011612"
     );
 }
 

@@ -1,11 +1,18 @@
-//! The boundary: the library's three functions, and the only unsafe code of
-//! this crate.
+//! The library's exported calls, declared once for all who link it: this crate
+//! and `rust/compare`, which takes in this file. It is the only unsafe code of
+//! either.
 //!
-//! Nothing checks these declarations against the library's source, so they are
-//! kept to numbers and byte slices; a slice passes as a pointer and then a
-//! length.
+//! A slice passes as a pointer and then a length. A test holds every
+//! declaration against the Rattle source that exports it.
 
 unsafe extern "C" {
+    // The number of this set of calls and images. Nothing else tells a library
+    // of other parameters apart, so whoever makes a call needs this symbol too.
+    // It is raised here, in include/fitcheck.h for C, and in the Rattle source,
+    // crates/fitcheck/src/lib.rt, at the same time.
+    #[link_name = "fit_interface_1"]
+    fn fit_interface() -> u64;
+
     fn fit_list(
         catalogue: *const u8,
         catalogue_length: usize,
@@ -33,8 +40,22 @@ unsafe extern "C" {
     ) -> u64;
 }
 
+/// The number of the interface, as the linked library says it.
+pub fn interface() -> u64 {
+    // SAFETY: it takes nothing and reads no memory.
+    unsafe { fit_interface() }
+}
+
+/// Has the linker want the number's symbol, so that a library of another
+/// interface is refused there and never called. Nothing is run.
+#[inline(always)]
+fn linked() {
+    std::hint::black_box(fit_interface as *const ());
+}
+
 /// The list call; returns its word.
 pub fn list(catalogue: &[u8], fit: &[u8], out: &mut [u8]) -> u64 {
+    linked();
     // SAFETY: each pointer comes from a slice and passes with that slice's
     // length, so all bytes that the library may read are initialised and live
     // for the call. `out` is borrowed mutably, so it overlaps neither image
@@ -56,6 +77,7 @@ pub fn list(catalogue: &[u8], fit: &[u8], out: &mut [u8]) -> u64 {
 
 /// The skill call; returns its word.
 pub fn skill(catalogue: &[u8], fit: &[u8], result: u32, out: &mut [u8]) -> u64 {
+    linked();
     // SAFETY: as in `list`; `result` may be any number.
     unsafe {
         fit_skill(
@@ -72,6 +94,7 @@ pub fn skill(catalogue: &[u8], fit: &[u8], result: u32, out: &mut [u8]) -> u64 {
 
 /// The hall call; returns its word.
 pub fn hall(catalogue: &[u8], input: &[u8]) -> u64 {
+    linked();
     // SAFETY: as in `list`; the library writes nothing here.
     unsafe {
         fit_hall(

@@ -1,31 +1,56 @@
 //! JSON for other programs: entries as the original writes its violations,
-//! with the sentence beside them.
+//! with the sentence beside them. `docs/CALLING.md` has the shapes; the objects
+//! that stand for themselves begin with `"version"`, which is [`VERSION`].
+//!
+//! ```
+//! use fitcheck::{Entry, Rule, Target, json};
+//!
+//! let entry = Entry { target: Target::Item { index: 3 }, rule: Rule::SlotTaken };
+//! assert_eq!(
+//!     json::entry(&entry, "two guns share a slot").to_string(),
+//!     "{\"target\":{\"type\":\"item\",\"index\":3},\"rule\":{\"type\":\"slot_taken\"},\
+//!      \"sentence\":\"two guns share a slot\"}",
+//! );
+//! ```
 
 use std::fmt::{self, Display, Formatter, Write};
 
-use fitcheck::{Entry, Refusal, Rule, Target};
+use crate::{Entry, Refusal, Rule, Target, Unchecked, Verdict};
 
-/// A JSON value.
+/// The version of the shapes. It rises where a field goes away or means
+/// something else; fields, rules and refusals may be added without.
+pub const VERSION: u32 = 1;
+
+/// A JSON value. As text it stands on one line.
+#[non_exhaustive]
+#[derive(Debug, Clone, PartialEq)]
 pub enum Json {
+    /// A whole number.
     Integer(i64),
+    /// A number. JSON has no NaN and no infinity: they are the texts `"NaN"`,
+    /// `"Infinity"` and `"-Infinity"`. Any other reads back as the same bits.
     Double(f64),
+    /// A text.
     Text(String),
+    /// Values in order.
     List(Vec<Json>),
+    /// Fields in order.
     Object(Vec<(&'static str, Json)>),
 }
 
 impl Json {
+    /// A text.
     pub fn text(text: impl Into<String>) -> Json {
         Json::Text(text.into())
     }
 
+    /// A number of things.
     pub fn count(count: usize) -> Json {
         // No list is anywhere near so long.
         Json::Integer(i64::try_from(count).unwrap_or(i64::MAX))
     }
 }
 
-/// On one line.
 impl Display for Json {
     fn fmt(&self, formatter: &mut Formatter<'_>) -> fmt::Result {
         match self {
@@ -90,6 +115,53 @@ fn quoted(formatter: &mut Formatter<'_>, text: &str) -> fmt::Result {
     formatter.write_char('"')
 }
 
+/// The fields that an object which stands for itself begins with.
+pub fn versioned(status: &str) -> Vec<(&'static str, Json)> {
+    vec![
+        ("version", Json::Integer(VERSION.into())),
+        ("status", Json::text(status)),
+    ]
+}
+
+/// A refused image: version, status and refusal.
+pub fn refused(refused: Refusal) -> Json {
+    let mut fields = versioned("refused");
+    fields.push(("refusal", refusal(refused)));
+    Json::Object(fields)
+}
+
+/// What became of one fit of a hall, behind what it is called.
+pub fn verdict(file: &str, verdict: &Verdict) -> Json {
+    let mut fields = vec![("file", Json::text(file))];
+    fields.extend(match verdict {
+        Verdict::Clear => vec![("status", Json::text("clear"))],
+        Verdict::Faulted { entries } => vec![
+            ("status", Json::text("faulted")),
+            ("entries", Json::count(*entries)),
+        ],
+        Verdict::Refused(number) => vec![
+            ("status", Json::text("refused")),
+            ("refusal", refusal(*number)),
+        ],
+    });
+    Json::Object(fields)
+}
+
+/// What a catalogue leaves unchecked, by rule, in words, and what is missing.
+pub fn unchecked(unchecked: &[Unchecked]) -> Json {
+    let one = |it: &Unchecked| {
+        let names = it.names.iter().map(|name| Json::text(name.name()));
+        let marks = it.marks.iter().map(|mark| Json::text(mark.name()));
+        Json::Object(vec![
+            ("rule", Json::text(it.rule)),
+            ("what", Json::text(&it.what)),
+            ("names", Json::List(names.collect())),
+            ("marks", Json::List(marks.collect())),
+        ])
+    };
+    Json::List(unchecked.iter().map(one).collect())
+}
+
 /// A refusal by number and sentence.
 pub fn refusal(refusal: Refusal) -> Json {
     Json::Object(vec![
@@ -99,11 +171,11 @@ pub fn refusal(refusal: Refusal) -> Json {
 }
 
 /// An entry: target and rule as the original writes them, and the sentence.
-pub fn entry(entry: &Entry, sentence: String) -> Json {
+pub fn entry(entry: &Entry, sentence: &str) -> Json {
     Json::Object(vec![
         ("target", target(entry.target)),
         ("rule", rule(&entry.rule)),
-        ("sentence", Json::Text(sentence)),
+        ("sentence", Json::text(sentence)),
     ])
 }
 
@@ -192,8 +264,18 @@ fn rule(rule: &Rule) -> Json {
                 Json::List(words.map(|word| Json::Integer(word.into())).into()),
             ),
         ],
-        // The others have no fields.
-        _ => Vec::new(),
+        Rule::NotAModule
+        | Rule::NotADrone
+        | Rule::NotAFighter
+        | Rule::NotAnImplant
+        | Rule::SlotTaken
+        | Rule::SubsystemTaken
+        | Rule::ShipRestricted
+        | Rule::CapitalItem
+        | Rule::StructureItem
+        | Rule::ShipItem
+        | Rule::NotAHull
+        | Rule::NotAMode => Vec::new(),
     });
     Json::Object(fields)
 }

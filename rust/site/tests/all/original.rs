@@ -4,19 +4,19 @@
 //! entry and a violation print alike.
 
 use compare::reference::{self, Catalogue, Fit};
-use fitcheck::{Entry, Refusal};
+use fitcheck::{Entry, ListOptions, Refusal, SkillOptions};
 use original::{Run, Target, Violation};
 
 use crate::common::{images, numbers};
 
-fn printed(entries: &[Entry]) -> Vec<String> {
+pub fn printed(entries: &[Entry]) -> Vec<String> {
     entries
         .iter()
         .map(|entry| format!("{:?} {:?}", entry.target, entry.rule))
         .collect()
 }
 
-fn printed_originals(found: &[Violation]) -> Vec<String> {
+pub fn printed_originals(found: &[Violation]) -> Vec<String> {
     found
         .iter()
         .map(|violation| format!("{:?} {:?}", violation.target, violation.rule))
@@ -24,7 +24,7 @@ fn printed_originals(found: &[Violation]) -> Vec<String> {
 }
 
 /// Document 01 sums cargo from +0; some Rust releases sum from -0.
-fn from_plus_zero(printed: Vec<String>) -> Vec<String> {
+pub fn from_plus_zero(printed: Vec<String>) -> Vec<String> {
     let minus_zero = "resource: CargoBay, used: -0.0";
     printed
         .into_iter()
@@ -43,7 +43,7 @@ fn a_list_is_the_originals() {
     for case in numbers(700) {
         let (catalogue_image, fits) = images(11, case);
         for image in fits {
-            let list = fitcheck::list(&catalogue_image, &image);
+            let list = fitcheck::list(&catalogue_image, &image, &ListOptions::new());
             let decoded = Catalogue::decode(&catalogue_image)
                 .and_then(|catalogue| Ok((catalogue, Fit::decode(&image)?)));
             let (catalogue, fit) = match decoded {
@@ -95,7 +95,8 @@ fn skills_are_the_originals() {
                 continue;
             };
             for result in 0..fit.calculation.items.len().min(4) as u32 + 2 {
-                let skills = fitcheck::skills(&catalogue_image, image, result);
+                let skills =
+                    fitcheck::skills(&catalogue_image, image, result, &SkillOptions::new());
                 if let Err(refusal) = reference::skill(&catalogue, &fit, result) {
                     assert_eq!(number(skills), u32::from(refusal), "case {case}");
                     continue;
@@ -124,12 +125,9 @@ fn skills_are_the_originals() {
 
 #[test]
 fn a_result_beyond_the_last_is_refused_by_8() {
-    let empty = [0; 36];
-    assert!(fitcheck::skills(&[0; 20], &empty, 1).is_ok());
+    let skills = |result| fitcheck::skills(&[0; 20], &[0; 36], result, &SkillOptions::new());
+    assert!(skills(1).is_ok());
     for result in [2, 3, 258, u32::MAX] {
-        assert_eq!(
-            fitcheck::skills(&[0; 20], &empty, result),
-            Err(Refusal::NoSuchResult)
-        );
+        assert_eq!(skills(result), Err(Refusal::NoSuchResult));
     }
 }

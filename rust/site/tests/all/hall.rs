@@ -3,9 +3,9 @@
 use compare::checker::Checker;
 use compare::model::{Damage, hall_image};
 use compare::reference::Original;
-use fitcheck::{CatalogueBuilder, FitBuilder, Hall, Refusal, Verdict};
+use fitcheck::{CatalogueBuilder, FitBuilder, Hall, ListOptions, Refusal, Verdict};
 
-use crate::common::{images, numbers};
+use crate::common::{images, numbers, slices};
 
 /// Type 587 is a ship; every other type is unknown.
 fn catalogue() -> Vec<u8> {
@@ -33,7 +33,7 @@ fn more_than_64_fits_are_counted_too() {
                 _ => vec![0; 35],
             })
             .collect();
-        let hall = fitcheck::hall(&catalogue(), &fits).unwrap();
+        let hall = fitcheck::hall(&catalogue(), &slices(&fits)).unwrap();
         let of = |classes: &[usize]| {
             let counted = (0..count).filter(|number| classes.contains(&(number % 5)));
             counted.count()
@@ -55,8 +55,8 @@ fn the_numbers_are_the_originals_and_the_verdicts_add_up_to_them() {
         // A hall input without fits shows whether the catalogue is refused.
         let frame = hall_image(&[], &Damage::default());
         let refusal = Original.hall(&catalogue, &frame) >> 32;
-        let hall = fitcheck::hall(&catalogue, &fits);
-        let verdicts = fitcheck::verdicts(&catalogue, &fits);
+        let hall = fitcheck::hall(&catalogue, &slices(&fits));
+        let verdicts = fitcheck::verdicts(&catalogue, &slices(&fits));
         if refusal != 0 {
             assert_eq!(u64::from(hall.unwrap_err().number()), refusal);
             assert_eq!(u64::from(verdicts.unwrap_err().number()), refusal);
@@ -69,13 +69,13 @@ fn the_numbers_are_the_originals_and_the_verdicts_add_up_to_them() {
             let expected = match (word >> 32, word as usize) {
                 (0, 0) => Verdict::Clear,
                 (0, entries) => Verdict::Faulted { entries },
-                (number, _) => Verdict::Refused(Refusal::ALL[number as usize - 1]),
+                (number, _) => Verdict::Refused(Refusal::from_number(number as u32).unwrap()),
             };
             assert_eq!(verdict, expected, "case {case}");
             match verdict {
                 Verdict::Clear => sum.clear += 1,
                 Verdict::Faulted { .. } => sum.faulted += 1,
-                Verdict::Refused(_) => sum.refused += 1,
+                _ => sum.refused += 1,
             }
             fits_seen += 1;
         }
@@ -86,7 +86,6 @@ fn the_numbers_are_the_originals_and_the_verdicts_add_up_to_them() {
 
 #[test]
 fn the_catalogue_is_judged_without_fits_too() {
-    let none: [&[u8]; 0] = [];
     for (catalogue, refusal) in [
         ([0; 3].as_slice(), Refusal::CatalogueLength),
         // Two effects of id 0.
@@ -100,10 +99,10 @@ fn the_catalogue_is_judged_without_fits_too() {
             Refusal::CatalogueField,
         ),
     ] {
-        assert_eq!(fitcheck::hall(catalogue, &none), Err(refusal));
-        assert_eq!(fitcheck::verdicts(catalogue, &none), Err(refusal));
-        assert_eq!(fitcheck::hall(catalogue, &[clear()]), Err(refusal));
-        assert_eq!(fitcheck::verdicts(catalogue, &[clear()]), Err(refusal));
+        assert_eq!(fitcheck::hall(catalogue, &[]), Err(refusal));
+        assert_eq!(fitcheck::verdicts(catalogue, &[]), Err(refusal));
+        assert_eq!(fitcheck::hall(catalogue, &[&clear()]), Err(refusal));
+        assert_eq!(fitcheck::verdicts(catalogue, &[&clear()]), Err(refusal));
     }
 }
 
@@ -111,9 +110,12 @@ fn the_catalogue_is_judged_without_fits_too() {
 fn a_fit_longer_than_any_is_refused_by_4_and_counted() {
     let long = vec![0; fitcheck::FIT_BYTES + 1];
     let fits = [clear(), long.clone(), faulted()];
-    assert_eq!(fitcheck::list(&catalogue(), &long), Err(Refusal::FitLength));
     assert_eq!(
-        fitcheck::hall(&catalogue(), &fits),
+        fitcheck::list(&catalogue(), &long, &ListOptions::new()),
+        Err(Refusal::FitLength)
+    );
+    assert_eq!(
+        fitcheck::hall(&catalogue(), &slices(&fits)),
         Ok(Hall {
             clear: 1,
             faulted: 1,
@@ -121,7 +123,7 @@ fn a_fit_longer_than_any_is_refused_by_4_and_counted() {
         })
     );
     assert_eq!(
-        fitcheck::verdicts(&catalogue(), &fits).unwrap()[1],
+        fitcheck::verdicts(&catalogue(), &slices(&fits)).unwrap()[1],
         Verdict::Refused(Refusal::FitLength)
     );
 }

@@ -1,14 +1,33 @@
 //! What the tests share.
 
+use std::sync::OnceLock;
+
 use compare::cases;
 use compare::fixed;
 use compare::model::{Catalogue, Damage, Fit};
 
-/// Cases by number: the fixed ones but for the last few, whose catalogues have
-/// 16 MiB, and some that follow from a seed.
+/// The longest catalogue of a fixed case that the tests take; the comparison
+/// itself runs the longer ones.
+const LONGEST: usize = 200_000;
+
+/// Cases by number: the fixed ones of small images, and some that follow from a
+/// seed.
 pub fn numbers(more: u64) -> impl Iterator<Item = u64> {
-    let fixed = fixed::count() as u64;
-    (0..fixed - 4).chain(fixed..fixed + more)
+    static SMALL: OnceLock<Vec<u64>> = OnceLock::new();
+    let count = fixed::count() as u64;
+    let small = SMALL.get_or_init(|| {
+        let is_small = |number: &u64| {
+            let (catalogue, fits) = images(0, *number);
+            catalogue.len() + fits.iter().map(Vec::len).sum::<usize>() < LONGEST
+        };
+        (0..count).filter(is_small).collect()
+    });
+    small.iter().copied().chain(count..count + more)
+}
+
+/// The fits as the calls take them.
+pub fn slices(fits: &[Vec<u8>]) -> Vec<&[u8]> {
+    fits.iter().map(Vec::as_slice).collect()
 }
 
 /// The images of a case: the catalogue and each fit.

@@ -1,11 +1,16 @@
 //! The caller's buffer, and images of any bytes.
 
 use compare::rng::Rng;
-use fitcheck::{Entry, Explainer, FitImage, Names, Refusal, Rule, Target};
+use fitcheck::{
+    CatalogueImage, Entry, Explainer, FitImage, ListOptions, Names, Refusal, Rule, SkillOptions,
+    Target,
+};
 
 use crate::common::{images, numbers};
 
 const UNTOUCHED: u8 = 0xC3;
+const LIST: ListOptions = ListOptions::new();
+const SKILL: SkillOptions = SkillOptions::new();
 
 /// Document 01: "A refusal returns its number and writes nothing. An answered
 /// call returns the count and writes that many entries from byte 0."
@@ -15,21 +20,21 @@ fn only_the_entries_bytes_are_written() {
     for case in numbers(200) {
         let (catalogue, fits) = images(51, case);
         for fit in fits.iter().take(2) {
-            let Ok(expected) = fitcheck::list(&catalogue, fit) else {
+            let Ok(expected) = fitcheck::list(&catalogue, fit, &LIST) else {
                 let mut buffer = vec![UNTOUCHED; 24 * fitcheck::MOST_ENTRIES];
-                assert!(fitcheck::list_into(&catalogue, fit, &mut buffer).is_err());
+                assert!(fitcheck::list_into(&catalogue, fit, &LIST, &mut buffer).is_err());
                 assert!(buffer.iter().all(|byte| *byte == UNTOUCHED));
                 continue;
             };
             let length = 24 * expected.len();
             let mut buffer = vec![UNTOUCHED; length + 40];
-            let entries = fitcheck::list_into(&catalogue, fit, &mut buffer).unwrap();
+            let entries = fitcheck::list_into(&catalogue, fit, &LIST, &mut buffer).unwrap();
             let bytes: Vec<[u8; 24]> = expected.iter().map(Entry::to_bytes).collect();
             assert_eq!(entries, bytes, "case {case}");
             assert_eq!(buffer[length..], [UNTOUCHED; 40]);
             if length > 0 {
                 let short = &mut vec![UNTOUCHED; length - 1];
-                let refused = fitcheck::list_into(&catalogue, fit, short);
+                let refused = fitcheck::list_into(&catalogue, fit, &LIST, short);
                 assert_eq!(refused, Err(Refusal::BufferLength));
                 assert!(short.iter().all(|byte| *byte == UNTOUCHED));
                 listed += 1;
@@ -60,12 +65,17 @@ fn bytes_of_any_kind_are_answered_and_explained() {
                     }
                 }
             }
+            if let Some(image) = CatalogueImage::new(&catalogue) {
+                let missing = image.missing();
+                assert_eq!(missing.is_empty(), missing.unchecked().is_empty());
+            }
             let explainer = Explainer::new(&fit, &names);
-            for entry in fitcheck::list(&catalogue, &fit).unwrap_or_default() {
+            for entry in fitcheck::list(&catalogue, &fit, &LIST).unwrap_or_default() {
                 assert!(!explainer.explain(&entry).is_empty());
             }
             for result in 0..5 {
-                for entry in fitcheck::skills(&catalogue, &fit, result).unwrap_or_default() {
+                for entry in fitcheck::skills(&catalogue, &fit, result, &SKILL).unwrap_or_default()
+                {
                     assert!(!explainer.explain_skill(result, &entry).is_empty());
                 }
             }

@@ -1,0 +1,62 @@
+/* The proved fit checker's calls for C: libfitcheck.a, x86-64 Linux.
+ *
+ * A slice is a pointer and then a length in bytes. A length may be 0; the
+ * pointer is not null even then. `out` overlaps neither image. The library
+ * allocates nothing, keeps no pointer, and any number of threads may call it.
+ *
+ * The word that a call returns: the upper 32 bits are the refusal's number, 0
+ * where the call is answered; the lower 32 bits are the count, 0 where it is
+ * refused. docs/CALLING.md has an example. */
+#ifndef FITCHECK_H
+#define FITCHECK_H
+
+#include <stddef.h>
+#include <stdint.h>
+
+#ifdef __cplusplus
+extern "C" {
+#endif
+
+/* Bytes of an entry; a list has at most FITCHECK_MOST_ENTRIES of them, the
+ * skills of one result at most FITCHECK_MOST_SKILLS, and a hall call takes at
+ * most FITCHECK_FITS_PER_CALL fits. */
+#define FITCHECK_ENTRY_BYTES 24
+#define FITCHECK_MOST_ENTRIES 5141
+#define FITCHECK_MOST_SKILLS 512
+#define FITCHECK_FITS_PER_CALL 64
+
+#define FITCHECK_REFUSAL(word) ((uint32_t)((word) >> 32))
+#define FITCHECK_COUNT(word) ((uint32_t)((word)&0xFFFFFFFFu))
+
+/* Of the hall call's count. */
+#define FITCHECK_CLEAR(word) (FITCHECK_COUNT(word) & 0xFFu)
+#define FITCHECK_FAULTED(word) (FITCHECK_COUNT(word) >> 8 & 0xFFu)
+#define FITCHECK_REFUSED(word) (FITCHECK_COUNT(word) >> 16)
+
+/* Every rule that the fit breaks: the entries stand from the beginning of
+ * `out`. A refused call writes nothing. */
+uint64_t fit_list(const uint8_t *catalogue, size_t catalogue_length,
+                  const uint8_t *fit, size_t fit_length,
+                  uint8_t *out, size_t out_length);
+
+/* The skills that one result wants and the character lacks: result 0 is the
+ * ship's, 1 the character's, 2 the first item's. */
+uint64_t fit_skill(const uint8_t *catalogue, size_t catalogue_length,
+                   const uint8_t *fit, size_t fit_length,
+                   uint32_t result,
+                   uint8_t *out, size_t out_length);
+
+/* How many fits are clear to fly, faulted and refused. The input: u32 number
+ * of fits, their lengths (u32), then the fits end to end. */
+uint64_t fit_hall(const uint8_t *catalogue, size_t catalogue_length,
+                  const uint8_t *input, size_t input_length);
+
+/* The number of this set of calls and images, which its name has too: a
+ * library of another set does not link with a program that asks for this. */
+uint64_t fit_interface_1(void);
+
+#ifdef __cplusplus
+}
+#endif
+
+#endif

@@ -1,0 +1,13 @@
+//! The crate `fitcheck` beside the original and beside the comparison's own
+//! layout of the images.
+
+#![forbid(unsafe_code)]
+
+mod buffers;
+mod builders;
+mod common;
+mod entries;
+mod hall;
+mod mapping;
+mod original;
+mod threads;
