@@ -203,7 +203,12 @@ pub fn agreed_list(library: &dyn Checker, catalogue: &Catalogue, fit: &Fit) -> V
 }
 
 /// The skills of one result, byte by byte the same on both sides.
-fn agreed_skills(library: &dyn Checker, catalogue: &Catalogue, fit: &Fit, result: u32) -> Vec<u8> {
+pub fn agreed_skills(
+    library: &dyn Checker,
+    catalogue: &Catalogue,
+    fit: &Fit,
+    result: u32,
+) -> Vec<u8> {
     let (outcome, target) = (fit.result(result), target(result));
     let originals = [
         fit.run(&catalogue.hashed).report(outcome, target),
@@ -211,6 +216,21 @@ fn agreed_skills(library: &dyn Checker, catalogue: &Catalogue, fit: &Fit, result
     ];
     let call = |out: &mut [u8]| library.skill(&catalogue.image, &fit.image, result, out);
     agreed(&originals, ANY_SKILLS, call, |_| true)
+}
+
+/// How many fits of a hall have a list; each list is byte by byte the same on
+/// both sides, and the hall call counts them.
+pub fn agreed_hall(library: &dyn Checker, catalogue: &Catalogue, fits: &[Fit]) -> usize {
+    let lists = fits.iter().map(|fit| agreed_list(library, catalogue, fit));
+    let faulted = lists.filter(|list| !list.is_empty()).count();
+    let clear = fits.len() - faulted;
+    let word = library.hall(&catalogue.image, &hall_input(fits));
+    assert_eq!(
+        word,
+        (clear + 256 * faulted) as u64,
+        "clear and faulted fits"
+    );
+    faulted
 }
 
 /// What a result's skills are listed on.
@@ -307,21 +327,9 @@ pub fn skill(catalogue: &Catalogue, fits: &[Fit], result: u32) -> Skill {
 pub fn hall(catalogue: &Catalogue, small: &Catalogue, fits: &[Fit]) -> Hall {
     let library = library();
     let mut long = vec![0; ANY_LIST];
-    let lists = fits
-        .iter()
-        .map(|fit| agreed_list(&*library, catalogue, fit));
-    let faulted = lists.filter(|list| !list.is_empty()).count();
     let input = hall_input(fits);
-    let word = library.hall(&catalogue.image, &input);
-    for fit in fits {
-        agreed_list(&*library, small, fit);
-    }
-    let clear = fits.len() - faulted;
-    assert_eq!(
-        word,
-        (clear + 256 * faulted) as u64,
-        "clear and faulted fits"
-    );
+    let faulted = agreed_hall(&*library, catalogue, fits);
+    agreed_hall(&*library, small, fits);
 
     let image = &catalogue.image;
     let mut long_too = long.clone();

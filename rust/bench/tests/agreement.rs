@@ -1,7 +1,7 @@
 //! What is timed gives the same bytes on both sides.
 
 use bench::fits::{self, LARGEST, REALISTIC};
-use bench::subject::{self, Catalogue, Fit, agreed_list};
+use bench::subject::{self, Catalogue, Fit, agreed_hall, agreed_list, agreed_skills};
 use bench::world::{self, SMALL};
 use compare::checker::Checker;
 
@@ -13,6 +13,28 @@ fn lists_agree_byte_by_byte() {
         let fit = Fit::new(&fits::fit(shape, 1));
         assert!(!agreed_list(&*library, &catalogue, &fit).is_empty());
     }
+}
+
+#[test]
+fn skills_agree_byte_by_byte() {
+    let library = subject::library();
+    let chain = Catalogue::new(&world::chain(512, 12));
+    let demanding = Fit::new(&fits::at_chain());
+    let listed = agreed_skills(&*library, &chain, &demanding, 0);
+    assert_eq!(listed.len(), 24 * 512);
+
+    let small = Catalogue::new(&world::catalogue(SMALL));
+    let realistic = Fit::new(&fits::fit(REALISTIC, 0));
+    agreed_skills(&*library, &small, &realistic, 2);
+}
+
+#[test]
+fn halls_agree() {
+    let catalogue = Catalogue::new(&world::catalogue(SMALL));
+    let fits: Vec<Fit> = (0..8)
+        .map(|number| Fit::new(&fits::fit(REALISTIC, number)))
+        .collect();
+    assert!(agreed_hall(&*subject::library(), &catalogue, &fits) > 0);
 }
 
 /// A library whose second entry names another pair.
