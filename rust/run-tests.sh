@@ -1,6 +1,7 @@
 #!/bin/sh
-# Runs the Rust side: the workspace's tests, then the comparison with the
-# original (of the Rattle library where it is built, else of the plain port).
+# Runs the Rust side: the workspace's tests, the comparison with the original
+# (of the Rattle library where it is built, else of the plain port), and the
+# deliberate faults, whose page compare/FAULTS.md has to be what this run says.
 # Needs cargo and, for the crate `fitcheck`, the library: its build script finds
 # it, has `rt` build it, or says what to do. The last line is `N passed, M
 # failed`; the status is 0 where nothing failed.
@@ -55,6 +56,12 @@ add "$status" "$output"
 
 echo "== the comparison with the original"
 output=$(cargo run --offline --release --quiet -p compare -- "$@" 2>&1)
+status=$?
+printf '%s\n' "$output"
+add "$status" "$output"
+
+echo "== the deliberate faults"
+output=$(cargo run --offline --release --quiet -p compare -- --faults --check compare/FAULTS.md 2>&1)
 status=$?
 printf '%s\n' "$output"
 add "$status" "$output"

@@ -6,7 +6,7 @@ use std::hint::black_box;
 use compare::checker::{Checker, ENTRY};
 use compare::names::{COUNT, REQUIRED};
 use compare::{model, rattle, reference};
-use original::{Info, ItemResult, Rule, Run, Target};
+use original::{Info, ItemResult, Rule, Run, Target, Violation};
 
 use crate::scan;
 use crate::tables::{HashedTables, SortedTables};
@@ -139,11 +139,11 @@ impl<'a> Turns<'a> {
 pub fn list(catalogue: &Catalogue, fits: &[Fit]) -> List {
     let library = library();
     let mut long = vec![0; ANY_LIST];
-    let counts: Vec<usize> = fits
+    let mut exact: Vec<Vec<u8>> = fits
         .iter()
-        .map(|fit| list_count(&*library, catalogue, fit, &mut long))
+        .map(|fit| agreed_list(&*library, catalogue, fit))
         .collect();
-    let mut exact: Vec<Vec<u8>> = counts.iter().map(|count| vec![0; ENTRY * count]).collect();
+    let bytes: usize = exact.iter().map(Vec::len).sum();
 
     let [mut t0, mut t1, mut t2, mut t3, mut t4, mut t5, mut t6] =
         std::array::from_fn(|_| Turns::new(fits));
@@ -178,7 +178,7 @@ pub fn list(catalogue: &Catalogue, fits: &[Fit]) -> List {
         ],
     );
     List {
-        entries: counts.iter().sum(),
+        entries: bytes / ENTRY,
         list,
         exact,
         scan,
@@ -187,43 +187,102 @@ pub fn list(catalogue: &Catalogue, fits: &[Fit]) -> List {
     }
 }
 
-/// How many entries both sides give; they must agree.
-fn list_count(library: &dyn Checker, catalogue: &Catalogue, fit: &Fit, buffer: &mut [u8]) -> usize {
-    let count = library.list(&catalogue.image, &fit.image, buffer) as usize;
-    let listed = fit
-        .run(&catalogue.hashed)
-        .validate()
-        .iter()
-        .filter(|violation| !matches!(violation.rule, Rule::Skill { .. }))
-        .count();
-    assert_eq!(count, listed, "entries of the library and of the original");
-    for part in [
-        fit.run(&catalogue.hashed_part).validate().len(),
-        fit.run(&catalogue.sorted_part).validate().len(),
-    ] {
-        assert_eq!(count, part, "entries without the skill rule");
+/// The list of both sides, byte by byte the same: the library's with either
+/// buffer, and the original's over each of the tables that are timed.
+pub fn agreed_list(library: &dyn Checker, catalogue: &Catalogue, fit: &Fit) -> Vec<u8> {
+    let originals = [
+        fit.run(&catalogue.hashed).validate(),
+        fit.run(&catalogue.sorted).validate(),
+        fit.run(&catalogue.hashed_part).validate(),
+        fit.run(&catalogue.sorted_part).validate(),
+    ];
+    let call = |out: &mut [u8]| library.list(&catalogue.image, &fit.image, out);
+    agreed(&originals, ANY_LIST, call, |rule| {
+        !matches!(rule, Rule::Skill { .. })
+    })
+}
+
+/// The skills of one result, byte by byte the same on both sides.
+pub fn agreed_skills(
+    library: &dyn Checker,
+    catalogue: &Catalogue,
+    fit: &Fit,
+    result: u32,
+) -> Vec<u8> {
+    let (outcome, target) = (fit.result(result), target(result));
+    let originals = [
+        fit.run(&catalogue.hashed).report(outcome, target),
+        fit.run(&catalogue.sorted).report(outcome, target),
+    ];
+    let call = |out: &mut [u8]| library.skill(&catalogue.image, &fit.image, result, out);
+    agreed(&originals, ANY_SKILLS, call, |_| true)
+}
+
+/// How many fits of a hall have a list; each list is byte by byte the same on
+/// both sides, and the hall call counts them.
+pub fn agreed_hall(library: &dyn Checker, catalogue: &Catalogue, fits: &[Fit]) -> usize {
+    let lists = fits.iter().map(|fit| agreed_list(library, catalogue, fit));
+    let faulted = lists.filter(|list| !list.is_empty()).count();
+    let clear = fits.len() - faulted;
+    let word = library.hall(&catalogue.image, &hall_input(fits));
+    assert_eq!(
+        word,
+        (clear + 256 * faulted) as u64,
+        "clear and faulted fits"
+    );
+    faulted
+}
+
+/// What a result's skills are listed on.
+fn target(result: u32) -> Target {
+    match result {
+        0 | 1 => Target::Ship,
+        _ => Target::Item {
+            index: result as usize - 2,
+        },
     }
-    count
+}
+
+/// The entries' bytes: those of the call with a long buffer, with an exact one,
+/// and those of the original every time, of the rules that count.
+fn agreed(
+    originals: &[Vec<Violation>],
+    any: usize,
+    call: impl Fn(&mut [u8]) -> u64,
+    counts: impl Fn(&Rule) -> bool,
+) -> Vec<u8> {
+    let mut long = vec![0; any];
+    let count = call(&mut long) as usize;
+    assert!(ENTRY * count <= any, "the call is answered");
+    long.truncate(ENTRY * count);
+    let mut exact = vec![0; ENTRY * count];
+    assert_eq!(
+        call(&mut exact),
+        count as u64,
+        "the call with an exact buffer"
+    );
+    assert!(
+        exact == long,
+        "bytes with an exact buffer and with a long one"
+    );
+    for found in originals {
+        let listed = found.iter().filter(|violation| counts(&violation.rule));
+        let bytes: Vec<u8> = listed.flat_map(reference::entry).collect();
+        assert!(bytes == long, "bytes of the library and of the original");
+    }
+    long
 }
 
 /// Times the skill call of one result, over the fits in turn.
 pub fn skill(catalogue: &Catalogue, fits: &[Fit], result: u32) -> Skill {
     let library = library();
-    let target = Target::Item { index: 0 };
+    let target = target(result);
     let mut long = vec![0; ANY_SKILLS];
-    let mut counts = Vec::new();
-    for fit in fits {
-        let count = library.skill(&catalogue.image, &fit.image, result, &mut long) as usize;
-        let outcome = fit.result(result);
-        for listed in [
-            fit.run(&catalogue.hashed).report(outcome, target).len(),
-            fit.run(&catalogue.sorted).report(outcome, target).len(),
-        ] {
-            assert_eq!(count, listed, "skills of the library and of the original");
-        }
-        counts.push(count);
-    }
-    let mut exact: Vec<Vec<u8>> = counts.iter().map(|count| vec![0; ENTRY * count]).collect();
+    let mut exact: Vec<Vec<u8>> = fits
+        .iter()
+        .map(|fit| agreed_skills(&*library, catalogue, fit, result))
+        .collect();
+    let bytes: usize = exact.iter().map(Vec::len).sum();
 
     let [mut t0, mut t1, mut t2, mut t3, mut t4] = std::array::from_fn(|_| Turns::new(fits));
     let image = &catalogue.image;
@@ -256,7 +315,7 @@ pub fn skill(catalogue: &Catalogue, fits: &[Fit], result: u32) -> Skill {
         ],
     );
     Skill {
-        entries: counts.iter().sum(),
+        entries: bytes / ENTRY,
         skill,
         exact,
         scan,
@@ -268,18 +327,9 @@ pub fn skill(catalogue: &Catalogue, fits: &[Fit], result: u32) -> Skill {
 pub fn hall(catalogue: &Catalogue, small: &Catalogue, fits: &[Fit]) -> Hall {
     let library = library();
     let mut long = vec![0; ANY_LIST];
-    let counts = fits
-        .iter()
-        .map(|fit| list_count(&*library, catalogue, fit, &mut long));
-    let faulted = counts.filter(|count| *count > 0).count();
     let input = hall_input(fits);
-    let word = library.hall(&catalogue.image, &input);
-    let clear = fits.len() - faulted;
-    assert_eq!(
-        word,
-        (clear + 256 * faulted) as u64,
-        "clear and faulted fits"
-    );
+    let faulted = agreed_hall(&*library, catalogue, fits);
+    agreed_hall(&*library, small, fits);
 
     let image = &catalogue.image;
     let mut long_too = long.clone();

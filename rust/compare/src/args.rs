@@ -1,10 +1,13 @@
 //! The command line.
 
+use crate::cases::Which;
+
 /// What is asked for.
 #[derive(Debug, PartialEq)]
 pub enum Command {
     Compare(Settings),
-    Faults(Settings),
+    /// Every fault, with the file that the table is held against, if any.
+    Faults(Settings, Option<String>),
     Record(String),
     Help,
 }
@@ -15,7 +18,7 @@ pub struct Settings {
     pub seed: u64,
     pub against: Option<Against>,
     /// One case alone, shown in words.
-    pub only: Option<u64>,
+    pub only: Option<Which>,
     /// A fault to switch on in the plain port.
     pub fault: Option<String>,
 }
@@ -34,16 +37,19 @@ pub const USAGE: &str = "\
 Holds a fit checker against the original Rust by running both.
 
 usage: compare [--cases N] [--seed S] [--against plain|rattle] [--case K] [--fault NAME]
-       compare --faults [--cases N] [--seed S]
+       compare --faults [--seed S] [--check FILE]
        compare record FILE
 
-  --cases N        how many cases to run (20000); the fixed ones come first
+  --cases N        how many numbered cases to run (20000), the fixed ones first; with
+                   them run all large ones, and one more large one for every 1000
   --seed S         the seed of the generated cases (1)
   --against WHICH  the checker: `rattle`, the library, or `plain`, the plain port
                    (the library where this build has it, else the plain port)
-  --case K         run case K alone and print it in words
+  --case K         run case K alone and print it in words: a number, L3 for a large
+                   case, D3 for a large one that follows from the seed
   --fault NAME     switch one deliberate fault of the plain port on
   --faults         try every deliberate fault: each must be told apart
+  --check FILE     with --faults: hold what is printed against a file, row by row
   record FILE      write the recorded answers of the original
 
 The last line is `N passed, M failed`; the status is 0 where nothing failed.";
@@ -58,6 +64,7 @@ pub fn parse(line: &[String]) -> Result<Command, String> {
         fault: None,
     };
     let mut faults = false;
+    let mut check = None;
     let mut rest = line.iter();
     if line.first().is_some_and(|word| word == "record") {
         return match line {
@@ -73,7 +80,8 @@ pub fn parse(line: &[String]) -> Result<Command, String> {
         match option.as_str() {
             "--cases" => settings.cases = number(option, value()?)?,
             "--seed" => settings.seed = number(option, value()?)?,
-            "--case" => settings.only = Some(number(option, value()?)?),
+            "--case" => settings.only = Some(which(value()?)?),
+            "--check" => check = Some(value()?.clone()),
             "--fault" => settings.fault = Some(value()?.clone()),
             "--against" => {
                 settings.against = match value()?.as_str() {
@@ -96,9 +104,16 @@ pub fn parse(line: &[String]) -> Result<Command, String> {
         if settings.against == Some(Against::Rattle) {
             return Err("`--faults` belongs to the plain port".to_string());
         }
-        return Ok(Command::Faults(settings));
+        return Ok(Command::Faults(settings, check));
+    }
+    if check.is_some() {
+        return Err("`--check` belongs to `--faults`".to_string());
     }
     Ok(Command::Compare(settings))
+}
+
+fn which(value: &str) -> Result<Which, String> {
+    Which::named(value).ok_or(format!("there is no case `{value}`"))
 }
 
 fn number(option: &str, value: &str) -> Result<u64, String> {
@@ -124,8 +139,8 @@ mod tests {
         assert_eq!((settings.cases, settings.seed), (7, 9));
         assert_eq!(settings.against, Some(Against::Plain));
         assert!(matches!(
-            parsed("--faults --cases 3"),
-            Ok(Command::Faults(_))
+            parsed("--faults --check FAULTS.md"),
+            Ok(Command::Faults(_, Some(_)))
         ));
         assert_eq!(
             parsed("record answers.bin"),
@@ -148,6 +163,8 @@ mod tests {
             Err("`--what` is not an option".to_string())
         );
         assert!(parsed("--against rust").is_err());
+        assert!(parsed("--check FAULTS.md").is_err());
+        assert!(parsed("--case X").is_err());
         assert!(parsed("record").is_err());
         assert!(parsed("--fault Mark9 --against rattle").is_err());
     }

@@ -38,6 +38,13 @@ pub enum Ask {
     GrownSkill(u32),
 }
 
+/// A list call, or the skill call of a result, with the buffer that it is lent.
+#[derive(Clone, Copy, Debug, PartialEq)]
+pub struct Lists {
+    pub result: Option<u32>,
+    pub room: Room,
+}
+
 /// How long a buffer is lent.
 #[derive(Clone, Copy, Debug, PartialEq, Eq, PartialOrd, Ord)]
 pub enum Room {
@@ -47,6 +54,8 @@ pub enum Room {
     Exact,
     /// So many bytes more than the entries take.
     Longer(usize),
+    /// So many bytes, whatever the entries take.
+    Of(usize),
 }
 
 impl Room {
@@ -57,6 +66,7 @@ impl Room {
             Room::OneShort => entries.saturating_sub(1),
             Room::Exact => entries,
             Room::Longer(more) => entries + more,
+            Room::Of(length) => length,
         }
     }
 }
@@ -117,6 +127,7 @@ mod tests {
         assert_eq!(Room::OneShort.length(48), 47);
         assert_eq!(Room::Exact.length(48), 48);
         assert_eq!(Room::Longer(5).length(48), 53);
+        assert_eq!(Room::Of(65_536).length(48), 65_536);
         assert_eq!(Room::OneShort.length(0), 0);
     }
 }

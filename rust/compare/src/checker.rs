@@ -3,7 +3,7 @@
 
 /// The three calls. Each returns the refusal number (0 where answered) times
 /// 4,294,967,296 plus the count (0 where refused).
-pub trait Checker {
+pub trait Checker: Sync {
     /// The list of a fit's violations, written from byte 0 of `out`.
     fn list(&self, catalogue: &[u8], fit: &[u8], out: &mut [u8]) -> u64;
 

@@ -5,6 +5,7 @@ use super::Make;
 use crate::case::Case;
 use crate::names::*;
 use crate::sketch::*;
+use crate::tally::size::AMOUNTS;
 
 const STRUCTURE: i32 = 700;
 
@@ -158,6 +159,14 @@ pub const CASES: &[Make] = &[
     || types(2, -1.0, HIGH),
     || types(2, f64::NAN, HIGH),
     || types(2, 0.0, CARGO),
+    || crowd(AMOUNTS[0]),
+    || crowd(AMOUNTS[1]),
+    || crowd(AMOUNTS[2]),
+    || crowd(AMOUNTS[3]),
+    || crowd(AMOUNTS[4]),
+    || crowd(AMOUNTS[5]),
+    || crowd(AMOUNTS[6]),
+    || crowd(AMOUNTS[7]),
     || {
         Sketch::hull()
             .known(-5, 8, CATEGORY_MODULE)
@@ -254,6 +263,21 @@ fn groups(states: &[u8], allowed: f64) -> Case {
             .with(GROUP_LIMITS + 2, allowed);
     }
     sketch.list("a group's limits by state")
+}
+
+/// 256 active pairs of one type, each with every limit.
+fn crowd(allowed: f64) -> Case {
+    let mut sketch = Sketch::hull().known(5, 8, CATEGORY_MODULE);
+    for index in 0..256 {
+        sketch = sketch
+            .item(5, HIGH, index)
+            .state(ACTIVE)
+            .with(GROUP_LIMITS, allowed)
+            .with(GROUP_LIMITS + 1, allowed)
+            .with(GROUP_LIMITS + 2, allowed)
+            .with(MAX_TYPE_FITTED, allowed);
+    }
+    sketch.list("256 pairs of one type, beside their limits")
 }
 
 fn types(count: u16, allowed: f64, kind: u8) -> Case {

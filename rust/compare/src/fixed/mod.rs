@@ -7,6 +7,7 @@ mod document;
 mod items;
 mod resources;
 mod slots;
+mod tables;
 
 use std::ops::Range;
 
@@ -29,7 +30,7 @@ const TABLES: [&[Make]; 5] = [
 /// are, and how each is made.
 type Row = (fn() -> usize, fn(usize) -> Case);
 
-const MADE: [Row; 7] = [
+const MADE: [Row; 8] = [
     (
         || plant::PLANTS.len(),
         |number| plant::alone(&mut Rng::new(number as u64), plant::Ground::small(), number),
@@ -43,6 +44,7 @@ const MADE: [Row; 7] = [
         },
     ),
     (|| hall::CORNERS, hall::corner),
+    (|| tables::COUNT, tables::case),
     (
         || 5,
         |number| skills::reaching(&mut Rng::new(number as u64), 510 + number),
@@ -63,6 +65,9 @@ pub fn parts() -> [Range<usize>; 3] {
         written..written + made,
     ]
 }
+
+/// How many of the fixed cases, the last ones, have catalogues of 16 MiB.
+pub const LONG: usize = limits::LENGTHS;
 
 /// How many fixed cases there are.
 pub fn count() -> usize {

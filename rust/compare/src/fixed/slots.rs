@@ -4,6 +4,7 @@ use super::Make;
 use crate::case::Case;
 use crate::names::*;
 use crate::sketch::*;
+use crate::tally::size::AMOUNTS;
 
 pub const CASES: &[Make] = &[
     || {
@@ -33,6 +34,14 @@ pub const CASES: &[Make] = &[
     || racks(1, f64::INFINITY),
     || racks(1, 4_294_967_296.0),
     || racks(3, f64::NEG_INFINITY),
+    || racks(256, AMOUNTS[0]),
+    || racks(256, AMOUNTS[1]),
+    || racks(256, AMOUNTS[2]),
+    || racks(256, AMOUNTS[3]),
+    || racks(256, AMOUNTS[4]),
+    || racks(256, AMOUNTS[5]),
+    || racks(256, AMOUNTS[6]),
+    || racks(256, AMOUNTS[7]),
     || {
         Sketch::hull()
             .known(5, 1, CATEGORY_MODULE)

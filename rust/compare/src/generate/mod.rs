@@ -1,13 +1,13 @@
 //! Makes cases from a seed.
 
-mod fit;
+pub mod fit;
 pub mod growth;
 pub mod hall;
 pub mod limits;
 pub mod plant;
 mod raw;
 pub mod skills;
-mod world;
+pub mod world;
 
 use crate::case::{Ask, Case, Room};
 use crate::model::Fit;

@@ -135,6 +135,17 @@ impl World {
         world
     }
 
+    /// Over a catalogue that is there, with the types of each role.
+    pub fn of_rows(catalogue: Catalogue, ids: Vec<i32>, roles: BTreeMap<Role, Vec<i32>>) -> World {
+        let all = catalogue.types.iter().map(|row| row.id).collect();
+        World {
+            catalogue,
+            ids,
+            roles,
+            all,
+        }
+    }
+
     /// A type of a role.
     pub fn a(&self, rng: &mut Rng, role: Role) -> i32 {
         rng.pick(&self.roles[&role])

@@ -1,8 +1,11 @@
 //! The catalogue where it stands: refusals 1 to 3, then lookups in the image.
 
-use super::Flaw;
+use std::cell::RefCell;
+use std::collections::BTreeMap;
+
 use super::bytes::{f32_at, i32_at, u32_at};
 use super::fault::Fault;
+use super::{Flaw, Measure, Number, Rows};
 
 /// A catalogue that is not refused.
 pub struct Catalogue<'a> {
@@ -13,6 +16,10 @@ pub struct Catalogue<'a> {
     types: Block,
     links: Block,
     bases: Block,
+    /// The attribute id of each name.
+    ids: Vec<Option<i32>>,
+    /// Where ids stood, for the fault that trusts it.
+    hints: RefCell<BTreeMap<i32, usize>>,
 }
 
 /// Where one block's keys and values stand.
@@ -60,7 +67,7 @@ impl<'a> Catalogue<'a> {
         let types = block(effects.end(), 2, 16);
         let links = block(types.end(), 3, 4);
         let bases = block(links.end(), 4, 8);
-        let catalogue = Catalogue {
+        let mut catalogue = Catalogue {
             image,
             flaw,
             names,
@@ -68,6 +75,8 @@ impl<'a> Catalogue<'a> {
             types,
             links,
             bases,
+            ids: Vec::new(),
+            hints: RefCell::default(),
         };
         if flaw.has(Fault::RangeBeforeOrder) && !catalogue.is_in_range() {
             return Err(3);
@@ -78,23 +87,16 @@ impl<'a> Catalogue<'a> {
         if !catalogue.is_in_range() {
             return Err(3);
         }
+        catalogue.ids = (0..NAMES).map(|number| catalogue.id_of(number)).collect();
         Ok(catalogue)
     }
 
     fn is_ordered(&self) -> bool {
         let flaw = self.flaw;
-        let unsigned = |block: Block, row: usize| i64::from(u32_at(self.image, block.key(row)));
-        let signed = |block: Block, row: usize| i64::from(i32_at(self.image, block.key(row)));
         let ascends = |block: Block, is_signed: bool, strict: bool| {
-            (1..block.rows).all(|row| {
-                let key = |row| match is_signed {
-                    true => signed(block, row),
-                    false => unsigned(block, row),
-                };
-                key(row - 1) < key(row) || (!strict && key(row - 1) == key(row))
-            })
+            let keys = &self.image[block.start..block.key(block.rows)];
+            ascend(keys, is_signed, strict)
         };
-
         (flaw.has(Fault::NamesUnordered)
             || ascends(
                 self.names,
@@ -119,8 +121,13 @@ impl<'a> Catalogue<'a> {
 
     fn is_in_range(&self) -> bool {
         let flaw = self.flaw;
-        let last_name = if flaw.has(Fault::Name88) { 88 } else { 87 };
-        let last_mark = if flaw.has(Fault::Mark9) { 9 } else { 8 };
+        let last = |last: u32, more: Fault, less: Fault| match () {
+            () if flaw.has(more) => last + 1,
+            () if flaw.has(less) => last - 1,
+            () => last,
+        };
+        let last_name = last(87, Fault::Name88, Fault::Name87Refused);
+        let last_mark = last(8, Fault::Mark9, Fault::Mark8Refused);
         let last_flag = if flaw.has(Fault::VolumeFlag2) { 2 } else { 1 };
         let names = self.names;
         let effects = self.effects;
@@ -132,6 +139,10 @@ impl<'a> Catalogue<'a> {
 
     /// The attribute id of a name number.
     pub fn name(&self, number: usize) -> Option<i32> {
+        self.ids[number]
+    }
+
+    fn id_of(&self, number: usize) -> Option<i32> {
         let number = match self.flaw {
             Flaw::NameLost(lost) if number == lost => return None,
             Flaw::NamesSwapped(first) if number == first => first + 1,
@@ -145,11 +156,12 @@ impl<'a> Catalogue<'a> {
     }
 
     pub fn type_of(&self, id: i32) -> Option<Type> {
-        let row = self.first(self.types, id);
-        if row == self.types.rows || i32_at(self.image, self.types.key(row)) != id {
+        if id < 0 && self.flaw.has(Fault::TypesNegativeLost) {
             return None;
         }
-        let at = self.types.value(row);
+        let id = self.flaw.id(Number::TypeId, id);
+        let row = self.hinted(id).or_else(|| self.found(TYPES, id))?;
+        let at = self.value_at(TYPES, row);
         let given = u32_at(self.image, at + 8) == 1 || self.flaw.has(Fault::CargoFlagIgnored);
         Some(Type {
             group: i32_at(self.image, at),
@@ -158,11 +170,29 @@ impl<'a> Catalogue<'a> {
         })
     }
 
+    /// Where a type with the same hint stood, whichever type that was.
+    fn hinted(&self, id: i32) -> Option<usize> {
+        let hints = match () {
+            () if self.flaw.has(Fault::HintsTrusted64) => 64,
+            () if self.flaw.has(Fault::HintsTrusted8192) => 8_192,
+            () => return None,
+        };
+        let mut held = self.hints.borrow_mut();
+        let place = (id >> 7).rem_euclid(hints);
+        if let Some(row) = held.get(&place) {
+            return Some(*row);
+        }
+        let row = self.found(TYPES, id)?;
+        held.insert(place, row);
+        Some(row)
+    }
+
     /// The rack and the hardpoint that a type's marks name, each from 0.
     pub fn slots_of(&self, type_id: i32) -> (Option<u8>, Option<u8>) {
         let (mut rack, mut hardpoint) = (None, None);
-        for row in self.rows_of(self.links, type_id) {
-            let effect = i32_at(self.image, self.links.value(row));
+        let most = self.flaw.rows(Rows::LinksOfOne, self.links.rows);
+        for row in self.rows_of(LINKS, type_id).take(most) {
+            let effect = i32_at(self.image, self.value_at(LINKS, row));
             let Some(mark) = self.mark(effect) else {
                 if self.flaw.has(Fault::UnknownEffectEnds) {
                     break;
@@ -191,16 +221,24 @@ impl<'a> Catalogue<'a> {
     }
 
     fn mark(&self, effect: i32) -> Option<u32> {
-        let row = self.first(self.effects, effect);
-        (row < self.effects.rows && i32_at(self.image, self.effects.key(row)) == effect)
-            .then(|| u32_at(self.image, self.effects.value(row)))
+        if effect < 0 && self.flaw.has(Fault::EffectsNegativeLost) {
+            return None;
+        }
+        let effect = self.flaw.id(Number::EffectId, effect);
+        let row = self.found(EFFECTS, effect)?;
+        Some(u32_at(self.image, self.value_at(EFFECTS, row)))
     }
 
     /// A type's base value: the first in stored order, widened.
     pub fn base(&self, type_id: i32, attribute: i32) -> Option<f64> {
+        if type_id < 0 && self.flaw.has(Fault::BasesNegativeLost) {
+            return None;
+        }
+        let most = self.flaw.rows(Rows::BasesOfOne, self.bases.rows);
         let mut matching = self
-            .rows_of(self.bases, type_id)
-            .map(|row| self.bases.value(row))
+            .rows_of(BASES, type_id)
+            .take(most)
+            .map(|row| self.value_at(BASES, row))
             .filter(|at| i32_at(self.image, *at) == attribute);
         let at = match self.flaw.has(Fault::BaseLast) {
             true => matching.last(),
@@ -210,23 +248,101 @@ impl<'a> Catalogue<'a> {
     }
 
     /// The rows with one key, of keys that never descend.
-    fn rows_of(&self, block: Block, key: i32) -> impl Iterator<Item = usize> {
-        (self.first(block, key)..block.rows)
-            .take_while(move |row| i32_at(self.image, block.key(*row)) == key)
+    fn rows_of(&self, table: Table, key: i32) -> impl Iterator<Item = usize> {
+        (self.first(table, key)..self.rows(table))
+            .take_while(move |row| self.key_at(table, *row) == key)
+    }
+
+    /// The row of a key that stands once, if it is there.
+    fn found(&self, table: Table, key: i32) -> Option<usize> {
+        let row = self.first(table, key);
+        (row < self.rows(table) && self.key_at(table, row) == key).then_some(row)
     }
 
     /// The first row whose key is not below the one asked for.
-    fn first(&self, block: Block, key: i32) -> usize {
-        let (mut low, mut high) = (0, block.rows);
+    fn first(&self, table: Table, key: i32) -> usize {
+        let (mut low, mut high) = (0, self.rows(table));
+        let is_below = |row: usize| match self.flaw.has(table.by_difference) {
+            true => self.key_at(table, row).wrapping_sub(key) < 0,
+            false => self.key_at(table, row) < key,
+        };
         while low < high {
             let middle = (low + high) / 2;
-            if i32_at(self.image, block.key(middle)) < key {
+            if is_below(middle) {
                 low = middle + 1;
             } else {
                 high = middle;
             }
         }
         low
+    }
+
+    fn block(&self, table: Table) -> Block {
+        match table.rows {
+            Rows::Effects => self.effects,
+            Rows::Types => self.types,
+            Rows::Links => self.links,
+            _ => self.bases,
+        }
+    }
+
+    fn rows(&self, table: Table) -> usize {
+        self.flaw.rows(table.rows, self.block(table).rows)
+    }
+
+    fn key_at(&self, table: Table, row: usize) -> i32 {
+        let row = self.flaw.number(table.row, row);
+        let place = self.block(table).key(row);
+        i32_at(self.image, self.flaw.number(Number::CataloguePlace, place))
+    }
+
+    fn value_at(&self, table: Table, row: usize) -> usize {
+        let row = self.flaw.number(table.row, row);
+        let place = self.block(table).value(row);
+        self.flaw.number(Number::CataloguePlace, place)
+    }
+}
+
+/// A block that is searched, and what may be wrong with the search.
+#[derive(Clone, Copy)]
+struct Table {
+    rows: Rows,
+    row: Number,
+    by_difference: Fault,
+}
+
+const EFFECTS: Table = Table {
+    rows: Rows::Effects,
+    row: Number::EffectRow,
+    by_difference: Fault::EffectsByDifference,
+};
+const TYPES: Table = Table {
+    rows: Rows::Types,
+    row: Number::TypeRow,
+    by_difference: Fault::TypesByDifference,
+};
+const LINKS: Table = Table {
+    rows: Rows::Links,
+    row: Number::LinkRow,
+    by_difference: Fault::LinksByDifference,
+};
+const BASES: Table = Table {
+    rows: Rows::Bases,
+    row: Number::BaseRow,
+    by_difference: Fault::BasesByDifference,
+};
+
+/// How many names there are.
+const NAMES: usize = 88;
+
+/// Whether keys ascend, as signed numbers or as unsigned ones.
+fn ascend(keys: &[u8], is_signed: bool, strict: bool) -> bool {
+    let words = || keys.chunks_exact(4).map(|key| u32_at(key, 0));
+    match (is_signed, strict) {
+        (true, true) => words().map(|key| key as i32).is_sorted_by(|a, b| a < b),
+        (true, false) => words().map(|key| key as i32).is_sorted(),
+        (false, true) => words().is_sorted_by(|a, b| a < b),
+        (false, false) => words().is_sorted(),
     }
 }
 
@@ -236,7 +352,8 @@ fn length_is_right(image: &[u8], flaw: Flaw) -> bool {
         () if flaw.has(Fault::CatalogueLimitRefused) => 16_777_215,
         () => 16_777_216,
     };
-    if image.len() > limit || image.len() < 20 {
+    if image.len() > limit || image.len() < 20 || flaw.refuses(Measure::CatalogueBytes, image.len())
+    {
         return false;
     }
     let size = |number: usize| u64::from(u32_at(image, 4 * number));

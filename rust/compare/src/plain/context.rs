@@ -1,11 +1,11 @@
 //! The pairs of a fit with what the catalogue says of them, and the rules on
 //! hull, mode and skills.
 
-use super::Flaw;
 use super::catalogue::Catalogue;
 use super::entry::{Entries, Target};
 use super::fault::Fault;
 use super::fit::{Fit, HIGH_TO_SERVICE, Item};
+use super::{Flaw, Rows};
 
 const CATEGORY_SHIP: i32 = 6;
 const CATEGORY_SKILL: i32 = 16;
@@ -49,7 +49,7 @@ impl Pair {
 
 impl<'a> Context<'a> {
     pub fn new(catalogue: &'a Catalogue<'a>, fit: &'a Fit<'a>, flaw: Flaw) -> Context<'a> {
-        let pairs = (0..fit.pairs())
+        let pairs = (0..flaw.rows(Rows::Pairs, fit.pairs()))
             .map(|number| {
                 let item = fit.item(number);
                 let (rack, hardpoint) = catalogue.slots_of(item.type_id);
@@ -79,7 +79,7 @@ impl<'a> Context<'a> {
     }
 
     pub fn value(&self, result: usize, id: i32) -> Option<f64> {
-        self.fit.value(result, id)
+        self.fit.value(result, id, self.flaw)
     }
 
     /// A missing value reads as 0 for an amount.
@@ -125,7 +125,7 @@ pub fn kind(context: &Context, entries: &mut Entries) {
         }
     }
 
-    let mut ids: Vec<i32> = (0..fit.skills())
+    let mut ids: Vec<i32> = (0..flaw.rows(Rows::Listed, fit.skills()))
         .map(|number| fit.skill_id(number))
         .collect();
     if flaw.has(Fault::NotASkillBackwards) {

@@ -1,7 +1,7 @@
 //! An entry's 24 bytes.
 
-use super::Flaw;
 use super::fault::Fault;
+use super::{Flaw, Number};
 use crate::checker::Entry;
 
 /// What an entry is about.
@@ -56,7 +56,7 @@ impl Entries {
             Target::Ship if self.flaw.has(Fault::ShipIndex) => (0, u32::MAX),
             Target::Ship => (0, 0),
             Target::Pair(index) if self.flaw.has(Fault::IndexFromOne) => (1, index as u32 + 1),
-            Target::Pair(index) => (1, index as u32),
+            Target::Pair(index) => (1, self.flaw.number(Number::PairIndex, index) as u32),
         };
         let fourth = u8::from(self.flaw.has(Fault::FourthByte));
         let mut entry = [0; 24];

@@ -32,9 +32,21 @@ faults! {
     LinksUnordered: "the order of links is not checked",
     BasesStrict: "a type may have one base only",
     BasesUnordered: "the order of bases is not checked",
+    // Searches in the catalogue.
+    EffectsByDifference: "effect ids are compared by the sign of their difference in 32 bits",
+    TypesByDifference: "type ids are compared by the sign of their difference in 32 bits",
+    LinksByDifference: "the types of links are compared by the sign of their difference in 32 bits",
+    BasesByDifference: "the types of bases are compared by the sign of their difference in 32 bits",
+    EffectsNegativeLost: "an effect with a negative id has no mark",
+    TypesNegativeLost: "a type with a negative id is not found",
+    BasesNegativeLost: "a type with a negative id has no base values",
+    HintsTrusted64: "a type is looked for where another one stood, in one of 64 places",
+    HintsTrusted8192: "a type is looked for where another one stood, in one of 8,192 places",
     // Refusal 3.
     Name88: "name number 88 is taken",
+    Name87Refused: "name number 87 is refused",
     Mark9: "mark 9 is taken",
+    Mark8Refused: "mark 8 is refused",
     VolumeFlag2: "volume flag 2 is taken",
     RangeBeforeOrder: "refusal 3 is given before refusal 2",
     // Refusal 4.
@@ -55,6 +67,7 @@ faults! {
     AttributesMayRepeat: "an attribute id may stand twice in a result",
     AttributesAcross: "attribute ids must ascend from one result to the next",
     AttributesUnordered: "the order of attribute ids is not checked",
+    AttributesNegativeLost: "an attribute with a negative id has no value",
     // Refusal 6.
     RangeBeforeIds: "refusal 6 is given before refusal 5",
     Kind12: "slot kind 12 is taken",
@@ -142,6 +155,7 @@ faults! {
     // slot.
     SlotsRounded: "slot amounts are rounded",
     SlotsWrap: "a negative slot amount wraps",
+    SlotsU8: "slot amounts are cast to u8",
     SlotsMissing: "a ship without the attribute has any number of slots",
     HardpointsUnfitted: "weapons outside the racks take hardpoints",
     HardpointsFirst: "hardpoints are listed before racks",
@@ -196,9 +210,11 @@ faults! {
     GroupUnfitted: "group limits count outside the racks",
     GroupFirst: "a group's limit is read from its first pair",
     GroupRounded: "allowed is rounded",
+    GroupU8: "MaxGroup casts allowed to u8",
     TypeQuantity: "MaxType counts quantities",
     TypeUnfitted: "MaxType counts outside the racks",
     TypeAtLimit: "MaxType is listed at the limit",
+    TypeU8: "MaxType casts allowed to u8",
     // skill.
     WalkDirect: "the walk notes the direct demands and idles",
     WalkTwoSteps: "the walk ends after two steps",
@@ -209,6 +225,8 @@ faults! {
     LevelWraps: "a level over 255 wraps",
     SkillRounded: "a skill's id is rounded",
     SkillSixth: "requiredSkill6 is left out",
+    TrainedNegativeLost: "a skill with a negative id counts as not trained",
+    WantedNegativeLost: "a skill with a negative id is not wanted",
     SkillUntrained: "a skill that is not listed counts as trained",
     SkillAtLevel: "a skill trained to its level is listed",
     SkillSorted: "skills go by ascending id",

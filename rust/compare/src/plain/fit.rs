@@ -1,8 +1,8 @@
 //! The fit where it stands: refusals 4 to 6, then its fields in the image.
 
-use super::Flaw;
 use super::bytes::{f64_at, i32_at, u16_at, u32_at};
 use super::fault::Fault;
+use super::{Flaw, Measure, Number, Rows};
 
 pub const HIGH_TO_SERVICE: std::ops::RangeInclusive<u8> = 0..=5;
 pub const RIG: u8 = 3;
@@ -37,7 +37,10 @@ pub struct Item {
 
 impl<'a> Fit<'a> {
     pub fn open(image: &'a [u8], flaw: Flaw) -> Result<Fit<'a>, u8> {
-        if flaw.has(Fault::AllRefused) || image.len() < 36 {
+        if flaw.has(Fault::AllRefused)
+            || image.len() < 36
+            || flaw.refuses(Measure::FitBytes, image.len())
+        {
             return Err(4);
         }
         let mut fit = Fit {
@@ -185,8 +188,12 @@ impl<'a> Fit<'a> {
     }
 
     /// The trained level of a skill that is listed.
-    pub fn trained(&self, id: i32) -> Option<u8> {
-        (0..self.skills)
+    pub fn trained(&self, id: i32, flaw: Flaw) -> Option<u8> {
+        if id < 0 && flaw.has(Fault::TrainedNegativeLost) {
+            return None;
+        }
+        let id = flaw.id(Number::TrainedId, id);
+        (0..flaw.rows(Rows::Trained, self.skills))
             .find(|number| self.skill_id(*number) == id)
             .map(|number| self.image[28 + 4 * self.skills + number])
     }
@@ -215,11 +222,22 @@ impl<'a> Fit<'a> {
     }
 
     /// What an attribute of a result reached: 0 ship, 1 character, 2 first item.
-    pub fn value(&self, result: usize, attribute: i32) -> Option<f64> {
+    pub fn value(&self, result: usize, attribute: i32, flaw: Flaw) -> Option<f64> {
+        if attribute < 0 && flaw.has(Fault::AttributesNegativeLost) {
+            return None;
+        }
+        let attribute = flaw.id(Number::AttributeId, attribute);
+        let (start, end) = (self.starts[result], self.starts[result + 1]);
+        let end = start + flaw.rows(Rows::Attributes, end - start);
+        let end = flaw.rows(Rows::AllAttributes, end).max(start);
         let values = self.head(self.results + 2) + 4 * self.attributes;
-        (self.starts[result]..self.starts[result + 1])
-            .find(|at| self.attribute_id(*at) == attribute)
-            .map(|at| f64_at(self.image, values + 8 * at))
+        let first = self.head(self.results + 2);
+        let mut ids = self.image[first + 4 * start..first + 4 * end].chunks_exact(4);
+        ids.position(|id| id == attribute.to_le_bytes()).map(|row| {
+            let at = start + flaw.number(Number::AttributeRow, row);
+            let place = flaw.number(Number::FitPlace, values + 8 * at);
+            f64_at(self.image, place)
+        })
     }
 }
 

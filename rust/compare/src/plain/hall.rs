@@ -4,7 +4,7 @@ use super::bytes::u32_at;
 use super::catalogue::Catalogue;
 use super::fault::Fault;
 use super::fit::Fit;
-use super::{Flaw, list};
+use super::{Flaw, Measure, Number, Rows, list};
 use crate::checker::refused;
 
 #[derive(Clone, Copy, PartialEq)]
@@ -46,7 +46,7 @@ pub fn hall(catalogue: &[u8], input: &[u8], flaw: Flaw) -> u64 {
 
 /// The fits of the input, or refusal 4.
 fn fits(input: &[u8], flaw: Flaw) -> Result<Vec<&[u8]>, u8> {
-    if input.len() < 4 {
+    if input.len() < 4 || flaw.refuses(Measure::HallBytes, input.len()) {
         return Err(4);
     }
     let count = u32_at(input, 0) as usize;
@@ -77,9 +77,11 @@ fn fits(input: &[u8], flaw: Flaw) -> Result<Vec<&[u8]>, u8> {
     let mut fits = Vec::new();
     for length in lengths {
         let end = (at as u64 + length).min(given) as usize;
-        fits.push(&input[at..end]);
+        let start = flaw.number(Number::HallPlace, at);
+        fits.push(&input[start..start + (end - at)]);
         at = end;
     }
+    fits.truncate(flaw.rows(Rows::HallFits, count));
     Ok(fits)
 }
 

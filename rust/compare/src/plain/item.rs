@@ -1,5 +1,6 @@
 //! Six rules on what is fitted, in their order.
 
+use super::Number;
 use super::bytes::{to_i32, to_u8, to_u32};
 use super::context::{CATEGORY_STRUCTURE, Context, Pair};
 use super::entry::Entries;
@@ -207,10 +208,12 @@ fn group_limit(context: &Context, entries: &mut Entries, limit: u8, pair: &Pair)
         .iter()
         .filter(|other| other.is_fitted() || flaw.has(Fault::GroupUnfitted))
         .filter(|other| other.group == pair.group && other.state >= least)
-        .count() as u32;
-    let allowed = match flaw.has(Fault::GroupRounded) {
-        true => to_u32(allowed.round()),
-        false => to_u32(allowed),
+        .count();
+    let used = flaw.number(Number::GroupUsed, used) as u32;
+    let allowed = match () {
+        () if flaw.has(Fault::GroupRounded) => to_u32(allowed.round()),
+        () if flaw.has(Fault::GroupU8) => to_u8(allowed).into(),
+        () => flaw.amount(Number::GroupAllowed, allowed, to_u32(allowed)),
     };
     if used > allowed {
         entries.add(
@@ -241,9 +244,12 @@ fn type_limit(context: &Context, entries: &mut Entries) {
             .filter(|other| other.item.type_id == pair.item.type_id);
         let used = match flaw.has(Fault::TypeQuantity) {
             true => same.fold(0u32, |sum, other| sum.wrapping_add(other.item.quantity)),
-            false => same.count() as u32,
+            false => flaw.number(Number::TypeUsed, same.count()) as u32,
         };
-        let allowed = to_u32(allowed);
+        let allowed = match flaw.has(Fault::TypeU8) {
+            true => to_u8(allowed).into(),
+            false => flaw.amount(Number::TypeAllowed, allowed, to_u32(allowed)),
+        };
         if used > allowed || (used == allowed && flaw.has(Fault::TypeAtLimit)) {
             let words = [pair.item.type_id as u32, used, allowed];
             entries.add(pair.target(), 18, 0, &words);

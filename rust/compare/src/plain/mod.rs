@@ -8,6 +8,7 @@ mod context;
 mod entry;
 mod fault;
 mod fit;
+mod flaw;
 mod hall;
 mod item;
 mod resource;
@@ -22,32 +23,12 @@ use fit::Fit;
 use crate::checker::{Checker, ENTRY, Entry, refused};
 
 pub use fault::{FAULTS, Fault};
+pub use flaw::{Flaw, Measure, Number, Rows};
 
 /// The port, with at most one fault.
 #[derive(Clone, Copy, Default)]
 pub struct Plain {
     flaw: Flaw,
-}
-
-/// What is wrong, if anything.
-#[derive(Clone, Copy, Debug, Default, PartialEq, Eq)]
-pub enum Flaw {
-    #[default]
-    None,
-    /// One wrong turn.
-    Fault(Fault),
-    /// A name of the tables is passed over.
-    NameLost(usize),
-    /// A name of the tables and the next one change places.
-    NamesSwapped(usize),
-    /// A mark and the next one change places.
-    MarksSwapped(u32),
-}
-
-impl Flaw {
-    fn has(self, fault: Fault) -> bool {
-        self == Flaw::Fault(fault)
-    }
 }
 
 impl Plain {
@@ -79,7 +60,8 @@ impl Checker for Plain {
             return refused(8);
         }
         let listed = opened(catalogue, fit, self.flaw).and_then(|(catalogue, fit)| {
-            match skill(&catalogue, &fit, result as usize, self.flaw) {
+            let result = self.flaw.number(Number::Result, result as usize);
+            match skill(&catalogue, &fit, result, self.flaw) {
                 Err(9) if self.flaw.has(Fault::RoomBeforeWalk) && out.len() < ENTRY => Err(10),
                 listed => listed,
             }
@@ -122,6 +104,21 @@ fn list(catalogue: &Catalogue, fit: &Fit, flaw: Flaw) -> Result<Vec<Entry>, u8> 
     resource::validate(&context, &mut entries);
     slot::validate(&context, &mut entries);
     item::validate(&context, &mut entries);
+    shortened(entries, flaw, Rows::ListEntries, Measure::ListEntries)
+}
+
+/// The entries, where the flaw is not about how many they are.
+fn shortened(
+    mut entries: Entries,
+    flaw: Flaw,
+    rows: Rows,
+    measure: Measure,
+) -> Result<Vec<Entry>, u8> {
+    if flaw.refuses(measure, entries.found.len()) {
+        return Err(10);
+    }
+    let kept = flaw.rows(rows, entries.found.len());
+    entries.found.truncate(kept);
     Ok(entries.found)
 }
 
@@ -147,7 +144,7 @@ fn skill(catalogue: &Catalogue, fit: &Fit, result: usize, flaw: Flaw) -> Result<
     }
     let mut entries = Entries::new(flaw);
     skill::report(&context, result, &mut entries)?;
-    Ok(entries.found)
+    shortened(entries, flaw, Rows::SkillEntries, Measure::SkillEntries)
 }
 
 /// Writes the entries where they have room; the word of the call.
@@ -169,9 +166,10 @@ fn answer(listed: Result<Vec<Entry>, u8>, out: &mut [u8], flaw: Flaw) -> u64 {
         () if flaw.has(Fault::RoomOneShort) => bytes.len().saturating_sub(1),
         () => bytes.len(),
     };
-    if out.len() < needed {
+    let room = flaw.number(Number::OutLength, out.len());
+    if room < needed || flaw.refuses(Measure::OutBytes, out.len()) {
         if flaw.has(Fault::ShortRoomFilled) {
-            let whole = out.len() / ENTRY * ENTRY;
+            let whole = (out.len() / ENTRY * ENTRY).min(bytes.len());
             out[..whole].copy_from_slice(&bytes[..whole]);
         }
         let counted = if flaw.has(Fault::RefusalCounts) {
@@ -181,12 +179,19 @@ fn answer(listed: Result<Vec<Entry>, u8>, out: &mut [u8], flaw: Flaw) -> u64 {
         };
         return refused(10) + counted;
     }
+    write(&bytes, out, flaw);
+    flaw.number(Number::Count, count as usize) as u64
+}
+
+/// Writes the entries' bytes from byte 0 on.
+fn write(bytes: &[u8], out: &mut [u8], flaw: Flaw) {
     if !flaw.has(Fault::NothingWritten) {
         let written = bytes.len().min(out.len());
-        out[..written].copy_from_slice(&bytes[..written]);
+        for (at, byte) in bytes[..written].iter().enumerate() {
+            out[flaw.number(Number::OutPlace, at)] = *byte;
+        }
     }
     if flaw.has(Fault::TailCleared) {
         out[bytes.len()..].fill(0);
     }
-    count
 }

@@ -1,5 +1,6 @@
 //! The walk over the skills that one result demands.
 
+use super::Number;
 use super::bytes::{to_i32, to_u8};
 use super::context::Context;
 use super::entry::{Entries, Target};
@@ -43,7 +44,7 @@ pub fn report(context: &Context, result: usize, entries: &mut Entries) -> Result
         wanted.sort();
     }
     for (id, level) in wanted {
-        let trained = match context.fit.trained(id) {
+        let trained = match context.fit.trained(id, flaw) {
             Some(trained) => trained,
             None if flaw.has(Fault::SkillUntrained) => continue,
             None => 0,
@@ -124,6 +125,10 @@ fn demands(
             true => to_i32(id.round()),
             false => to_i32(id),
         };
+        if id < 0 && flaw.has(Fault::WantedNegativeLost) {
+            continue;
+        }
+        let id = flaw.id(Number::WantedId, id);
         walk.note(context, id, level);
     }
 }

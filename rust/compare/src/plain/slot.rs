@@ -1,5 +1,6 @@
 //! Racks, hardpoints, and eight checks per pair.
 
+use super::Number;
 use super::bytes::{to_u8, to_u16, to_u32};
 use super::context::{Context, Pair};
 use super::entry::{Entries, Target};
@@ -90,8 +91,10 @@ fn slots(context: &Context, entries: &mut Entries, slot: u8, name: usize, used: 
     let available = match () {
         () if flaw.has(Fault::SlotsRounded) => to_u32(amount.round()),
         () if flaw.has(Fault::SlotsWrap) && amount < 0.0 => amount as i64 as u32,
-        () => to_u32(amount),
+        () if flaw.has(Fault::SlotsU8) => to_u8(amount).into(),
+        () => flaw.amount(Number::SlotsAmount, amount, to_u32(amount)),
     };
+    let used = flaw.number(Number::SlotsUsed, used);
     if used as u32 > available {
         entries.add(Target::Ship, 2, slot, &[used as u32, available]);
     }

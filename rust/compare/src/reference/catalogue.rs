@@ -5,6 +5,7 @@ use original::{Info, Vector, eve};
 use super::Refusal;
 use super::words::Reader;
 use crate::names;
+use crate::tally::size::Block;
 
 /// The most bytes that a catalogue may have.
 const LIMIT: usize = 16_777_216;
@@ -127,9 +128,14 @@ impl Catalogue {
         at.ok().map(|at| self.names[at].1)
     }
 
-    /// How many bases there are.
-    pub fn bases(&self) -> usize {
-        self.bases.keys.len()
+    /// How many rows a block has.
+    pub fn rows(&self, block: Block) -> usize {
+        match block {
+            Block::Effects => self.effects.len(),
+            Block::Types => self.types.len(),
+            Block::Links => self.links.keys.len(),
+            Block::Bases => self.bases.keys.len(),
+        }
     }
 
     /// The volume of a type that is there and has one.

@@ -14,6 +14,7 @@ use crate::checker::{Checker, ENTRY, Entry, refused};
 use crate::names;
 
 pub use catalogue::Catalogue;
+pub use encode::entry;
 pub use fit::Fit;
 
 /// A refusal's number.
@@ -143,7 +144,7 @@ pub fn skill(catalogue: &Catalogue, fit: &Fit, result: u32) -> Result<Listed, Re
 /// How many distinct skills a result wants, at whatever level.
 pub fn wanted(catalogue: &Catalogue, fit: &Fit, result: u32) -> Option<usize> {
     let outcome = fit.result(result)?;
-    Some(fit.run(catalogue).wanted_skills(outcome).len())
+    Some(fit.wanted_skills(catalogue, outcome).len())
 }
 
 /// The fits of a hall input: refusal 4 where its frame is broken.
@@ -164,17 +165,40 @@ pub fn hall_fits(input: &[u8]) -> Result<Vec<&[u8]>, Refusal> {
     if rest.is_empty() { Ok(fits) } else { Err(4) }
 }
 
+/// What becomes of a fit in a hall.
+#[derive(Clone, Copy, Debug, PartialEq, Eq, PartialOrd, Ord)]
+pub enum Fate {
+    Clear,
+    Faulted,
+    Refused(Refusal),
+}
+
+/// What becomes of each fit of a hall input.
+pub fn fates(catalogue: &Catalogue, input: &[u8]) -> Result<Vec<Fate>, Refusal> {
+    let fate = |image: &[u8]| match Fit::decode(image).and_then(|fit| list(catalogue, &fit)) {
+        Err(refusal) => Fate::Refused(refusal),
+        Ok(listed) if listed.entries.is_empty() => Fate::Clear,
+        Ok(_) => Fate::Faulted,
+    };
+    Ok(hall_fits(input)?.into_iter().map(fate).collect())
+}
+
 /// The hall numbers over a decoded catalogue.
 pub fn hall(catalogue: &Catalogue, input: &[u8]) -> Result<Hall, Refusal> {
+    Ok(numbers(&fates(catalogue, input)?))
+}
+
+/// How many fits are clear, faulted and refused.
+pub fn numbers(fates: &[Fate]) -> Hall {
     let mut numbers = Hall::default();
-    for image in hall_fits(input)? {
-        match Fit::decode(image).and_then(|fit| list(catalogue, &fit)) {
-            Err(_) => numbers.refused += 1,
-            Ok(listed) if listed.entries.is_empty() => numbers.clear += 1,
-            Ok(_) => numbers.faulted += 1,
+    for fate in fates {
+        match fate {
+            Fate::Clear => numbers.clear += 1,
+            Fate::Faulted => numbers.faulted += 1,
+            Fate::Refused(_) => numbers.refused += 1,
         }
     }
-    Ok(numbers)
+    numbers
 }
 
 fn is_cargo(violation: &Violation) -> bool {
@@ -198,6 +222,15 @@ impl Fit {
             fit: &self.fit,
             calculation: &self.calculation,
         }
+    }
+
+    /// The skills that a result wants, each with its level.
+    pub fn wanted_skills(
+        &self,
+        catalogue: &Catalogue,
+        outcome: &original::ItemResult,
+    ) -> Vec<(i32, u8)> {
+        self.run(catalogue).wanted_skills(outcome)
     }
 
     /// The pairs: the first min(F, R) items with their results.

@@ -4,14 +4,15 @@ use original::{Info, ItemResult, Slot};
 
 use super::Tally;
 use super::edge::{CapitalEdge, Edge, Shape, Spot};
-use super::point::{Point, Size};
+use super::point::{Call, Point};
+use super::wide;
 use crate::names::*;
 use crate::numbers::{Width, limit};
 use crate::reference::{Catalogue, Fit};
 
 /// What a list call's inputs meet.
 pub fn fit(tally: &mut Tally, catalogue: &Catalogue, fit: &Fit) {
-    sizes(tally, fit);
+    wide::sizes(tally, fit);
     let Some(ship) = catalogue.get_type(fit.fit.ship.type_id) else {
         return;
     };
@@ -21,6 +22,7 @@ pub fn fit(tally: &mut Tally, catalogue: &Catalogue, fit: &Fit) {
         return;
     }
     names(tally, catalogue);
+    wide::list(tally, catalogue, fit);
     loads(tally, catalogue, fit);
     for row in 0..8 {
         if let Some(value) = value(catalogue, &fit.calculation.ship, RACKS + row) {
@@ -49,6 +51,8 @@ pub fn skill(tally: &mut Tally, catalogue: &Catalogue, fit: &Fit, result: u32) {
     let Some(outcome) = fit.result(result) else {
         return;
     };
+    wide::named(tally, Call::Skill, catalogue, (result, outcome), fit);
+    wide::skill(tally, catalogue, fit, outcome);
     for row in 0..6 {
         let (skill, level) = (REQUIRED + 2 * row, REQUIRED + 2 * row + 1);
         let Some(wanted) = value(catalogue, outcome, skill) else {
@@ -64,12 +68,12 @@ pub fn skill(tally: &mut Tally, catalogue: &Catalogue, fit: &Fit, result: u32) {
     }
 }
 
-fn value(catalogue: &Catalogue, result: &ItemResult, name: usize) -> Option<f64> {
+pub fn value(catalogue: &Catalogue, result: &ItemResult, name: usize) -> Option<f64> {
     let id = catalogue.name(name)?;
     result.attributes.get(&id).map(|attribute| attribute.value)
 }
 
-fn kind(slot: Slot) -> u8 {
+pub fn kind(slot: Slot) -> u8 {
     match slot {
         Slot::High(_) => 0,
         Slot::Medium(_) => 1,
@@ -98,29 +102,6 @@ fn is_highest(slot: Slot) -> bool {
         | Slot::Implant(index) => index == 255,
         Slot::Booster(index) => index == 65_535,
         Slot::FighterBay | Slot::DroneBay | Slot::Cargo => false,
-    }
-}
-
-fn sizes(tally: &mut Tally, fit: &Fit) {
-    let calculation = &fit.calculation;
-    let attributes: usize = [&calculation.ship, &calculation.character]
-        .into_iter()
-        .chain(&calculation.items)
-        .map(|result| result.attributes.len())
-        .sum();
-    let full = [
-        (Size::Skills, fit.fit.character.skills.len() == 1_024),
-        (Size::Items, fit.fit.items.len() == 256),
-        (Size::Results, calculation.items.len() == 256),
-        (Size::Attributes, attributes == 30_000),
-    ];
-    for (size, is_full) in full {
-        if is_full {
-            tally.meet(Point::Full(size));
-        }
-    }
-    if full.iter().all(|(_, is_full)| *is_full) {
-        tally.meet(Point::Full(Size::All));
     }
 }
 

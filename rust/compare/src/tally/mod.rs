@@ -3,16 +3,20 @@
 mod edge;
 mod look;
 mod point;
+pub mod size;
+mod wide;
 
 use std::collections::BTreeMap;
 
-use crate::case::{Ask, Case, Room};
+use crate::case::{Ask, Case, Lists};
 use crate::checker::{ENTRY, Entry};
 use crate::grown;
-use crate::reference::{self, Catalogue, Fit, Listed};
+use crate::reference::{self, Catalogue, Fate, Fit, Listed};
 
 pub use edge::{Shape, Spot};
-pub use point::{Call, Fate, Point, Size};
+pub use point::{Call, Point, RoomKind};
+
+use size::{Block, LONGEST_LIST};
 
 /// How often each point was met.
 #[derive(Default)]
@@ -22,13 +26,42 @@ pub struct Tally {
     pub calls: u64,
     /// Entries compared.
     pub entries: u64,
-    /// Where the sign of an empty cargo sum is free: the checker's +0 and −0.
-    pub zeros: (u64, u64),
+    pub zeros: Zeros,
+}
+
+/// Where the sign of an empty cargo sum is free: the checker's +0 and −0.
+#[derive(Default)]
+pub struct Zeros {
+    pub plus: u64,
+    pub minus: u64,
+}
+
+impl Zeros {
+    /// The sign that the checker gave to an empty cargo sum, if there is one.
+    pub fn note(&mut self, listed: &Listed, written: &[u8]) {
+        if let Some(number) = listed.either_zero {
+            match written[ENTRY * number + 15] {
+                0 => self.plus += 1,
+                _ => self.minus += 1,
+            }
+        }
+    }
 }
 
 impl Tally {
     pub fn meet(&mut self, point: Point) {
         *self.met.entry(point).or_default() += 1;
+    }
+
+    /// Takes in what another tally counted.
+    pub fn add(&mut self, other: Tally) {
+        for (point, count) in other.met {
+            *self.met.entry(point).or_default() += count;
+        }
+        self.calls += other.calls;
+        self.entries += other.entries;
+        self.zeros.plus += other.zeros.plus;
+        self.zeros.minus += other.zeros.minus;
     }
 
     /// Every point that has to be met, with its count.
@@ -48,7 +81,7 @@ impl Tally {
         if let [second, first] = case.planted[..] {
             self.meet(Point::Pair(first.refusal, second.refusal));
         }
-        if (16_777_216..=16_777_220).contains(&catalogue_length) {
+        if (16_777_212..=16_777_220).contains(&catalogue_length) {
             self.meet(Point::CatalogueLength(catalogue_length as u32));
         }
         if case.asks.contains(&Ask::Hall) {
@@ -56,23 +89,43 @@ impl Tally {
         }
     }
 
-    /// A list or skill call with the word that it must give.
-    pub fn call(&mut self, is_skill: bool, room: Room, word: u64) {
+    /// A list or skill call with its buffer's length and the word that it must
+    /// give.
+    pub fn call(&mut self, lists: Lists, length: usize, word: u64) {
         self.calls += 1;
-        let call = if is_skill { Call::Skill } else { Call::List };
+        let call = Call::of(lists);
         let refusal = (word >> 32) as u8;
         if refusal != 0 {
             self.meet(Point::Refusal(call, refusal));
         }
+        if let (8, Some(result)) = (refusal, lists.result) {
+            self.meet(Point::ResultNumber(result));
+        }
         if word > 0 && (refusal == 0 || refusal == 10) {
-            self.meet(Point::Room(call, room.into()));
+            self.meet(Point::Buffer(call, length as u32));
+            if let Some(kind) = RoomKind::of(lists.room) {
+                self.meet(Point::Room(call, kind));
+            }
+        }
+    }
+
+    /// An answered call's catalogue.
+    pub fn catalogue(&mut self, call: Call, catalogue: &Catalogue) {
+        let rows = Block::ALL.map(|block| (block, catalogue.rows(block)));
+        if rows.iter().all(|(block, rows)| *rows >= block.full_size()) {
+            self.meet(Point::FullSize(call));
+        }
+        for (block, rows) in rows {
+            if rows * block.width() > 16_700_000 {
+                self.meet(Point::Most(block));
+            }
         }
     }
 
     /// A skill call, answered or not: the length of its walk.
     pub fn walk(&mut self, catalogue: &Catalogue, fit: &Fit, result: u32) {
         // No walk is long where the bases are few.
-        if catalogue.bases() >= 500
+        if catalogue.rows(Block::Bases) >= 500
             && let Some(wanted) = reference::wanted(catalogue, fit, result)
         {
             self.meet(Point::Wanted(wanted as u32));
@@ -82,12 +135,22 @@ impl Tally {
     /// An answered list call.
     pub fn list(&mut self, catalogue: &Catalogue, fit: &Fit, listed: &Listed) {
         self.listed(listed);
+        let count = listed.entries.len() as u32;
+        if count > 2_730 {
+            self.meet(Point::ListOver(2_730));
+        }
+        if count == LONGEST_LIST {
+            self.meet(Point::LongestList);
+        }
         look::fit(self, catalogue, fit);
     }
 
     /// An answered skill call.
     pub fn skill(&mut self, catalogue: &Catalogue, fit: &Fit, result: u32, listed: &Listed) {
         self.listed(listed);
+        if listed.entries.len() == 512 {
+            self.meet(Point::AllSkills);
+        }
         look::skill(self, catalogue, fit, result);
     }
 
@@ -109,27 +172,12 @@ impl Tally {
         }
     }
 
-    /// The sign that the checker gave to an empty cargo sum.
-    pub fn zero(&mut self, listed: &Listed, written: &[u8]) {
-        if let Some(number) = listed.either_zero {
-            match written[ENTRY * number + 15] {
-                0 => self.zeros.0 += 1,
-                _ => self.zeros.1 += 1,
-            }
+    /// An answered hall call, with the length of its input.
+    pub fn hall(&mut self, fates: &[Fate], length: usize) {
+        for fate in fates {
+            self.meet(Point::HallFit(*fate));
         }
-    }
-
-    /// A hall call whose catalogue is in order.
-    pub fn hall(&mut self, catalogue: &Catalogue, input: &[u8]) {
-        for image in reference::hall_fits(input).unwrap_or_default() {
-            let listed = Fit::decode(image).and_then(|fit| reference::list(catalogue, &fit));
-            let fate = match listed {
-                Ok(listed) if listed.entries.is_empty() => Fate::Clear,
-                Ok(_) => Fate::Faulted,
-                Err(refusal) => Fate::Refused(refusal),
-            };
-            self.meet(Point::HallFit(fate));
-        }
+        self.meet(Point::HallInput(length as u32));
     }
 
     /// The word that a hall call must give.

@@ -3,10 +3,15 @@
 use std::fmt;
 
 use super::edge::{CapitalEdge, Edge, Shape, Spot};
-use crate::case::{Plant, Room};
+use super::size::{
+    AMOUNTS, Block, Counting, HELD, Holder, IdOf, LARGEST_HALL, LIST_BUFFERS, LONGEST_LIST, Part,
+    Place, RESULTS, Region, SKILL_BUFFERS,
+};
+use crate::case::{Lists, Plant, Room};
 use crate::generate::plant;
 use crate::names::NAMES;
 use crate::numbers::Width;
+use crate::reference::Fate;
 use crate::words::{KINDS, LIMITS, RACKS, RESOURCES, RULES, STATES};
 
 #[derive(Clone, Copy, Debug, PartialEq, Eq, PartialOrd, Ord)]
@@ -27,8 +32,32 @@ pub enum Point {
     HallFits(u32),
     HallFit(Fate),
     Wanted(u32),
-    Full(Size),
+    /// So many of what a fit holds, in an answered call.
+    Held(Part, u32),
+    /// Skills, items, results and attributes all at their limit.
+    AllFull,
+    /// A call over a catalogue of full size.
+    FullSize(Call),
+    /// A catalogue that is nearly all of one block, as long as it may be.
+    Most(Block),
     CatalogueLength(u32),
+    /// A list of more than so many entries.
+    ListOver(u32),
+    LongestList,
+    /// 512 entries of skills.
+    AllSkills,
+    /// A buffer of so many bytes.
+    Buffer(Call, u32),
+    /// An attribute that the call reads, in a result of 30,000.
+    Named(Call, Holder, Place),
+    /// An id that is found in a catalogue of full size, or is asked of one.
+    Id(IdOf, Region),
+    /// A result number that is refused.
+    ResultNumber(u32),
+    /// 256 pairs beside the amount of a number.
+    Amount(Counting, u8),
+    /// A hall input of so many bytes, answered.
+    HallInput(u32),
     Cast(Width, Spot),
     Over(Edge),
     Volume(CapitalEdge),
@@ -45,6 +74,15 @@ pub enum Call {
     Hall,
 }
 
+impl Call {
+    pub fn of(lists: Lists) -> Call {
+        match lists.result {
+            None => Call::List,
+            Some(_) => Call::Skill,
+        }
+    }
+}
+
 #[derive(Clone, Copy, Debug, PartialEq, Eq, PartialOrd, Ord)]
 pub enum RoomKind {
     Empty,
@@ -53,54 +91,24 @@ pub enum RoomKind {
     Longer,
 }
 
-impl From<Room> for RoomKind {
-    fn from(room: Room) -> RoomKind {
+impl RoomKind {
+    /// The kind of a room, where it does not depend on the entries.
+    pub fn of(room: Room) -> Option<RoomKind> {
         match room {
-            Room::Empty => RoomKind::Empty,
-            Room::OneShort => RoomKind::OneShort,
-            Room::Exact | Room::Longer(0) => RoomKind::Exact,
-            Room::Longer(_) => RoomKind::Longer,
+            Room::Empty => Some(RoomKind::Empty),
+            Room::OneShort => Some(RoomKind::OneShort),
+            Room::Exact | Room::Longer(0) => Some(RoomKind::Exact),
+            Room::Longer(_) => Some(RoomKind::Longer),
+            Room::Of(_) => None,
         }
     }
-}
 
-impl RoomKind {
     fn words(self) -> &'static str {
         match self {
             RoomKind::Empty => "empty buffer",
             RoomKind::OneShort => "buffer one byte short",
             RoomKind::Exact => "buffer of the exact length",
             RoomKind::Longer => "longer buffer",
-        }
-    }
-}
-
-/// What becomes of a fit in a hall.
-#[derive(Clone, Copy, Debug, PartialEq, Eq, PartialOrd, Ord)]
-pub enum Fate {
-    Clear,
-    Faulted,
-    Refused(u8),
-}
-
-/// A size at its limit in an answered call.
-#[derive(Clone, Copy, Debug, PartialEq, Eq, PartialOrd, Ord)]
-pub enum Size {
-    Skills,
-    Items,
-    Results,
-    Attributes,
-    All,
-}
-
-impl Size {
-    fn words(self) -> &'static str {
-        match self {
-            Size::Skills => "1,024 skills",
-            Size::Items => "256 items",
-            Size::Results => "256 results",
-            Size::Attributes => "30,000 attributes",
-            Size::All => "1,024 skills, 256 items, 256 results and 30,000 attributes at once",
         }
     }
 }
@@ -139,15 +147,7 @@ pub fn required() -> Vec<Point> {
     points.extend([Fate::Clear, Fate::Faulted].map(Point::HallFit));
     points.extend((4..=7).map(|refusal| Point::HallFit(Fate::Refused(refusal))));
     points.extend((510..=514).map(Point::Wanted));
-    let sizes = [
-        Size::Skills,
-        Size::Items,
-        Size::Results,
-        Size::Attributes,
-        Size::All,
-    ];
-    points.extend(sizes.map(Point::Full));
-    points.extend([16_777_216, 16_777_217, 16_777_220].map(Point::CatalogueLength));
+    points.extend(sizes());
     for width in Width::ALL {
         points.extend(Spot::ALL.map(|spot| Point::Cast(width, spot)));
     }
@@ -162,6 +162,34 @@ pub fn required() -> Vec<Point> {
     points.extend(Shape::ALL.map(Point::Shape));
     points.extend([Call::List, Call::Skill].map(Point::Grown));
     points.extend((1..=21).map(Point::GrownRule));
+    points
+}
+
+/// The sizes, places and ids among them.
+fn sizes() -> Vec<Point> {
+    let mut points = vec![Point::AllFull];
+    points.extend(HELD.map(|(part, count)| Point::Held(part, count)));
+    points.extend([Call::List, Call::Skill, Call::Hall].map(Point::FullSize));
+    points.extend(Block::ALL.map(Point::Most));
+    let lengths = [16_777_212, 16_777_216, 16_777_217, 16_777_220];
+    points.extend(lengths.map(Point::CatalogueLength));
+    points.extend([Point::ListOver(2_730), Point::LongestList, Point::AllSkills]);
+    points.extend(LIST_BUFFERS.map(|length| Point::Buffer(Call::List, length)));
+    points.extend(SKILL_BUFFERS.map(|length| Point::Buffer(Call::Skill, length)));
+    for call in [Call::List, Call::Skill] {
+        for holder in Holder::ALL {
+            points.extend(Place::ALL.map(|place| Point::Named(call, holder, place)));
+        }
+    }
+    for of in IdOf::ALL {
+        points.extend(Region::ALL.map(|region| Point::Id(of, region)));
+    }
+    points.extend(RESULTS.map(Point::ResultNumber));
+    for counting in Counting::ALL {
+        let amounts = 0..AMOUNTS.len() as u8;
+        points.extend(amounts.map(|number| Point::Amount(counting, number)));
+    }
+    points.push(Point::HallInput(LARGEST_HALL));
     points
 }
 
@@ -198,8 +226,6 @@ impl fmt::Display for Point {
                 write!(out, "hall: a fit refused by {refusal}")
             }
             Point::Wanted(count) => write!(out, "{count} wanted skills"),
-            Point::Full(size) => out.write_str(size.words()),
-            Point::CatalogueLength(length) => write!(out, "catalogue of {length} bytes"),
             Point::Cast(width, spot) => write!(out, "cast to {width:?}: {}", spot.words()),
             Point::Over(edge) => write!(out, "over: {}", edge.words()),
             Point::Volume(edge) => write!(out, "an item's volume is {}", edge.words()),
@@ -207,6 +233,46 @@ impl fmt::Display for Point {
             Point::Shape(shape) => out.write_str(shape.words()),
             Point::Grown(call) => write!(out, "two fits compared, {call}"),
             Point::GrownRule(rule) => write!(out, "two fits compared, {}", name(&RULES, rule)),
+            size => size.fmt_size(out),
+        }
+    }
+}
+
+impl Point {
+    /// The sizes, places and ids in words.
+    fn fmt_size(self, out: &mut fmt::Formatter) -> fmt::Result {
+        match self {
+            Point::Held(part, count) => write!(out, "{count} {}", part.words()),
+            Point::AllFull => {
+                out.write_str("1024 skills, 256 items, 256 results and 30000 attributes at once")
+            }
+            Point::FullSize(call) => write!(out, "{call} over a catalogue of full size"),
+            Point::Most(block) => {
+                write!(
+                    out,
+                    "a catalogue of 16777216 bytes, nearly all {}",
+                    block.words()
+                )
+            }
+            Point::CatalogueLength(length) => write!(out, "catalogue of {length} bytes"),
+            Point::ListOver(count) => write!(out, "a list of over {count} entries"),
+            Point::LongestList => write!(out, "the longest list, {LONGEST_LIST} entries"),
+            Point::AllSkills => out.write_str("512 entries of skills"),
+            Point::Buffer(call, length) => write!(out, "{call}, a buffer of {length} bytes"),
+            Point::Named(call, holder, place) => write!(
+                out,
+                "{call}: a value {} of 30000, of {}",
+                place.words(),
+                holder.words()
+            ),
+            Point::Id(of, region) => write!(out, "at full size, {} {}", of.words(), region.words()),
+            Point::ResultNumber(number) => write!(out, "result number {number} refused"),
+            Point::Amount(counting, number) => {
+                let amount = AMOUNTS[usize::from(number)];
+                write!(out, "{} {amount}", counting.words())
+            }
+            Point::HallInput(length) => write!(out, "hall input of {length} bytes"),
+            other => unreachable!("{other:?} is no size"),
         }
     }
 }

@@ -123,6 +123,7 @@ fn room(room: Room) -> String {
         Room::OneShort => "buffer one byte short".to_string(),
         Room::Exact => "buffer of the exact length".to_string(),
         Room::Longer(more) => format!("buffer {more} bytes longer than the entries"),
+        Room::Of(length) => format!("buffer of {length} bytes"),
     }
 }
 

@@ -4,6 +4,7 @@ mod agreement;
 mod common;
 mod document;
 mod entries;
+mod faults;
 mod hall;
 mod original;
 mod recorded;

@@ -1,0 +1,65 @@
+//! What is timed gives the same bytes on both sides.
+
+use bench::fits::{self, LARGEST, REALISTIC};
+use bench::subject::{self, Catalogue, Fit, agreed_hall, agreed_list, agreed_skills};
+use bench::world::{self, SMALL};
+use compare::checker::Checker;
+
+#[test]
+fn lists_agree_byte_by_byte() {
+    let catalogue = Catalogue::new(&world::catalogue(SMALL));
+    let library = subject::library();
+    for shape in [REALISTIC, LARGEST] {
+        let fit = Fit::new(&fits::fit(shape, 1));
+        assert!(!agreed_list(&*library, &catalogue, &fit).is_empty());
+    }
+}
+
+#[test]
+fn skills_agree_byte_by_byte() {
+    let library = subject::library();
+    let chain = Catalogue::new(&world::chain(512, 12));
+    let demanding = Fit::new(&fits::at_chain());
+    let listed = agreed_skills(&*library, &chain, &demanding, 0);
+    assert_eq!(listed.len(), 24 * 512);
+
+    let small = Catalogue::new(&world::catalogue(SMALL));
+    let realistic = Fit::new(&fits::fit(REALISTIC, 0));
+    agreed_skills(&*library, &small, &realistic, 2);
+}
+
+#[test]
+fn halls_agree() {
+    let catalogue = Catalogue::new(&world::catalogue(SMALL));
+    let fits: Vec<Fit> = (0..8)
+        .map(|number| Fit::new(&fits::fit(REALISTIC, number)))
+        .collect();
+    assert!(agreed_hall(&*subject::library(), &catalogue, &fits) > 0);
+}
+
+/// A library whose second entry names another pair.
+struct OneByteOff;
+
+impl Checker for OneByteOff {
+    fn list(&self, catalogue: &[u8], fit: &[u8], out: &mut [u8]) -> u64 {
+        let word = subject::library().list(catalogue, fit, out);
+        out[28] ^= 1;
+        word
+    }
+
+    fn skill(&self, _: &[u8], _: &[u8], _: u32, _: &mut [u8]) -> u64 {
+        unreachable!("no skills are asked for")
+    }
+
+    fn hall(&self, _: &[u8], _: &[u8]) -> u64 {
+        unreachable!("no hall is asked for")
+    }
+}
+
+#[test]
+#[should_panic(expected = "bytes of the library and of the original")]
+fn one_byte_that_differs_stops_the_benchmark() {
+    let catalogue = Catalogue::new(&world::catalogue(SMALL));
+    let fit = Fit::new(&fits::fit(LARGEST, 1));
+    agreed_list(&OneByteOff, &catalogue, &fit);
+}

@@ -1,0 +1,345 @@
+//! Runs one case: the original's answer and the checker's, held together.
+
+mod shown;
+
+use std::cell::{Cell, OnceCell, RefCell};
+use std::collections::BTreeMap;
+use std::panic::{self, AssertUnwindSafe};
+
+use crate::case::{Ask, Case, Lists, Room};
+use crate::checker::{Checker, ENTRY, Entry, in_words, refused};
+use crate::grown;
+use crate::guard::{Fill, Guarded, Held};
+use crate::model::{Fit, hall_image};
+use crate::reference::{self, Fate, Listed, Refusal};
+use crate::tally::{Call, Tally, Zeros};
+use crate::verdict::{Expected, compare, expected, hall_in_words};
+
+pub use shown::Shown;
+
+/// Where the two part.
+#[derive(Clone, Debug)]
+pub struct Difference {
+    pub ask: Ask,
+    pub what: String,
+}
+
+/// A fit's image, and what the reference makes of it.
+struct Subject {
+    held: Held,
+    decoded: Result<reference::Fit, Refusal>,
+    listed: OnceCell<Result<Listed, Refusal>>,
+    skills: RefCell<BTreeMap<u32, Result<Listed, Refusal>>>,
+}
+
+impl Subject {
+    fn new(fit: &Fit) -> Subject {
+        let image = fit.image();
+        let decoded = reference::Fit::decode(&image);
+        Subject {
+            held: Held::new(image),
+            decoded,
+            listed: OnceCell::new(),
+            skills: RefCell::default(),
+        }
+    }
+}
+
+/// A hall input, and what the reference makes of it.
+struct Hall {
+    held: Held,
+    fates: Result<Vec<Fate>, Refusal>,
+}
+
+/// One case as both sides see it. What the original answers is worked out
+/// once, however many checkers are held against it.
+pub struct Stage<'a> {
+    case: &'a Case,
+    held: Held,
+    catalogue: Result<reference::Catalogue, Refusal>,
+    fit: OnceCell<Subject>,
+    grown: OnceCell<Subject>,
+    hall: OnceCell<Hall>,
+}
+
+/// Runs every call of a case; the first difference, if there is one.
+pub fn run(case: &Case, checker: &dyn Checker, tally: &mut Tally) -> Result<(), Difference> {
+    let stage = Stage::new(case);
+    stage.count(tally);
+    stage.hold(checker, &mut tally.zeros)
+}
+
+impl<'a> Stage<'a> {
+    pub fn new(case: &'a Case) -> Stage<'a> {
+        let image = case.catalogue.image();
+        let catalogue = reference::Catalogue::decode(&image);
+        Stage {
+            case,
+            held: Held::new(image),
+            catalogue,
+            fit: OnceCell::new(),
+            grown: OnceCell::new(),
+            hall: OnceCell::new(),
+        }
+    }
+
+    fn fit(&self) -> &Subject {
+        self.fit.get_or_init(|| Subject::new(&self.case.fits[0]))
+    }
+
+    fn grown_fit(&self) -> &Subject {
+        self.grown
+            .get_or_init(|| Subject::new(&self.case.growth.of(&self.case.fits[0])))
+    }
+
+    fn hall(&self) -> &Hall {
+        self.hall.get_or_init(|| {
+            let held = Held::new(hall_image(&self.case.fits, &self.case.frame));
+            let catalogue = self.catalogue.as_ref().map_err(|refusal| *refusal);
+            let fates = catalogue.and_then(|catalogue| reference::fates(catalogue, &held.image));
+            Hall { held, fates }
+        })
+    }
+
+    /// What the original lists, or the refusal before 10.
+    fn listed(&self, subject: &Subject, result: Option<u32>) -> Result<Listed, Refusal> {
+        let catalogue = self.catalogue.as_ref().map_err(|refusal| *refusal)?;
+        let fit = subject.decoded.as_ref().map_err(|refusal| *refusal)?;
+        match result {
+            None => subject
+                .listed
+                .get_or_init(|| reference::list(catalogue, fit))
+                .clone(),
+            Some(result) => subject
+                .skills
+                .borrow_mut()
+                .entry(result)
+                .or_insert_with(|| reference::skill(catalogue, fit, result))
+                .clone(),
+        }
+    }
+
+    /// What a call must give, and the length of the buffer that it is lent.
+    fn expected(&self, subject: &Subject, call: Lists) -> (Expected, usize) {
+        let listed = self.listed(subject, call.result);
+        let length = match &listed {
+            Ok(listed) => call.room.length(ENTRY * listed.entries.len()),
+            // A refusal has to leave something untouched.
+            Err(_) => call.room.length(2 * ENTRY),
+        };
+        (expected(listed, length), length)
+    }
+
+    /// The word that the hall call must give.
+    fn expected_hall(&self) -> u64 {
+        match &self.hall().fates {
+            Ok(fates) => u64::from(reference::numbers(fates).number()),
+            Err(refusal) => refused(*refusal),
+        }
+    }
+
+    /// The list and skill calls of an ask, with the fit of each.
+    fn lists(&self, ask: Ask) -> Vec<(&Subject, Lists)> {
+        let call = |result, room| Lists { result, room };
+        let both = |result| {
+            vec![
+                (self.fit(), call(result, Room::Exact)),
+                (self.grown_fit(), call(result, Room::Longer(24))),
+            ]
+        };
+        match ask {
+            Ask::List(room) => vec![(self.fit(), call(None, room))],
+            Ask::Skill(result, room) => vec![(self.fit(), call(Some(result), room))],
+            Ask::Hall => Vec::new(),
+            Ask::GrownList => both(None),
+            Ask::GrownSkill(result) => both(Some(result)),
+        }
+    }
+
+    /// Counts what the calls meet.
+    pub fn count(&self, tally: &mut Tally) {
+        tally.case(self.case, self.held.image.len());
+        for ask in &self.case.asks {
+            for (subject, call) in self.lists(*ask) {
+                self.count_lists(subject, call, tally);
+            }
+            match *ask {
+                Ask::Hall => self.count_hall(tally),
+                Ask::GrownList => self.count_grown(None, tally),
+                Ask::GrownSkill(result) => self.count_grown(Some(result), tally),
+                Ask::List(_) | Ask::Skill(..) => {}
+            }
+        }
+    }
+
+    fn count_lists(&self, subject: &Subject, call: Lists, tally: &mut Tally) {
+        let (expected, length) = self.expected(subject, call);
+        tally.call(call, length, expected.word);
+        let (Ok(catalogue), Ok(fit)) = (&self.catalogue, &subject.decoded) else {
+            return;
+        };
+        if let Some(result) = call.result {
+            tally.walk(catalogue, fit, result);
+        }
+        if expected.word >> 32 == 0 {
+            tally.catalogue(Call::of(call), catalogue);
+            match call.result {
+                None => tally.list(catalogue, fit, &expected.listed),
+                Some(result) => tally.skill(catalogue, fit, result, &expected.listed),
+            }
+        }
+    }
+
+    fn count_hall(&self, tally: &mut Tally) {
+        let hall = self.hall();
+        if let (Ok(catalogue), Ok(fates)) = (&self.catalogue, &hall.fates) {
+            tally.catalogue(Call::Hall, catalogue);
+            tally.hall(fates, hall.held.image.len());
+        }
+        tally.hall_word(self.expected_hall());
+    }
+
+    fn count_grown(&self, result: Option<u32>, tally: &mut Tally) {
+        if let Some((old, new)) = self.both_lists(result)
+            && self.premises_hold(result)
+        {
+            tally.grown(self.case, result.is_some(), &old, &new);
+        }
+    }
+
+    /// The lists of both fits, where both are answered.
+    fn both_lists(&self, result: Option<u32>) -> Option<(Vec<Entry>, Vec<Entry>)> {
+        let old = self.listed(self.fit(), result).ok()?;
+        let new = self.listed(self.grown_fit(), result).ok()?;
+        Some((old.entries, new.entries))
+    }
+
+    /// Has a checker make every call; the first difference, if there is one.
+    pub fn hold(&self, checker: &dyn Checker, zeros: &mut Zeros) -> Result<(), Difference> {
+        for ask in &self.case.asks {
+            self.ask(*ask, checker, zeros)
+                .map_err(|what| Difference { ask: *ask, what })?;
+        }
+        Ok(())
+    }
+
+    fn ask(&self, ask: Ask, checker: &dyn Checker, zeros: &mut Zeros) -> Result<(), String> {
+        for (subject, call) in self.lists(ask) {
+            self.hold_lists(subject, call, checker, zeros)?;
+        }
+        match ask {
+            Ask::Hall => self.hold_hall(checker),
+            Ask::GrownList => self.grown_keeps(None),
+            Ask::GrownSkill(result) => self.grown_keeps(Some(result)),
+            Ask::List(_) | Ask::Skill(..) => Ok(()),
+        }
+    }
+
+    /// The list call, or the skill call of a result: every byte compared.
+    fn hold_lists(
+        &self,
+        subject: &Subject,
+        call: Lists,
+        checker: &dyn Checker,
+        zeros: &mut Zeros,
+    ) -> Result<(), String> {
+        let (expected, length) = self.expected(subject, call);
+        self.planted(expected.word)?;
+        for fill in [Fill::First, Fill::Second] {
+            let catalogue = self.held.copy(fill).bytes();
+            let fit = subject.held.copy(fill).bytes();
+            let mut out = Guarded::buffer(length, fill);
+            let word = caught(|| match call.result {
+                None => checker.list(catalogue, fit, out.bytes_mut()),
+                Some(result) => checker.skill(catalogue, fit, result, out.bytes_mut()),
+            })?;
+            self.held.unharmed(fill, "catalogue")?;
+            subject.held.unharmed(fill, "fit")?;
+            compare(&expected, word, &out)?;
+            zeros.note(&expected.listed, out.bytes());
+        }
+        Ok(())
+    }
+
+    fn hold_hall(&self, checker: &dyn Checker) -> Result<(), String> {
+        let input = &self.hall().held;
+        let expected = self.expected_hall();
+        self.planted(expected)?;
+        for fill in [Fill::First, Fill::Second] {
+            let catalogue = self.held.copy(fill).bytes();
+            let word = caught(|| checker.hall(catalogue, input.copy(fill).bytes()))?;
+            self.held.unharmed(fill, "catalogue")?;
+            input.unharmed(fill, "hall input")?;
+            if word != expected {
+                return Err(format!(
+                    "the original makes it {}, the checker {}",
+                    hall_in_words(expected),
+                    hall_in_words(word)
+                ));
+            }
+        }
+        Ok(())
+    }
+
+    /// The new list keeps the old one: both are the original's, byte by byte.
+    fn grown_keeps(&self, result: Option<u32>) -> Result<(), String> {
+        match self.both_lists(result) {
+            Some((old, new)) if self.premises_hold(result) => grown::places(&old, &new).map(|_| ()),
+            _ => Ok(()),
+        }
+    }
+
+    /// Document 01's premises on a fit that grows, but for the two answers.
+    fn premises_hold(&self, result: Option<u32>) -> bool {
+        let old = &self.case.fits[0];
+        if old.items.len() != old.results.len() {
+            return false;
+        }
+        if let Some(result) = result {
+            return result as usize <= old.results.len() + 1;
+        }
+        let Ok(catalogue) = &self.catalogue else {
+            return false;
+        };
+        let added = &self.case.growth.items;
+        added.iter().filter(|item| item.kind == 11).all(|item| {
+            let volume = catalogue.volume(item.type_id);
+            volume.is_none_or(|volume| volume.is_finite() && volume >= 0.0)
+        })
+    }
+
+    /// A planted refusal must be what the reference gives.
+    fn planted(&self, word: u64) -> Result<(), String> {
+        match self.case.expected_refusal() {
+            Some(refusal) if word != refused(refusal) => Err(format!(
+                "refusal {refusal} was planted, the reference gives {}",
+                in_words(word)
+            )),
+            _ => Ok(()),
+        }
+    }
+}
+
+thread_local! {
+    /// Whether the checker is at work.
+    static CALLED: Cell<bool> = const { Cell::new(false) };
+}
+
+/// Has a panic of the checker's print nothing: it is reported as a difference.
+/// A panic of ours prints as ever.
+pub fn quiet_checker_panics() {
+    let usual = panic::take_hook();
+    panic::set_hook(Box::new(move |panic| {
+        if !CALLED.get() {
+            usual(panic);
+        }
+    }));
+}
+
+/// The checker's word, or that it panicked.
+fn caught(call: impl FnOnce() -> u64) -> Result<u64, String> {
+    CALLED.set(true);
+    let word = panic::catch_unwind(AssertUnwindSafe(call));
+    CALLED.set(false);
+    word.map_err(|_| "the checker panicked".to_string())
+}
