@@ -13,7 +13,8 @@ use Rattle.words.proofs.Tables.{table-same, map-table, any-table, find-alike}
 use Rattle.image.specs.Bytes.{u32At, i32At}
 use Rattle.image.proofs.Parts.{part-u32, part-i32}
 use Rattle.keys.specs.Keys.{keyAt, placeOf}
-use Rattle.catalogue.specs.Catalogue.{catalogueOf, nameCount, effectCount, typeCount, linkCount, baseCount, namesAt, effectsAt, typesAt, linksAt, basesAt, nameAt, effectAt, typeAt, linkAt, baseAt}
+use Rattle.catalogue.specs.Catalogue.{catalogueOf, nameCount, effectCount, typeCount, linkCount, baseCount, namesAt, effectsAt}
+use Rattle.catalogue.specs.Catalogue.{typesAt, linksAt, basesAt, nameAt, effectAt, typeAt, linkAt, baseAt}
 use Rattle.catalogue.specs.Refusals.{badOrder, badField}
 
 -- ---- a part of 4 * n bytes that holds n keys

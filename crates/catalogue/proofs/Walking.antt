@@ -41,7 +41,8 @@ module _ (b : List ℕ) (at n : ℕ) (id : ℤ) (range : mag id < 2147483648) (r
   pub none-before : (k : ℕ) → k < r → same (i32At b (at + 4 * k)) id ≡ false
   none-before k h = rw (← key k (omega (arith, h, parts .within))) (before-differs _ n id range r parts k h)
 
-  pub none-after : Sorted (take (4 * n) (drop at b)) n → (i : ℕ) → r ≤ i → (i < n → same (i32At b (at + 4 * i)) id ≡ false) → (k : ℕ) → i ≤ k → k < n → same (i32At b (at + 4 * k)) id ≡ false
+  pub none-after : Sorted (take (4 * n) (drop at b)) n → (i : ℕ) → r ≤ i → (i < n → same (i32At b (at + 4 * i)) id ≡ false) → (k : ℕ) → i ≤ k
+      → k < n → same (i32At b (at + 4 * k)) id ≡ false
   none-after sorted i l e k h g =
       rw (← key k g) (after-differs _ n id range r parts sorted i k l (ap (λ (z : ℤ). same z id) (key i (omega arith)) ∙ e (omega arith)) h g)
 
@@ -82,13 +83,16 @@ module _ (b : List ℕ) (t : Id) where
         let g = linkMarks (catalogueOf b) in
         let p : Link → Bool = λ x. same (x .type) t in
         ap (foldl (marked low high) none)
-        (ap (λ (l : List Link). each l g) (only-more f p i e) ∙ each-append g (only p (table i f)) (f i ∷ []) ∙ ap (λ (l : List ℕ). marksTo i ++ l) (append-nil (g (f i))))
+        (ap (λ (l : List Link). each l g) (only-more f p i e) ∙ each-append g (only p (table i f)) (f i ∷ []) ∙ ap (λ (l : List ℕ). marksTo i ++ l)
+        (append-nil (g (f i))))
         ∙ foldl-append (marked low high) none (marksTo i) (g (f i))
 
-    pub last-all : (i : ℕ) → i ≤ linkCount b → ((k : ℕ) → i ≤ k → k < linkCount b → same (linkAt b k .type) t ≡ false) → lastTo i ≡ lastMark (catalogueOf b) low high t
+    pub last-all : (i : ℕ) → i ≤ linkCount b → ((k : ℕ) → i ≤ k → k < linkCount b → same (linkAt b k .type) t ≡ false)
+        → lastTo i ≡ lastMark (catalogueOf b) low high t
     unfolding lastMark
     last-all i h e =
-        ap (λ (l : List Link). foldl (marked low high) none (each l (linkMarks (catalogueOf b)))) (sym (only-skip (linkAt b) (λ x. same (x .type) t) i (linkCount b) h e))
+        ap (λ (l : List Link). foldl (marked low high) none (each l (linkMarks (catalogueOf b))))
+        (sym (only-skip (linkAt b) (λ x. same (x .type) t) i (linkCount b) h e))
         ∙ ap (foldl (marked low high) none) (sym marks-all)
 
 -- ---- the base values of a type
@@ -109,4 +113,5 @@ pub span-value : (b : List ℕ) (t a : Id) (s : Span) → SpanOf b t s → spanV
 unfolding spanValue baseValue catalogueOf
 span-value b t a s run =
     ap (λ (o : Option Base). given o none (λ x. some (x .value)))
-    (sym (find-run (baseAt b) (λ x. same (x .type) t) (λ x. same (x .attribute) a) (s .from) (s .to) (baseCount b) (run .ordered) (run .within) (run .before) (run .inside) (run .after)))
+    (sym (find-run (baseAt b) (λ x. same (x .type) t) (λ x. same (x .attribute) a) (s .from) (s .to) (baseCount b) (run .ordered) (run .within)
+    (run .before) (run .inside) (run .after)))

@@ -1,6 +1,7 @@
 // Refusals 1 to 3 of document 01: each is one pass over the whole catalogue.
 use catalogue::Block;
 use catalogue::Verdict;
+use numbers::refusals;
 ghost use mathlib.Core.Path.{_≡_};
 ghost use Prim.Native.Nat.{ℕ, _+_, _*_, _<_, _≤_};
 ghost use lib.ListN.{length};
@@ -125,4 +126,17 @@ pub fn verdict(catalogue: &[u8]) -> Verdict
         return Verdict::BadField;
     }
     Verdict::Accepted
+}
+
+// Its number, or 0.
+pub fn number(catalogue: &[u8]) -> u64
+    ensures { λ r. ⌜ r ≡ catalogueRefusal (now (catalogue .entry)) ⌝ }
+{
+    let verdict = verdict(catalogue);
+    match verdict {
+        Verdict::Accepted => 0,
+        Verdict::BadLength => refusals::BAD_LENGTH,
+        Verdict::BadOrder => refusals::BAD_KEYS,
+        Verdict::BadField => refusals::BAD_ENTRY,
+    }
 }

@@ -1,19 +1,18 @@
 -- The count of a list call fits the buffer that was lent. By the first refusal that holds.
-use Prim.Native.Nat.{ℕ, zero, suc, _+_, _*_, _%_, _^_, _≤_}
+use Prim.Native.Nat.{ℕ, zero, suc, _*_, _%_, _^_, _≤_}
 use native.Mathlib.Omega.{arith}
 use mathlib.Core.Path.{_≡_, refl, ap, _∙_}
 use mathlib.Core.Bool.{Bool, true, false}
-use mathlib.Core.List.{List, [], _∷_, _++_}
+use mathlib.Core.List.{List, [], _∷_}
 use lib.ListN.{length}
 use borrow.Author.Tests.{ltb-false}
 use Rattle.words.specs.Words.{firstOf}
+use Rattle.numbers.specs.Refusals as Refusals
 use Rattle.catalogue.specs.Catalogue.{catalogueOf}
-use Rattle.catalogue.specs.Refusals.{catalogueRefusals}
 use Rattle.fit.specs.Fit.{fitOf}
-use Rattle.fit.specs.Refusals.{fitRefusals}
 use Rattle.entry.specs.declared.Entry.{Entry}
 use Rattle.validate.specs.Validate.{listOf}
-use Rattle.fitcheck.specs.Calls.{Answer, Refused, Listed, answerBy, answer, tooManyDrones, tooShort, listCall, returned}
+use Rattle.fitcheck.specs.Calls.{Answer, Refused, Listed, answerBy, answer, tooManyDrones, tooShort, imageRefusals, listCall, returned}
 use Rattle.fitcheck.proofs.Giving.{answer-true, answer-false, list-refused, list-past}
 
 -- what the word counts
@@ -32,20 +31,24 @@ module _ (buffer : List ℕ) (es : List Entry) where
   refused-room : (n : ℕ) {a : Answer} → a ≡ Refused n → 24 * counted a ≤ length buffer
   refused-room n {a} e = let z = ap counted e ∙ refused-none n in omega (arith, z)
 
-  lent-room : (t : Bool) → tooShort buffer es ≡ t → 24 * counted (answer ((10, tooShort buffer es) ∷ []) es) ≤ length buffer
-  unfolding answer firstOf answerBy
-  lent-room true e = refused-room 10 (answer-true 10 [] es (omega arith) e)
-  lent-room false e = let z = ap counted (answer-false 10 [] es e) in omega (arith, z, listed-room e)
+  -- refusal 10
+  abbrev short : List (ℕ × Bool)
+  short = (Refusals.tooShort, tooShort buffer es) ∷ []
 
-  drones-room : (d t : Bool) → d ≡ t → 24 * counted (answer ((7, d) ∷ (10, tooShort buffer es) ∷ []) es) ≤ length buffer
-  drones-room d true e = refused-room 7 (answer-true 7 ((10, tooShort buffer es) ∷ []) es (omega arith) e)
+  lent-room : (t : Bool) → tooShort buffer es ≡ t → 24 * counted (answer short es) ≤ length buffer
+  unfolding answer firstOf answerBy
+  lent-room true e = refused-room Refusals.tooShort (answer-true Refusals.tooShort [] es (omega arith) e)
+  lent-room false e = let z = ap counted (answer-false Refusals.tooShort [] es e) in omega (arith, z, listed-room e)
+
+  drones-room : (d t : Bool) → d ≡ t → 24 * counted (answer ((Refusals.tooManyDrones, d) ∷ short) es) ≤ length buffer
+  drones-room d true e = refused-room Refusals.tooManyDrones (answer-true Refusals.tooManyDrones short es (omega arith) e)
   drones-room d false e =
-      let z = ap counted (answer-false 7 ((10, tooShort buffer es) ∷ []) es e) in omega (arith, z, lent-room (tooShort buffer es) refl)
+      let z = ap counted (answer-false Refusals.tooManyDrones short es e) in omega (arith, z, lent-room (tooShort buffer es) refl)
 
 pub list-room : (catalogue fit buffer : List ℕ) → 24 * counted (listCall catalogue fit buffer) ≤ length buffer
-list-room catalogue fit buffer = go (firstOf (catalogueRefusals catalogue ++ fitRefusals fit)) refl
+list-room catalogue fit buffer = go (firstOf (imageRefusals catalogue fit)) refl
   where
-    go : (k : ℕ) → firstOf (catalogueRefusals catalogue ++ fitRefusals fit) ≡ k → 24 * counted (listCall catalogue fit buffer) ≤ length buffer
+    go : (k : ℕ) → firstOf (imageRefusals catalogue fit) ≡ k → 24 * counted (listCall catalogue fit buffer) ≤ length buffer
     go zero e =
         let es = listOf (catalogueOf catalogue) (fitOf fit) in
         let z = ap counted (list-past catalogue fit buffer e) in

@@ -1,4 +1,5 @@
 // A list call's answer as text: specs/Text.antt.
+use numbers::sizes;
 ghost use mathlib.Core.Path.{_≡_};
 ghost use mathlib.Core.List.{[], _∷_};
 ghost use Prim.Native.Nat.{_+_, _*_, _/_, _%_, _<_, _≤_, _^_};
@@ -6,7 +7,8 @@ ghost use lib.ListN.{length, take};
 ghost use Rattle.image.specs.Bytes.{u8At, u32At};
 ghost use Rattle.io.specs.Counts.{Counts};
 ghost use Rattle.checker.specs.Put.{Put};
-ghost use Rattle.checker.specs.Text.{decimal, heading as Text·heading, payload as Text·payload, line as Text·line, lines as Text·lines, spaced as Text·spaced, ended as Text·ended, closing as Text·closing, textOf, checked as Text·checked};
+ghost use Rattle.checker.specs.Text as Text;
+ghost use Rattle.checker.specs.Text.{decimal, textOf};
 
 fn byte(text: &mut [u8], at: usize, x: u8) -> usize
     requires { ⌜ at < length (now text) ⌝ }
@@ -39,7 +41,7 @@ fn number(text: &mut [u8], at: usize, n: u64) -> usize
 
 fn spaced(text: &mut [u8], at: usize, n: u64) -> usize
     requires { ⌜ at + 21 ≤ length (now text) ⌝ }
-    ensures { λ r. ⌜ Put (now (text .entry)) at (now (text .exit)) r (Text·spaced n) × (r ≤ at + 21) ⌝ }
+    ensures { λ r. ⌜ Put (now (text .entry)) at (now (text .exit)) r (Text.spaced n) × (r ≤ at + 21) ⌝ }
 {
     let end = number(text, at, n);
     byte(text, end, b' ')
@@ -47,7 +49,7 @@ fn spaced(text: &mut [u8], at: usize, n: u64) -> usize
 
 fn ended(text: &mut [u8], at: usize, n: u64) -> usize
     requires { ⌜ at + 21 ≤ length (now text) ⌝ }
-    ensures { λ r. ⌜ Put (now (text .entry)) at (now (text .exit)) r (Text·ended n) × (r ≤ at + 21) ⌝ }
+    ensures { λ r. ⌜ Put (now (text .entry)) at (now (text .exit)) r (Text.ended n) × (r ≤ at + 21) ⌝ }
 {
     let end = number(text, at, n);
     byte(text, end, b'\n')
@@ -70,7 +72,7 @@ fn word_at(b: &[u8], at: usize) -> u64
 fn heading(text: &mut [u8], at: usize, b: &[u8], place: usize) -> usize
     requires { ⌜ at + 84 ≤ length (now text) ⌝ }
     requires { ⌜ place + 24 ≤ length (now b) ⌝ }
-    ensures { λ r. ⌜ Put (now (text .entry)) at (now (text .exit)) r (Text·heading (now (b .entry)) place) × (r ≤ at + 84) ⌝ }
+    ensures { λ r. ⌜ Put (now (text .entry)) at (now (text .exit)) r (Text.heading (now (b .entry)) place) × (r ≤ at + 84) ⌝ }
 {
     let index = spaced(text, at, byte_at(b, place));
     let rule = spaced(text, index, word_at(b, place + 4));
@@ -81,7 +83,7 @@ fn heading(text: &mut [u8], at: usize, b: &[u8], place: usize) -> usize
 fn payload(text: &mut [u8], at: usize, b: &[u8], place: usize) -> usize
     requires { ⌜ at + 84 ≤ length (now text) ⌝ }
     requires { ⌜ place + 24 ≤ length (now b) ⌝ }
-    ensures { λ r. ⌜ Put (now (text .entry)) at (now (text .exit)) r (Text·payload (now (b .entry)) place) × (r ≤ at + 84) ⌝ }
+    ensures { λ r. ⌜ Put (now (text .entry)) at (now (text .exit)) r (Text.payload (now (b .entry)) place) × (r ≤ at + 84) ⌝ }
 {
     let second = spaced(text, at, word_at(b, place + 8));
     let third = spaced(text, second, word_at(b, place + 12));
@@ -92,7 +94,7 @@ fn payload(text: &mut [u8], at: usize, b: &[u8], place: usize) -> usize
 fn line(text: &mut [u8], at: usize, b: &[u8], i: usize) -> usize
     requires { ⌜ at + 168 ≤ length (now text) ⌝ }
     requires { ⌜ 24 * i + 24 ≤ length (now b) ⌝ }
-    ensures { λ r. ⌜ Put (now (text .entry)) at (now (text .exit)) r (Text·line (now (b .entry)) i) × (r ≤ at + 168) ⌝ }
+    ensures { λ r. ⌜ Put (now (text .entry)) at (now (text .exit)) r (Text.line (now (b .entry)) i) × (r ≤ at + 168) ⌝ }
 {
     let place = 24 * i;
     let middle = heading(text, at, b, place);
@@ -103,7 +105,7 @@ fn line(text: &mut [u8], at: usize, b: &[u8], i: usize) -> usize
 fn lines(text: &mut [u8], b: &[u8], n: usize) -> usize
     requires { ⌜ 168 * n ≤ length (now text) ⌝ }
     requires { ⌜ 24 * n ≤ length (now b) ⌝ }
-    ensures { λ r. ⌜ Put (now (text .entry)) 0 (now (text .exit)) r (Text·lines (now (b .entry)) n) × (r ≤ 168 * n) ⌝ }
+    ensures { λ r. ⌜ Put (now (text .entry)) 0 (now (text .exit)) r (Text.lines (now (b .entry)) n) × (r ≤ 168 * n) ⌝ }
 {
     let mut at = 0;
     let mut i = 0;
@@ -116,7 +118,7 @@ fn lines(text: &mut [u8], b: &[u8], n: usize) -> usize
 
 fn closing(text: &mut [u8], at: usize, refusal: u64, count: u64) -> usize
     requires { ⌜ at + 29 ≤ length (now text) ⌝ }
-    ensures { λ r. ⌜ Put (now (text .entry)) at (now (text .exit)) r (Text·closing refusal count) × (r ≤ at + 29) ⌝ }
+    ensures { λ r. ⌜ Put (now (text .entry)) at (now (text .exit)) r (Text.closing refusal count) × (r ≤ at + 29) ⌝ }
 {
     if 0 < refusal {
         let end = copy(text, at, b"refused ");
@@ -132,16 +134,16 @@ fn text_of(text: &mut [u8], word: u64, b: &[u8]) -> usize
     ensures { λ r. ⌜ Counts r (now (text .exit)) ⌝ }
     ensures { λ r. ⌜ take r (now (text .exit)) ≡ textOf word (now (b .entry)) ⌝ }
 {
-    let count = word % 4294967296;
+    let count = word % sizes::WORD;
     let end = lines(text, b, count as usize);
-    closing(text, end, word / 4294967296, count)
+    closing(text, end, word / sizes::WORD, count)
 }
 
 // The list call's answer with 65,520 bytes lent: at most 2,730 entries.
 pub fn checked(catalogue: &[u8], fit: &[u8], text: &mut [u8]) -> usize
     requires { ⌜ 458669 ≤ length (now text) ⌝ }
     ensures { λ r. ⌜ Counts r (now (text .exit)) ⌝ }
-    ensures { λ r. ⌜ take r (now (text .exit)) ≡ Text·checked (now (catalogue .entry)) (now (fit .entry)) ⌝ }
+    ensures { λ r. ⌜ take r (now (text .exit)) ≡ Text.checked (now (catalogue .entry)) (now (fit .entry)) ⌝ }
 {
     let mut buffer = [0u8; 65520];
     let word = fitcheck::fit_list(catalogue, fit, &mut buffer);

@@ -3,3 +3,5 @@ pub mod Pairs
 pub mod Filling
 pub mod Marks
 pub mod Types
+pub mod Loops
+pub mod Counts

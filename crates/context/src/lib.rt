@@ -38,6 +38,9 @@ const LOWS: usize = 1285;
 
 const HIGHS: usize = 1541;
 
+// So many hints has a list: four searches in step fill them just ahead of use. A hall, whose fits name the same types again, has more.
+pub const LIST_HINTS: usize = 64;
+
 // What is kept of a type.
 struct TypeWords {
     group: u32,
@@ -129,7 +132,7 @@ fn put_words(facts: &mut [u32], i: usize, w: TypeWords)
 fn seek_pairs(catalogue: &[u8], fit: &[u8], i: usize, hints: &mut [u32])
     requires { ⌜ Catalogue.Sound (now catalogue) × Fit.Sound (now fit) × (i < pairCount (now fit)) ⌝ }
 {
-    if 64 < hints.len() {
+    if LIST_HINTS < hints.len() {
         return;
     }
     if i % 4 != 0 {

@@ -9,7 +9,10 @@ use Rattle.image.specs.Bytes.{le}
 use Rattle.image.proofs.Stores.{le-byte}
 use Rattle.entry.specs.declared.Target.{Target}
 use Rattle.entry.specs.declared.Rule.{Rule}
-use Rattle.entry.specs.declared.Rule.the-variants.{Resource, Slots, WrongSlot, NotAModule, NotADrone, NotAFighter, NotAnImplant, SlotTaken, WrongSlotIndex, SubsystemTaken, Skill, RigSize, ShipRestricted, CapitalItem, StructureItem, ShipItem, MaxGroup, MaxType, NotAHull, NotAMode, NotASkill}
+use Rattle.entry.specs.declared.Rule.the-variants.{Resource, Slots, WrongSlot, NotAModule, NotADrone, NotAFighter, NotAnImplant}
+use Rattle.entry.specs.declared.Rule.the-variants.{SlotTaken, WrongSlotIndex, SubsystemTaken, Skill, RigSize, ShipRestricted}
+use Rattle.entry.specs.declared.Rule.the-variants.{CapitalItem, StructureItem, ShipItem, MaxGroup, MaxType, NotAHull, NotAMode}
+use Rattle.entry.specs.declared.Rule.the-variants.{NotASkill}
 use Rattle.entry.specs.declared.Entry.{Entry}
 use Rattle.entry.specs.declared.Packed.{Packed}
 use Rattle.entry.specs.Entries.{fields, place, entryBytes}

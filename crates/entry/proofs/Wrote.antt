@@ -155,7 +155,8 @@ putAt-behind e p q n hp hq =
     let room : n < length (p ++ q) / 24 = omega (arith, length-append p q) in
     let same : length (take 24 q) ≡ length (entryBytes e) = length-take-le 24 q hq ∙ sym (length-entryBytes e) in
     rw (lt-ltb n (length (p ++ q) / 24) room)
-    (ap (λ (l : List ℕ). put (p ++ l) (24 * n) (entryBytes e)) (sym (take-append-drop 24 q)) ∙ put-between p (take 24 q) (drop 24 q) (entryBytes e) (24 * n) hp same)
+    (ap (λ (l : List ℕ). put (p ++ l) (24 * n) (entryBytes e)) (sym (take-append-drop 24 q)) ∙ put-between p (take 24 q) (drop 24 q) (entryBytes e)
+    (24 * n) hp same)
 
 putAll-behind : (es : List Entry) (p q : List ℕ) (n : ℕ) → length p ≡ 24 * n → 24 * length es ≤ length q
     → putAll (p ++ q) n es ≡ p ++ (each es entryBytes ++ drop (24 * length es) q)
@@ -170,7 +171,8 @@ putAll-behind (e ∷ es) p q n hp hq =
     ap (λ (l : List ℕ). putAll l (n + 1) es) (putAt-behind e p q n hp (omega arith) ∙ sym (append-assoc p bs (drop 24 q)))
     ∙ putAll-behind es (p ++ bs) (drop 24 q) (n + 1) more left
     ∙ append-assoc p bs (each es entryBytes ++ drop (24 * length es) (drop 24 q))
-    ∙ ap (λ (l : List ℕ). p ++ l) (sym (append-assoc bs (each es entryBytes) (drop (24 * length es) (drop 24 q))) ∙ ap (λ (r : List ℕ). bs ++ each es entryBytes ++ r) rest)
+    ∙ ap (λ (l : List ℕ). p ++ l) (sym (append-assoc bs (each es entryBytes) (drop (24 * length es) (drop 24 q)))
+    ∙ ap (λ (r : List ℕ). bs ++ each es entryBytes ++ r) rest)
 
 -- entries written from the first place on, where there is room for all
 pub wrote-written : {b a : List ℕ} {k : ℕ} {es : List Entry} → Wrote b 0 a k es → 24 * length es ≤ length b → a ≡ written b es
@@ -180,15 +182,3 @@ wrote-written {b} {a} {k} {es} w h = w .bytes ∙ putAll-behind es [] b 0 refl h
 -- the count, where the first place is 0
 pub wrote-count : {b a : List ℕ} {k : ℕ} {es : List Entry} → Wrote b 0 a k es → k ≡ length es
 wrote-count w = w .count ∙ zero-add _
-
-nowhere : (b : List ℕ) (n : ℕ) (es : List Entry) → length b / 24 ≤ n → putAll b n es ≡ b
-unfolding putAll putAt
-nowhere b n [] h = refl
-nowhere b n (e ∷ es) h = rw (le-ltb n (length b / 24) h) (nowhere b (n + 1) es (omega arith))
-
--- a buffer with no room, as the empty one, stays as it is: the same code counts
-pub wrote-nowhere : {b a : List ℕ} {n k : ℕ} {es : List Entry} → Wrote b n a k es → length b / 24 ≤ n → a ≡ b
-wrote-nowhere {b} {a} {n} {k} {es} w h = w .bytes ∙ nowhere b n es h
-
-pub wrote-empty : {a : List ℕ} {n k : ℕ} {es : List Entry} → Wrote [] n a k es → (a ≡ []) × (k ≡ n + length es)
-wrote-empty w = (wrote-nowhere w (omega arith), w .count)

@@ -9,7 +9,10 @@ use Rattle.floats.specs.Floats.{f64Bits}
 use Rattle.entry.specs.declared.Target.{Target}
 use Rattle.entry.specs.declared.Target.the-variants.{Ship, Item}
 use Rattle.entry.specs.declared.Rule.{Rule}
-use Rattle.entry.specs.declared.Rule.the-variants.{Resource, Slots, WrongSlot, NotAModule, NotADrone, NotAFighter, NotAnImplant, SlotTaken, WrongSlotIndex, SubsystemTaken, Skill, RigSize, ShipRestricted, CapitalItem, StructureItem, ShipItem, MaxGroup, MaxType, NotAHull, NotAMode, NotASkill}
+use Rattle.entry.specs.declared.Rule.the-variants.{Resource, Slots, WrongSlot, NotAModule, NotADrone, NotAFighter, NotAnImplant}
+use Rattle.entry.specs.declared.Rule.the-variants.{SlotTaken, WrongSlotIndex, SubsystemTaken, Skill, RigSize, ShipRestricted}
+use Rattle.entry.specs.declared.Rule.the-variants.{CapitalItem, StructureItem, ShipItem, MaxGroup, MaxType, NotAHull, NotAMode}
+use Rattle.entry.specs.declared.Rule.the-variants.{NotASkill}
 use Rattle.entry.specs.declared.Entry.{Entry}
 
 abbrev pub onShip : Rule → Entry

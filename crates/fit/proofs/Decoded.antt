@@ -5,46 +5,25 @@ use native.Mathlib.Numerals.{add-one}
 use native.Mathlib.Omega.{arith}
 use mathlib.Core.Path.{_≡_, refl, sym, ap, _∙_}
 use mathlib.Core.List.{List, map}
-use mathlib.Core.Option.{none, some}
+use mathlib.Core.Option.{some}
 use lib.ListN.{length, getD, getElem?}
 use Rattle.words.specs.Words.{table, sumOf}
 use Rattle.words.proofs.Tables.{length-table, getD-table, map-table, table-same, sum-more}
-use Rattle.words.proofs.Elements.{sum-none, table-two, elem-table, past-table}
-use Rattle.image.specs.Bytes.{u8At, i32At}
+use Rattle.words.proofs.Elements.{sum-none, table-two, elem-table}
+use Rattle.image.specs.Bytes.{i32At}
 use Rattle.keys.specs.Keys.{keyAt}
 use Rattle.keys.proofs.Parts.{part-length, part-key}
-use Rattle.catalogue.specs.Catalogue.{Id}
-use Rattle.fit.specs.Fit.{Item, Result, fitOf, skillCount, itemCount, resultCount, skillsAt, levelsAt, itemAt, attributeCount, idsAt, attributeAt, countAt, startAt, resultOf, allResults, resultAt}
+use Rattle.fit.specs.Fit.{Item, Result, fitOf, skillCount, itemCount, resultCount, itemAt, attributeCount, idsAt, attributeAt, countAt, startAt, resultOf, allResults, resultAt}
 use Rattle.fit.specs.Sound.{Sized, idsPart}
 
 module _ (b : List ℕ) where
-  pub skill-at : (i : ℕ) (d : Id) → i < skillCount b → getD (fitOf b .skills) i d ≡ i32At b (skillsAt b + 4 * i)
-  unfolding fitOf
-  skill-at i d h = getD-table (skillCount b) _ i d h
-
-  pub level-at : (i d : ℕ) → i < skillCount b → getD (fitOf b .levels) i d ≡ u8At b (levelsAt b + i)
-  unfolding fitOf
-  level-at i d h = getD-table (skillCount b) _ i d h
-
   pub item-at : (i : ℕ) (d : Item) → i < itemCount b → getD (fitOf b .items) i d ≡ itemAt b i
   unfolding fitOf
   item-at i d h = getD-table (itemCount b) (itemAt b) i d h
 
-  pub result-at : (i : ℕ) (d : Result) → i < resultCount b → getD (fitOf b .results) i d ≡ resultOf b (i + 2)
-  unfolding fitOf
-  result-at i d h = getD-table (resultCount b) (λ j. resultOf b (j + 2)) i d h
-
-  pub skills-length : length (fitOf b .skills) ≡ skillCount b
-  unfolding fitOf
-  skills-length = length-table 0 (skillCount b) _
-
   pub levels-length : length (fitOf b .levels) ≡ skillCount b
   unfolding fitOf
   levels-length = length-table 0 (skillCount b) _
-
-  pub items-length : length (fitOf b .items) ≡ itemCount b
-  unfolding fitOf
-  items-length = length-table 0 (itemCount b) _
 
   pub results-length : length (fitOf b .results) ≡ resultCount b
   unfolding fitOf
@@ -55,21 +34,9 @@ module _ (b : List ℕ) where
   unfolding fitOf
   all-results = sym (table-two (resultCount b) (resultOf b))
 
-  pub hull-is : fitOf b .frame .shipResult ≡ resultOf b 0
-  unfolding fitOf
-  hull-is = refl
-
-  pub character-is : fitOf b .frame .characterResult ≡ resultOf b 1
-  unfolding fitOf
-  character-is = refl
-
   pub result-some : (n : ℕ) → n < resultCount b + 2 → resultAt (fitOf b) n ≡ some (resultOf b n)
   unfolding resultAt
   result-some n h = ap (λ (l : List Result). getElem? l n) all-results ∙ elem-table (resultCount b + 2) (resultOf b) n h
-
-  pub result-none : (n : ℕ) → resultCount b + 2 ≤ n → resultAt (fitOf b) n ≡ none
-  unfolding resultAt
-  result-none n h = ap (λ (l : List Result). getElem? l n) all-results ∙ past-table (resultCount b + 2) (resultOf b) n h
 
   -- where the next result's attributes begin
   pub start-next : (j : ℕ) → startAt b (j + 1) ≡ startAt b j + countAt b j

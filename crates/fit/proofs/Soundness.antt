@@ -1,5 +1,5 @@
 -- A fit is sound exactly where it is not refused, and what soundness says of each field.
-use Prim.Native.Nat.{ℕ, zero, _+_, _≤_, _<_}
+use Prim.Native.Nat.{ℕ, _+_, _≤_, _<_}
 use native.Mathlib.Omega.{arith}
 use mathlib.Core.Path.{_≡_, refl, sym, ap, _∙_}
 use mathlib.Core.Bool.{Bool, true, false, not, cond, _&&_, _||_}
@@ -12,7 +12,6 @@ use borrow.Author.Tests.{ltb-false, le-ltb, eq-eqb, eqb-true, ne-eqb, not-false}
 use Rattle.words.specs.Words.{anyOf, inOrder, sumOf, firstOf, same}
 use Rattle.words.proofs.Tables.{any-false}
 use Rattle.words.proofs.Elements.{or-left, or-right}
-use Rattle.image.specs.Bytes.{u32At, i32At}
 use Rattle.numbers.specs.Slots as Slots
 use Rattle.fit.specs.Fit.{Fit, Item, Result, fitOf, skillCount, itemCount, resultCount, attributeCount, sizeOf, itemAt, resultOf, allResults}
 use Rattle.fit.specs.Refusals.{badSize, badOrder, badItem, badResult, badField, fitRefusals, fitRefusal}
@@ -132,10 +131,6 @@ module _ (b : List ℕ) where
       let h = first-none (badSize b) (badOrder (fitOf b)) (badField (fitOf b)) (sym refusal ∙ e) in
       record { sized = sized b (h .0); order = h .1; fields = h .2 }
 
-  -- what is sound is not refused
-  pub not-refused : Sound b → fitRefusal b ≡ 0
-  not-refused s = refusal ∙ rw (size-good b (s .sized), s .order, s .fields)
-
 -- ---- what a sound fit's fields are
 module _ (f : Fit) where
   abbrev pub badMode : Bool
@@ -158,12 +153,6 @@ abbrev pub disordered : Result → Bool
 disordered r = not (inOrder ltZ (map (λ x. x .id) (r .attributes)))
 
 module _ (b : List ℕ) (s : Sound b) where
-  pub mode-flag : u32At b 20 ≤ 1
-  unfolding fitOf
-  mode-flag =
-      let flag = u32At b 20 in
-      ltb-false 1 flag (or-left (ltb 1 flag) (eqb flag 0 && not (same (i32At b 24) (pos 0))) (mode-fine (fitOf b) (s .fields)))
-
   pub item-good : (i : ℕ) → i < itemCount b → badItem (itemAt b i) ≡ false
   unfolding fitOf
   item-good i h = any-false badItem (itemCount b) (itemAt b) (items-fine (fitOf b) (s .fields)) i h
@@ -179,10 +168,6 @@ module _ (b : List ℕ) (s : Sound b) where
   -- the index is at most 255 unless Booster
   pub item-index : (i : ℕ) → i < itemCount b → (itemAt b i .slot ≡ Slots.booster → ⊥) → itemAt b i .index ≤ 255
   item-index i h n = index-good (itemAt b i) (item-good i h) n
-
-  -- the index of what is in a bay or in Cargo is 0
-  pub item-bay : (i : ℕ) → i < itemCount b → inBay (itemAt b i .slot) ≡ true → itemAt b i .index ≡ 0
-  item-bay i h n = bay-good (itemAt b i) (item-good i h) n
 
   -- the state is 0 to 3
   pub result-state : (j : ℕ) → j < resultCount b + 2 → resultOf b j .state ≤ 3

@@ -7,7 +7,7 @@ ghost use mathlib.Core.Path.{_≡_};
 ghost use Prim.Native.Nat.{_+_, _*_, _<_, min};
 ghost use lib.ListN.{length, getD};
 ghost use Rattle.numbers.specs.Sizes.{mostResults};
-ghost use Rattle.image.specs.Bytes.{u8At, i32At};
+ghost use Rattle.image.specs.Bytes.{i32At};
 ghost use Rattle.floats.specs.Values.{valueOf};
 ghost use Rattle.fit.specs.Fit.{modeOf, fitOf, skillCount, itemCount, resultCount};
 ghost use Rattle.fit.specs.Fit.{skillsAt, itemAt, countAt, startAt, resultOf};

@@ -1,6 +1,7 @@
 // Refusals 4 to 6 of document 01: each is one pass over the whole fit.
 use fit::Verdict;
 use fit::layout;
+use numbers::refusals;
 use numbers::slots;
 use numbers::states;
 ghost use mathlib.Core.Path.{_≡_};
@@ -245,4 +246,17 @@ pub fn verdict(fit: &[u8]) -> Verdict
         return Verdict::BadField;
     }
     Verdict::Accepted
+}
+
+// Its number, or 0.
+pub fn number(fit: &[u8]) -> u64
+    ensures { λ r. ⌜ r ≡ fitRefusal (now (fit .entry)) ⌝ }
+{
+    let verdict = verdict(fit);
+    match verdict {
+        Verdict::Accepted => 0,
+        Verdict::BadSize => refusals::BAD_SIZE,
+        Verdict::BadOrder => refusals::BAD_IDS,
+        Verdict::BadField => refusals::BAD_FIELD,
+    }
 }

@@ -11,6 +11,7 @@ use Rattle.catalogue.proofs.Sound.{accepted-sound}
 use Rattle.fit.specs.Refusals.{fitRefusals, fitRefusal}
 use Rattle.fit.specs.Sound as Fit
 use Rattle.fit.proofs.Soundness.{sound}
+use Rattle.fitcheck.specs.Calls.{imageRefusals}
 
 -- every number is one of 1 to limit
 abbrev pub Numbered : ℕ → List (ℕ × Bool) → Type 0
@@ -32,7 +33,8 @@ unfolding firstOf
 first-kept [] m h = absurd (omega arith)
 first-kept (x ∷ l) m h = go (x .1) h (first-kept l m)
   where
-    go : (b : Bool) → 0 < cond b (x .0) (firstOf l) → (0 < firstOf l → firstOf (l ++ m) ≡ firstOf l) → cond b (x .0) (firstOf (l ++ m)) ≡ cond b (x .0) (firstOf l)
+    go : (b : Bool) → 0 < cond b (x .0) (firstOf l) → (0 < firstOf l → firstOf (l ++ m) ≡ firstOf l)
+        → cond b (x .0) (firstOf (l ++ m)) ≡ cond b (x .0) (firstOf l)
     go true h f = refl
     go false h f = f h
 
@@ -55,20 +57,32 @@ pub numbered-fit : (fit : List ℕ) → Numbered 6 (fitRefusals fit)
 unfolding fitRefusals
 numbered-fit fit = (omega arith, omega arith, (omega arith, omega arith, (omega arith, omega arith, tt)))
 
-pub numbered-images : (catalogue fit : List ℕ) → Numbered 6 (catalogueRefusals catalogue ++ fitRefusals fit)
+pub numbered-images : (catalogue fit : List ℕ) → Numbered 6 (imageRefusals catalogue fit)
 unfolding catalogueRefusals fitRefusals
-numbered-images catalogue fit = (omega arith, omega arith, (omega arith, omega arith, (omega arith, omega arith, (omega arith, omega arith, (omega arith, omega arith, (omega arith, omega arith, tt))))))
+numbered-images catalogue fit = (
+  omega arith,
+  omega arith,
+  (
+    omega arith,
+    omega arith,
+    (
+      omega arith,
+      omega arith,
+      (omega arith, omega arith, (omega arith, omega arith, (omega arith, omega arith, tt))),
+    ),
+  ),
+)
 
 module _ (catalogue fit : List ℕ) where
-  pub catalogue-first : 0 < catalogueRefusal catalogue → catalogueRefusal catalogue ≡ firstOf (catalogueRefusals catalogue ++ fitRefusals fit)
+  pub catalogue-first : 0 < catalogueRefusal catalogue → catalogueRefusal catalogue ≡ firstOf (imageRefusals catalogue fit)
   unfolding catalogueRefusal
   catalogue-first h = sym (first-kept (catalogueRefusals catalogue) (fitRefusals fit) h)
 
-  pub fit-first : catalogueRefusal catalogue ≡ 0 → fitRefusal fit ≡ firstOf (catalogueRefusals catalogue ++ fitRefusals fit)
+  pub fit-first : catalogueRefusal catalogue ≡ 0 → fitRefusal fit ≡ firstOf (imageRefusals catalogue fit)
   unfolding catalogueRefusal fitRefusal
   fit-first e = sym (first-past 6 (catalogueRefusals catalogue) (fitRefusals fit) (numbered-catalogue catalogue) e)
 
-  pub images-sound : firstOf (catalogueRefusals catalogue ++ fitRefusals fit) ≡ 0 → Catalogue.Sound catalogue × Fit.Sound fit
+  pub images-sound : firstOf (imageRefusals catalogue fit) ≡ 0 → Catalogue.Sound catalogue × Fit.Sound fit
   images-sound e = go (catalogueRefusal catalogue) refl
     where
       go : (k : ℕ) → catalogueRefusal catalogue ≡ k → Catalogue.Sound catalogue × Fit.Sound fit

@@ -9,20 +9,20 @@ use lib.Dec.{ltb}
 use lib.ListN.{length}
 use borrow.Author.Tests.{lt-ltb, le-ltb}
 use Rattle.words.specs.Words.{firstOf, given}
+use Rattle.numbers.specs.Names as Names
+use Rattle.numbers.specs.Sizes as Sizes
+use Rattle.numbers.specs.Refusals as Refusals
 use Rattle.catalogue.specs.Catalogue.{Id, catalogueOf}
-use Rattle.catalogue.specs.Refusals.{catalogueRefusals}
 use Rattle.catalogue.specs.Lookups.{nameId}
 use Rattle.fit.specs.Fit.{fitOf}
-use Rattle.fit.specs.Refusals.{fitRefusals}
 use Rattle.entry.specs.declared.Entry.{Entry}
 use Rattle.entry.specs.Wrote.{Wrote}
 use Rattle.entry.proofs.Wrote.{wrote-count, wrote-written, wrote-none, wrote-same}
 use Rattle.context.specs.Gathered.{pairsOf}
-use Rattle.resource.specs.Rows.{launchedIn}
-use Rattle.resource.proofs.Sums.{launched-in}
+use Rattle.resource.specs.Resource.{launched}
 use Rattle.validate.specs.Kind.{isHull}
 use Rattle.validate.specs.Validate.{listOf}
-use Rattle.fitcheck.specs.Calls.{Answer, Refused, answerBy, answer, tooManyDrones, tooShort, listCall, returned, buffered}
+use Rattle.fitcheck.specs.Calls.{Answer, Refused, answerBy, answer, tooManyDrones, tooShort, imageRefusals, listRefusals, listCall, returned, buffered}
 use Rattle.fitcheck.specs.Gave.{Gave, lent}
 use Rattle.fitcheck.proofs.First.{Numbered, first-kept, first-past, numbered-images}
 
@@ -57,15 +57,17 @@ module _ (n : ℕ) {t : Bool} (m : List (ℕ × Bool)) (es : List Entry) where
 pub gave-same : {b a : List ℕ} {w : ℕ} {x y : Answer} → x ≡ y → Gave b a w x → Gave b a w y
 gave-same {b} {a} {w} e g = subst (Gave b a w) e g
 
-pub gave-refused : (b : List ℕ) (n : ℕ) {w : ℕ} → w ≡ n * 4294967296 → Gave b b w (Refused n)
+pub gave-refused : (b : List ℕ) (n : ℕ) {w : ℕ} → w ≡ n * Sizes.word → Gave b b w (Refused n)
 unfolding returned buffered
 gave-refused b n e = record { word = e; buffer = refl }
 
 module _ {b : List ℕ} (es : List Entry) where
   -- no room: refusal 10
-  pub gave-short : length b < 24 * length es → Gave b b 42949672960 (lent b es)
+  pub gave-short : {w : ℕ} → length b < 24 * length es → w ≡ Refusals.tooShort * Sizes.word → Gave b b w (lent b es)
   unfolding tooShort
-  gave-short h = gave-same (sym (answer-true 10 [] es (omega arith) (lt-ltb (length b) (24 * length es) h))) (gave-refused b 10 (omega arith))
+  gave-short h e =
+      gave-same (sym (answer-true Refusals.tooShort [] es (omega arith) (lt-ltb (length b) (24 * length es) h)))
+      (gave-refused b Refusals.tooShort e)
 
   -- room: the list
   pub gave-list : {a : List ℕ} {k : ℕ} → 24 * length es ≤ length b → Wrote b 0 a k es → Gave b a k (lent b es)
@@ -82,27 +84,28 @@ module _ {b : List ℕ} (es : List Entry) where
 
 -- ---- refusal 7
 module _ (catalogue fit : List ℕ) where
-  pub drones-no-hull : isHull (catalogueOf catalogue) (fitOf fit .frame .ship) ≡ false → tooManyDrones (catalogueOf catalogue) (fitOf fit) ≡ false
+  pub drones-no-hull : isHull (catalogueOf catalogue) (fitOf fit .frame .ship) ≡ false → false ≡ tooManyDrones (catalogueOf catalogue) (fitOf fit)
   unfolding tooManyDrones
   drones-no-hull e = rw e
 
-  pub drones-unnamed : isHull (catalogueOf catalogue) (fitOf fit .frame .ship) ≡ true → nameId (catalogueOf catalogue .names) 20 ≡ none → false ≡ tooManyDrones (catalogueOf catalogue) (fitOf fit)
-  unfolding tooManyDrones given
-  drones-unnamed e n = rw (e, n)
+  module _ (e : isHull (catalogueOf catalogue) (fitOf fit .frame .ship) ≡ true) where
+    pub drones-unnamed : nameId (catalogueOf catalogue .names) Names.maxActiveDrones ≡ none → false ≡ tooManyDrones (catalogueOf catalogue) (fitOf fit)
+    unfolding tooManyDrones given
+    drones-unnamed n = rw (e, n)
 
-  pub drones-over : (id : Id) → isHull (catalogueOf catalogue) (fitOf fit .frame .ship) ≡ true → nameId (catalogueOf catalogue .names) 20 ≡ some id
-      → ltb 4294967295 (launchedIn fit) ≡ tooManyDrones (catalogueOf catalogue) (fitOf fit)
-  unfolding tooManyDrones given pairsOf
-  drones-over id e n = rw (e, n, ← launched-in catalogue fit)
+    pub drones-over : (id : Id) → nameId (catalogueOf catalogue .names) Names.maxActiveDrones ≡ some id
+        → ltb Sizes.mostDrones (launched (pairsOf catalogue fit)) ≡ tooManyDrones (catalogueOf catalogue) (fitOf fit)
+    unfolding tooManyDrones given pairsOf
+    drones-over id n = rw (e, n)
 
 -- ---- the list call, by the refusals of both images
 module _ (catalogue fit buffer : List ℕ) where
-  pub list-refused : 0 < firstOf (catalogueRefusals catalogue ++ fitRefusals fit) → listCall catalogue fit buffer ≡ Refused (firstOf (catalogueRefusals catalogue ++ fitRefusals fit))
+  pub list-refused : 0 < firstOf (imageRefusals catalogue fit) → listCall catalogue fit buffer ≡ Refused (firstOf (imageRefusals catalogue fit))
   unfolding listCall
-  list-refused h = answer-kept (catalogueRefusals catalogue ++ fitRefusals fit) _ _ h
+  list-refused h = answer-kept (imageRefusals catalogue fit) _ _ h
 
-  pub list-past : firstOf (catalogueRefusals catalogue ++ fitRefusals fit) ≡ 0
+  pub list-past : firstOf (imageRefusals catalogue fit) ≡ 0
       → listCall catalogue fit buffer
-      ≡ answer ((7, tooManyDrones (catalogueOf catalogue) (fitOf fit)) ∷ (10, tooShort buffer (listOf (catalogueOf catalogue) (fitOf fit))) ∷ []) (listOf (catalogueOf catalogue) (fitOf fit))
+      ≡ answer (listRefusals (catalogueOf catalogue) (fitOf fit) buffer) (listOf (catalogueOf catalogue) (fitOf fit))
   unfolding listCall
-  list-past e = answer-past (catalogueRefusals catalogue ++ fitRefusals fit) _ _ 6 (numbered-images catalogue fit) e
+  list-past e = answer-past (imageRefusals catalogue fit) _ _ 6 (numbered-images catalogue fit) e

@@ -2,4 +2,4 @@
 pub mod First
 pub mod Giving
 pub mod Skills
-pub mod Halls
+pub mod HallLaws

@@ -6,6 +6,9 @@ use mathlib.Core.List.{List, [], _∷_, _++_}
 use lib.Dec.{ltb}
 use lib.ListN.{length}
 use Rattle.words.specs.Words.{given, firstOf}
+use Rattle.numbers.specs.Names as Names
+use Rattle.numbers.specs.Sizes as Sizes
+use Rattle.numbers.specs.Refusals as Refusals
 use Rattle.catalogue.specs.Catalogue.{Catalogue, catalogueOf}
 use Rattle.catalogue.specs.Refusals.{catalogueRefusals}
 use Rattle.catalogue.specs.Lookups.{nameId}
@@ -14,8 +17,8 @@ use Rattle.fit.specs.Refusals.{fitRefusals}
 use Rattle.entry.specs.declared.Entry.{Entry}
 use Rattle.entry.specs.Entries as Entries
 use Rattle.context.specs.Context.{pairs}
-use Rattle.validate.specs.Kind.{isHull}
 use Rattle.resource.specs.Resource.{launched}
+use Rattle.validate.specs.Kind.{isHull}
 use Rattle.validate.specs.Validate.{listOf}
 use Rattle.skill.specs.Skill.{tooMany, skillList}
 
@@ -31,30 +34,50 @@ answerBy (suc n) es = Refused (suc n)
 unfoldable pub answer : List (ℕ × Bool) → List Entry → Answer
 answer refusals es = answerBy (firstOf refusals) es
 
--- 7: on a hull, name 20 present, launched drones over 4,294,967,295
+-- 7: on a hull, its name present, launched drones over 4,294,967,295
 unfoldable pub tooManyDrones : Catalogue → Fit → Bool
-tooManyDrones c f = isHull c (f .frame .ship) && given (nameId (c .names) 20) false (λ _. true) && ltb 4294967295 (launched (pairs c f))
+tooManyDrones c f =
+    isHull c (f .frame .ship) && given (nameId (c .names) Names.maxActiveDrones) false (λ _. true)
+    && ltb Sizes.mostDrones (launched (pairs c f))
+
+-- 8: the result number is over R + 1
+abbrev pub noResult : Fit → ℕ → Bool
+noResult f result = ltb (length (f .results) + 1) result
+
+-- 9: over 512 distinct wanted skills
+abbrev pub tooManySkills : Catalogue → Fit → ℕ → Bool
+tooManySkills c f result = given (resultAt f result) false (tooMany Sizes.mostWanted c)
 
 -- 10: the buffer is shorter than 24 times the entry count
 unfoldable pub tooShort : List ℕ → List Entry → Bool
-tooShort buffer es = ltb (length buffer) (24 * length es)
+tooShort buffer es = ltb (length buffer) (Sizes.entrySize * length es)
 
+-- ---- the refusals, each with its number, in their order
+abbrev pub imageRefusals : (catalogue fit : List ℕ) → List (ℕ × Bool)
+imageRefusals catalogue fit = catalogueRefusals catalogue ++ fitRefusals fit
+
+abbrev pub listRefusals : Catalogue → Fit → (buffer : List ℕ) → List (ℕ × Bool)
+listRefusals c f buffer = (Refusals.tooManyDrones, tooManyDrones c f) ∷ (Refusals.tooShort, tooShort buffer (listOf c f)) ∷ []
+
+abbrev pub skillRefusals : Catalogue → Fit → (result : ℕ) → (buffer : List ℕ) → List (ℕ × Bool)
+skillRefusals c f result buffer =
+    (Refusals.noResult, noResult f result)
+    ∷ (Refusals.tooManySkills, tooManySkills c f result)
+    ∷ (Refusals.tooShort, tooShort buffer (skillList c f result))
+    ∷ []
+
+-- ---- the calls
 unfoldable pub listCall : (catalogue fit buffer : List ℕ) → Answer
 listCall catalogue fit buffer =
     let c = catalogueOf catalogue in
     let f = fitOf fit in
-    let es = listOf c f in
-    answer (catalogueRefusals catalogue ++ fitRefusals fit ++ (7, tooManyDrones c f) ∷ (10, tooShort buffer es) ∷ []) es
+    answer (imageRefusals catalogue fit ++ listRefusals c f buffer) (listOf c f)
 
--- 8: result number over R + 1; 9: over 512 distinct wanted skills
 unfoldable pub skillCall : (catalogue fit : List ℕ) (result : ℕ) (buffer : List ℕ) → Answer
 skillCall catalogue fit result buffer =
     let c = catalogueOf catalogue in
     let f = fitOf fit in
-    let es = skillList c f result in
-    answer (catalogueRefusals catalogue ++ fitRefusals fit
-    ++ (8, ltb (length (f .results) + 1) result) ∷ (9, given (resultAt f result) false (tooMany 512 c)) ∷ (10, tooShort buffer es) ∷ [])
-    es
+    answer (imageRefusals catalogue fit ++ skillRefusals c f result buffer) (skillList c f result)
 
 -- the buffer afterwards: a refusal writes nothing, a list its own entries from byte 0
 unfoldable pub buffered : List ℕ → Answer → List ℕ
@@ -63,5 +86,5 @@ buffered buffer (Listed es) = Entries.written buffer es
 
 -- the word: the refusal number (0 where answered) times 4,294,967,296, plus the count (0 where refused)
 unfoldable pub returned : Answer → ℕ
-returned (Refused n) = n * 4294967296
+returned (Refused n) = n * Sizes.word
 returned (Listed es) = length es

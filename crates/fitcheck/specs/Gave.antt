@@ -2,6 +2,7 @@
 use Prim.Native.Nat.{ℕ}
 use mathlib.Core.Path.{_≡_}
 use mathlib.Core.List.{List, [], _∷_}
+use Rattle.numbers.specs.Refusals as Refusals
 use Rattle.entry.specs.declared.Entry.{Entry}
 use Rattle.fitcheck.specs.Calls.{Answer, answer, tooShort, returned, buffered}
 
@@ -9,6 +10,6 @@ pub record Gave (before after : List ℕ) (w : ℕ) (a : Answer) : Type 0 where
   pub word : w ≡ returned a
   pub buffer : after ≡ buffered before a
 
--- the entries, where they fit the buffer
+-- the entries, where they fit the buffer that was lent
 abbrev pub lent : List ℕ → List Entry → Answer
-lent buffer es = answer ((10, tooShort buffer es) ∷ []) es
+lent buffer es = answer ((Refusals.tooShort, tooShort buffer es) ∷ []) es

@@ -1,10 +1,13 @@
 -- Document 01, "Hall number": u32 K, K lengths, then K fits end to end; how many are clear, faulted and refused.
-use Prim.Native.Nat.{ℕ, zero, suc, _+_, _*_}
+use Prim.Native.Nat.{ℕ, zero, suc, _+_, _*_, _≤_}
+use mathlib.Core.Path.{_≡_}
 use mathlib.Core.Bool.{Bool, false, not, _||_, cond}
 use mathlib.Core.List.{List, [], _∷_, _++_}
 use lib.Dec.{eqb, ltb}
 use lib.ListN.{length, take, drop}
 use Rattle.words.specs.Words.{table, countOf, isEmpty, firstOf}
+use Rattle.numbers.specs.Sizes as Sizes
+use Rattle.numbers.specs.Refusals as Refusals
 use Rattle.image.specs.Bytes.{u32At}
 use Rattle.catalogue.specs.Catalogue.{Catalogue, catalogueOf}
 use Rattle.catalogue.specs.Refusals.{catalogueRefusals}
@@ -34,12 +37,17 @@ module _ (input : List ℕ) where
 
   -- 4: under 4 bytes, K over 64, or 4 + 4K plus the lengths is not the input's length
   unfoldable pub badInput : Bool
-  badInput = ltb (length input) 4 || ltb 64 fitCount || not (eqb (fitStart fitCount) (length input))
+  badInput = ltb (length input) 4 || ltb Sizes.mostFits fitCount || not (eqb (fitStart fitCount) (length input))
+
+  -- not refused by 4
+  pub record Laid : Type 0 where
+    pub few : fitCount ≤ Sizes.mostFits
+    pub size : fitStart fitCount ≡ length input
 
 module _ (c : Catalogue) where
   -- refusal 4 to 7
   unfoldable pub fitRefused : List ℕ → Bool
-  fitRefused b = ltb 0 (firstOf (fitRefusals b ++ (7, tooManyDrones c (fitOf b)) ∷ []))
+  fitRefused b = ltb 0 (firstOf (fitRefusals b ++ (Refusals.tooManyDrones, tooManyDrones c (fitOf b)) ∷ []))
 
   unfoldable pub isClear : List ℕ → Bool
   isClear b = cond (fitRefused b) false (isEmpty (listOf c (fitOf b)))
@@ -62,9 +70,19 @@ hallBy (suc n) a = HallRefused (suc n)
 
 unfoldable pub hallCall : (catalogue input : List ℕ) → HallAnswer
 hallCall catalogue input =
-    hallBy (firstOf (catalogueRefusals catalogue ++ (4, badInput input) ∷ [])) (numbersOf (catalogueOf catalogue) (fits input))
+    hallBy (firstOf (catalogueRefusals catalogue ++ (Refusals.badSize, badInput input) ∷ [])) (numbersOf (catalogueOf catalogue) (fits input))
 
 -- clear + 256 * faulted + 65,536 * refused in the count's place
 unfoldable pub hallReturned : HallAnswer → ℕ
-hallReturned (HallRefused n) = n * 4294967296
+hallReturned (HallRefused n) = n * Sizes.word
 hallReturned (Numbers clear faulted refused) = clear + 256 * faulted + 65536 * refused
+
+-- ---- the word, fit by fit
+module _ (c : Catalogue) where
+  -- 1 where a fit is clear, 256 where it is faulted, 65,536 where it is refused
+  unfoldable pub shareOf : List ℕ → ℕ
+  shareOf b = cond (isClear c b) 1 0 + 256 * cond (isFaulted c b) 1 0 + 65536 * cond (fitRefused c b) 1 0
+
+  -- of some fits
+  unfoldable pub wordOf : List (List ℕ) → ℕ
+  wordOf fs = hallReturned (numbersOf c fs)

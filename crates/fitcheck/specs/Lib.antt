@@ -1,4 +1,3 @@
 pub mod Calls
-pub mod Hall
 pub mod Gave
-pub mod Halls
+pub mod Hall

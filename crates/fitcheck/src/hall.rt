@@ -1,17 +1,13 @@
 // The hall number: K fits end to end, each judged where it stands in the input. Document 01, "Hall number".
+use numbers::sizes;
 ghost use mathlib.Core.Path.{_≡_};
-ghost use mathlib.Core.Bool.{true};
 ghost use Prim.Native.Nat.{_+_, _*_, _<_, _≤_};
 ghost use lib.ListN.{length};
+ghost use Rattle.numbers.specs.Sizes as Sizes;
 ghost use Rattle.image.specs.Bytes.{u32At};
 ghost use Rattle.catalogue.specs.Catalogue.{catalogueOf};
 ghost use Rattle.catalogue.specs.Sound as Catalogue;
-ghost use Rattle.fit.specs.Fit.{fitOf};
-ghost use Rattle.fit.specs.Sound as Fit;
-ghost use Rattle.validate.specs.Kind.{isHull};
-ghost use Rattle.validate.specs.Validate.{listOf};
-ghost use Rattle.fitcheck.specs.Hall.{fitCount, lengthAt, fitStart, fits, badInput};
-ghost use Rattle.fitcheck.specs.Halls.{Laid, shareOf, wordOf};
+ghost use Rattle.fitcheck.specs.Hall.{fitCount, lengthAt, fitStart, fits, badInput, Laid, shareOf, wordOf};
 
 // What one fit adds to the word.
 const CLEAR: u64 = 1;
@@ -19,6 +15,9 @@ const CLEAR: u64 = 1;
 const FAULTED: u64 = 256;
 
 const REFUSED: u64 = 65536;
+
+// Fits of one hall name the same types again and again.
+const HINTS: usize = 8192;
 
 // A number of the input, as an index.
 fn size_at(input: &[u8], at: usize) -> usize
@@ -38,7 +37,7 @@ fn length_at(input: &[u8], i: usize) -> usize
 
 // Where the last of n fits ends.
 fn fits_end(input: &[u8], n: usize) -> usize
-    requires { ⌜ (n ≡ fitCount (now input)) × (n ≤ 64) × (4 + 4 * n ≤ length (now input)) ⌝ }
+    requires { ⌜ (n ≡ fitCount (now input)) × (n ≤ Sizes.mostFits) × (4 + 4 * n ≤ length (now input)) ⌝ }
     ensures { λ r. ⌜ r ≡ fitStart (now (input .entry)) (fitCount (now (input .entry))) ⌝ }
 {
     let mut at = 4 + 4 * n;
@@ -58,7 +57,7 @@ pub fn bad_input(input: &[u8]) -> bool
         return true;
     }
     let n = size_at(input, 0);
-    if 64 < n {
+    if sizes::MOST_FITS < n {
         return true;
     }
     if input.len() < 4 + 4 * n {
@@ -70,56 +69,32 @@ pub fn bad_input(input: &[u8]) -> bool
     false
 }
 
-// How many entries the list of a hull has.
-fn hull_count(catalogue: &[u8], fit: &[u8], hints: &mut [u32]) -> usize
-    requires { ⌜ Catalogue.Sound (now catalogue) × Fit.Sound (now fit) × (isHull (catalogueOf (now catalogue)) (fitOf (now fit) .frame .ship) ≡ true) ⌝ }
-    ensures { λ r. ⌜ r ≡ length (listOf (catalogueOf (now (catalogue .entry))) (fitOf (now (fit .entry)))) ⌝ }
-{
-    let starts = fit::starts(fit);
-    let facts = context::gather(catalogue, fit, hints);
-    let mut none = [0u8; 0];
-    validate::validate(
-        catalogue,
-        fit,
-        &starts,
-        &facts.groups,
-        &facts.categories,
-        &facts.racks,
-        &facts.hardpoints,
-        &facts.volumes,
-        hints,
-        &mut none,
-    )
-}
-
 // What a fit adds, whatever its bytes are.
 fn share(catalogue: &[u8], fit: &[u8], hints: &mut [u32]) -> u64
     requires { ⌜ Catalogue.Sound (now catalogue) ⌝ }
     ensures { λ r. ⌜ (r ≡ shareOf (catalogueOf (now (catalogue .entry))) (now (fit .entry))) × (r ≤ 65536) ⌝ }
 {
-    if 0 < super::fit_refusal(fit) {
+    if 0 < fit_refusals::number(fit) {
         return REFUSED; // 4 to 6
     }
-    if !super::on_hull(catalogue, fit) {
-        return FAULTED; // NotAHull
-    }
-    if super::too_many_drones(catalogue, fit) {
+    let facts = context::gather(catalogue, fit, hints);
+    if super::too_many_drones(catalogue, fit, &facts) {
         return REFUSED; // 7
     }
-    if hull_count(catalogue, fit, hints) == 0 {
+    let mut none = [0u8; 0];
+    if validate::validate(catalogue, fit, &facts, hints, &mut none) == 0 {
         return CLEAR;
     }
     FAULTED
 }
 
 // The word of a hall whose catalogue and lengths are accepted.
-pub fn numbers(catalogue: &[u8], input: &[u8]) -> u64
+pub fn word(catalogue: &[u8], input: &[u8]) -> u64
     requires { ⌜ Catalogue.Sound (now catalogue) × Laid (now input) ⌝ }
     ensures { λ r. ⌜ r ≡ wordOf (catalogueOf (now (catalogue .entry))) (fits (now (input .entry))) ⌝ }
 {
     let n = size_at(input, 0);
-    // Fits of one hall name the same types again and again.
-    let mut hints = [0u32; 8192];
+    let mut hints = [0u32; HINTS];
     let mut word: u64 = 0;
     let mut at = 4 + 4 * n;
     let mut i: usize = 0;

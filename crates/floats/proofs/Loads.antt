@@ -5,7 +5,7 @@ use lib.Dec.{T}
 use lib.Ieee.{Float, binary64, add, le, fits}
 use Rattle.floats.specs.Floats.{zeroF, over, totalFrom}
 use Rattle.floats.proofs.Order.{le-refl, lt-le-trans, lt-not-nan}
-use Rattle.floats.proofs.Sums.{add-above, total-fits, total-above}
+use Rattle.floats.proofs.Sums.{total-fits, total-above}
 
 pub over-mono : (u v a : Float) → T (le u v) → T (over u a) → T (over v a)
 unfolding over
@@ -16,12 +16,7 @@ pub over-self : (u a : Float) → T (over u a) → T (le u u)
 unfolding over
 over-self u a o = le-refl u (lt-not-nan _ u o)
 
--- one more term that is not below zero
-pub over-add : (u a x : Float) → T (fits binary64 u) → T (over u a) → T (le zeroF x) → T (le u (add binary64 u x))
-unfolding over
-over-add u a x h o p = add-above binary64 _ u x h o p
-
--- any number of them
+-- any number of terms that are not below zero
 pub total-grows : {A : Type 0} (f : A → Float) (u a : Float) (l m : List A) → T (fits binary64 u) → ((x : A) → List·Memᴰ x m → T (le zeroF (f x)))
     → T (over (totalFrom f u l) a) → T (le (totalFrom f u l) (totalFrom f u (l ++ m)))
 unfolding over

@@ -3,10 +3,11 @@ use mathlib.Core.Path.{_≡_, refl, sym, subst}
 use mathlib.Core.Logic.{_⊎_, inl, inr}
 use mathlib.Core.Bool.{Bool, true, false, not, _&&_, _||_}
 use Prim.Native.Nat.{ℕ, zero, suc, _+_, _<_, _*_, _≤_}
-use native.Mathlib.Nat.{zero-mul, mul-pos, add-mul, mul-right-comm, mul-le-mul-right, mul-lt-mul-of-pos-right, le-of-mul-le-mul-right, lt-of-not-le, not-le-of-lt, eq-or-lt-of-le, le-of-lt, le-of-eq}
+use native.Mathlib.Nat.{zero-mul, mul-pos, add-mul, mul-right-comm, mul-le-mul-right, mul-lt-mul-of-pos-right, le-of-mul-le-mul-right}
+use native.Mathlib.Nat.{lt-of-not-le, not-le-of-lt, eq-or-lt-of-le, le-of-lt, le-of-eq}
 use native.Mathlib.Omega.{arith}
 use lib.Dec.{T, ltb, eqb, eqb→eq, ltb→lt, lt→ltb}
-use lib.Ieee.{Float, nan, inf, fin, up, down, lt, eq, le, below, level, neg, isNan}
+use lib.Ieee.{Float, nan, inf, fin, up, down, lt, le, below, level, neg, isNan}
 use lib.Ieee.Fits.{down-pos, and-l, and-r, and-i, eq→eqb}
 
 -- ---- ±a < ±b and ±a ≤ ±b, as facts: a sign is true where the number is negative
@@ -53,10 +54,12 @@ sum-zero : (a b : ℕ) → a ≡ b → a ≡ 0 → a + b ≤ 0
 sum-zero a b h k = omega arith
 
 pub le-fact : (s : Bool) (a : ℕ) (t : Bool) (b : ℕ) → T (below s a t b || level s a t b) → Le s a t b
-le-fact false a false b h = elim (or-split (ltb a b) (eqb a b && true) h) [ inl u ↦ le-of-lt (ltb→lt a b u) | inr u ↦ le-of-eq (eqb→eq a b (and-l (eqb a b) true u)) ]
+le-fact false a false b h =
+    elim (or-split (ltb a b) (eqb a b && true) h) [ inl u ↦ le-of-lt (ltb→lt a b u) | inr u ↦ le-of-eq (eqb→eq a b (and-l (eqb a b) true u)) ]
 le-fact false a true b h = sum-zero a b (eqb→eq a b (and-l (eqb a b) (eqb a 0) h)) (eqb→eq a 0 (and-r (eqb a b) (eqb a 0) h))
 le-fact true a false b h = omega arith
-le-fact true a true b h = elim (or-split (ltb b a) (eqb a b && true) h) [ inl u ↦ le-of-lt (ltb→lt b a u) | inr u ↦ le-of-eq (sym (eqb→eq a b (and-l (eqb a b) true u))) ]
+le-fact true a true b h =
+    elim (or-split (ltb b a) (eqb a b && true) h) [ inl u ↦ le-of-lt (ltb→lt b a u) | inr u ↦ le-of-eq (sym (eqb→eq a b (and-l (eqb a b) true u))) ]
 
 both-zero : (a b : ℕ) → a + b ≤ 0 → T (eqb a b && eqb a 0)
 both-zero a b h =
@@ -69,10 +72,25 @@ zero-or-more zero = inl (omega arith)
 zero-or-more (suc n) = inr (omega arith)
 
 pub le-test : (s : Bool) (a : ℕ) (t : Bool) (b : ℕ) → Le s a t b → T (below s a t b || level s a t b)
-le-test false a false b h = elim (eq-or-lt-of-le h) [ inl p ↦ or-r (ltb a b) (eqb a b && true) (and-i (eqb a b) true (eq→eqb p) tt) | inr q ↦ or-l (ltb a b) (eqb a b && true) (lt→ltb a b q) ]
+le-test false a false b h =
+    elim (eq-or-lt-of-le h) [
+      | inl p ↦ or-r (ltb a b) (eqb a b && true) (and-i (eqb a b) true (eq→eqb p) tt)
+      | inr q ↦ or-l (ltb a b)
+          (eqb a b && true) (lt→ltb a b q)
+    ]
 le-test false a true b h = both-zero a b h
-le-test true a false b h = elim (zero-or-more (a + b)) [ inl p ↦ or-r (ltb 0 (a + b)) (eqb a b && eqb a 0) (both-zero a b p) | inr q ↦ or-l (ltb 0 (a + b)) (eqb a b && eqb a 0) (lt→ltb 0 (a + b) q) ]
-le-test true a true b h = elim (eq-or-lt-of-le h) [ inl p ↦ or-r (ltb b a) (eqb a b && true) (and-i (eqb a b) true (eq→eqb (sym p)) tt) | inr q ↦ or-l (ltb b a) (eqb a b && true) (lt→ltb b a q) ]
+le-test true a false b h =
+    elim (zero-or-more (a + b)) [
+      | inl p ↦ or-r (ltb 0 (a + b)) (eqb a b && eqb a 0) (both-zero a b p)
+      | inr q ↦ or-l (ltb 0 (a + b))
+          (eqb a b && eqb a 0) (lt→ltb 0 (a + b) q)
+    ]
+le-test true a true b h =
+    elim (eq-or-lt-of-le h) [
+      | inl p ↦ or-r (ltb b a) (eqb a b && true) (and-i (eqb a b) true (eq→eqb (sym p)) tt)
+      | inr q ↦ or-l (ltb b a)
+          (eqb a b && true) (lt→ltb b a q)
+    ]
 
 -- ---- at one denominator
 lt-le : (s : Bool) (a : ℕ) (t : Bool) (b : ℕ) (u : Bool) (c : ℕ) → Lt s a t b → Le t b u c → Lt s a u c
@@ -125,7 +143,8 @@ le-times true a true b k h = mul-le-mul-right k h
 
 le-over : (s : Bool) (a : ℕ) (t : Bool) (b k : ℕ) → 0 < k → Le s (a * k) t (b * k) → Le s a t b
 le-over false a false b k K h = le-of-mul-le-mul-right h K
-le-over false a true b k K h = le-of-mul-le-mul-right (subst (λ (n : ℕ). (a + b) * k ≤ n) (sym (zero-mul k)) (subst (λ (n : ℕ). n ≤ 0) (sym (add-mul a b k)) h)) K
+le-over false a true b k K h =
+    le-of-mul-le-mul-right (subst (λ (n : ℕ). (a + b) * k ≤ n) (sym (zero-mul k)) (subst (λ (n : ℕ). n ≤ 0) (sym (add-mul a b k)) h)) K
 le-over true a false b k K h = omega arith
 le-over true a true b k K h = le-of-mul-le-mul-right h K
 
@@ -135,14 +154,16 @@ lt-le-fractions s t u p q r x y z Z h k =
     lt-over s (p * z) u (r * x) y
     (lt-le s (p * z * y) t (q * x * z) u (r * x * y)
     (subst (λ (n : ℕ). Lt s n t (q * x * z)) (mul-right-comm p y z) (lt-times s (p * y) t (q * x) z Z h))
-    (subst (λ (n : ℕ). Le t n u (r * x * y)) (mul-right-comm q z x) (subst (λ (n : ℕ). Le t (q * z * x) u n) (mul-right-comm r y x) (le-times t (q * z) u (r * y) x k))))
+    (subst (λ (n : ℕ). Le t n u (r * x * y)) (mul-right-comm q z x)
+    (subst (λ (n : ℕ). Le t (q * z * x) u n) (mul-right-comm r y x) (le-times t (q * z) u (r * y) x k))))
 
 pub le-le-fractions : (s t u : Bool) (p q r x y z : ℕ) → 0 < y → Le s (p * y) t (q * x) → Le t (q * z) u (r * y) → Le s (p * z) u (r * x)
 le-le-fractions s t u p q r x y z Y h k =
     le-over s (p * z) u (r * x) y Y
     (le-le s (p * z * y) t (q * x * z) u (r * x * y)
     (subst (λ (n : ℕ). Le s n t (q * x * z)) (mul-right-comm p y z) (le-times s (p * y) t (q * x) z h))
-    (subst (λ (n : ℕ). Le t n u (r * x * y)) (mul-right-comm q z x) (subst (λ (n : ℕ). Le t (q * z * x) u n) (mul-right-comm r y x) (le-times t (q * z) u (r * y) x k))))
+    (subst (λ (n : ℕ). Le t n u (r * x * y)) (mul-right-comm q z x)
+    (subst (λ (n : ℕ). Le t (q * z * x) u n) (mul-right-comm r y x) (le-times t (q * z) u (r * y) x k))))
 
 -- ---- the floats: what compares is no NaN
 pub lt-not-nan : (x y : Float) → T (lt x y) → T (not (isNan y))
@@ -168,10 +189,6 @@ le-refl (inf true) h = tt
 le-refl (inf false) h = tt
 le-refl (fin false m e) h = le-test false (m * up e * down e) false (m * up e * down e) (omega arith)
 le-refl (fin true m e) h = le-test true (m * up e * down e) true (m * up e * down e) (omega arith)
-
-pub lt-weaken : (x y : Float) → T (lt x y) → T (le x y)
-unfolding le
-lt-weaken x y h = or-l (lt x y) (eq x y) h
 
 -- nothing lies below -infinity, and nothing above +infinity
 pub not-below-inf : (x : Float) → T (lt x (inf true)) → ⊥
@@ -233,9 +250,6 @@ lt-le-trans (fin s m e) (fin t n d) (fin u k c) p q =
     (lt-fact s (m * up e * down d) t (n * up d * down e) p)
     (le-fact t (n * up d * down c) u (k * up c * down d) q))
 
-pub lt-trans : (x y z : Float) → T (lt x y) → T (lt y z) → T (lt x z)
-lt-trans x y z p q = lt-le-trans x y z p (lt-weaken y z q)
-
 -- ---- the signs turned
 pub le-neg : (x y : Float) → T (le x y) → T (le (neg y) (neg x))
 unfolding le neg
@@ -250,4 +264,6 @@ le-neg (inf false) (fin t n d) h = absurd h
 le-neg (fin s m e) nan h = absurd h
 le-neg (fin s m e) (inf true) h = absurd h
 le-neg (fin s m e) (inf false) h = tt
-le-neg (fin s m e) (fin t n d) h = le-test (not t) (n * up d * down e) (not s) (m * up e * down d) (flip s (m * up e * down d) t (n * up d * down e) (le-fact s (m * up e * down d) t (n * up d * down e) h))
+le-neg (fin s m e) (fin t n d) h =
+    le-test (not t) (n * up d * down e) (not s) (m * up e * down d)
+    (flip s (m * up e * down d) t (n * up d * down e) (le-fact s (m * up e * down d) t (n * up d * down e) h))

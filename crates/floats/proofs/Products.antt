@@ -53,6 +53,7 @@ sign-both s t m n u v (inl p) (inl q) = inl (ap (λ (r : Bool). unlike r t) p �
 sign-both s t m n u v (inl p) (inr q) = inr (ap (λ (k : ℕ). m * u * (k * v)) q ∙ simp (zero-mul, mul-zero))
 sign-both s t m n u v (inr p) w = inr (ap (λ (k : ℕ). k * u * (n * v)) p ∙ simp zero-mul)
 
+-- 0 * infinity is a NaN
 pub mul-plus : (f : Format) (x y : Float) → T (le zeroF x) → T (le zeroF y) → T (not (isNan (mul f x y))) → T (le zeroF (mul f x y))
 unfolding mul isNan le
 mul-plus f nan y p q k = absurd p
@@ -67,11 +68,6 @@ mul-plus f (fin s m e) (inf false) p q k = inf-plus (eqb m 0) (unlike s false) (
 mul-plus f (fin s m e) (fin t n d) p q k =
     zero-le-round f (unlike s t) (m * up e * (n * up d)) (down e * down d) (mul-pos (down-pos e) (down-pos d))
     (sign-both s t m n (up e) (up d) (plus-or-zero s m e p) (plus-or-zero t n d q))
-
--- that it is no NaN is needed: 0 * infinity is one
-pub zero-times-infinity : le zeroF (mul binary64 zeroF (inf false)) ≡ false
-unfolding le mul
-zero-times-infinity = refl
 
 -- ---- volumes: finite and not below zero
 pub volume-of : (x : Float) → T (finite x) → T (le zeroF x) → T (isVolume x)
@@ -126,7 +122,9 @@ term-plus v q p l = mul-volumes binary64 v (ofNat q) p (ofNat-volume q (quantity
 f32-size : (s : Bool) (m : ℕ) (e : ℤ) → T (fits binary32 (fin s m e)) → m * up e ≤ 2 ^ 128 * down e
 unfolding fits
 f32-size s zero e h = subst (λ (n : ℕ). n ≤ 2 ^ 128 * down e) (sym (zero-mul (up e))) zero-le
-f32-size s (suc m) e h = le-of-lt (ltb→lt (suc m * up e) (2 ^ 128 * down e) (and-r (eqb (suc m % 2) 1 && ltb (suc m) (2 ^ 24) && leb (down e) (2 ^ 149)) (ltb (suc m * up e) (2 ^ 128 * down e)) h))
+f32-size s (suc m) e h =
+    le-of-lt (ltb→lt (suc m * up e) (2 ^ 128 * down e)
+    (and-r (eqb (suc m % 2) 1 && ltb (suc m) (2 ^ 24) && leb (down e) (2 ^ 149)) (ltb (suc m * up e) (2 ^ 128 * down e)) h))
 
 product-size : (x y a b c d : ℕ) → x ≤ a * c → y ≤ b * d → x * y * 1 ≤ a * b * (c * d)
 product-size x y a b c d h k = Nat.le-trans (le-of-eq (mul-one (x * y))) (Nat.le-trans (mul-le-mul h k) (le-of-eq (mul-mul-mul-comm a c b d)))
@@ -138,7 +136,8 @@ ceiling-finite : T (finite ceiling)
 unfolding ceiling round
 ceiling-finite = tt
 
-under-ceiling : (s : Bool) (m : ℕ) (e : ℤ) (y : Float) (q : ℕ) → T (fits binary32 (fin s m e)) → q < 2 ^ 32 → HasValue y false q 1 → T (le (mul binary64 (fin s m e) y) ceiling)
+under-ceiling : (s : Bool) (m : ℕ) (e : ℤ) (y : Float) (q : ℕ) → T (fits binary32 (fin s m e)) → q < 2 ^ 32 → HasValue y false q 1
+    → T (le (mul binary64 (fin s m e) y) ceiling)
 unfolding mul ceiling
 under-ceiling s m e nan q h l w = absurd w
 under-ceiling s m e (inf t) q h l w = absurd w

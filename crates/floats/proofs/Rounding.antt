@@ -3,7 +3,8 @@ use mathlib.Core.Path.{_≡_, refl, sym, ap, _∙_, subst}
 use mathlib.Core.Logic.{inl, inr}
 use mathlib.Core.Bool.{Bool, true, false, not, _&&_, cond, true≢false}
 use Prim.Native.Nat.{ℕ, zero, suc, _+_, _-_, _<_, _*_, _^_, _≤_, _%_}
-use native.Mathlib.Nat.{mul-one, one-mul, zero-mul, mul-pos, mul-comm, mul-assoc, mul-left-comm, mul-lt-mul-of-pos-right, lt-of-mul-lt-mul-right, le-of-eq, lt-of-not-le, not-le-of-lt, le-of-suc-le-suc, eq-zero-or-pos, lt-irrefl}
+use native.Mathlib.Nat.{mul-one, one-mul, zero-mul, mul-pos, mul-comm, mul-assoc, mul-left-comm, mul-lt-mul-of-pos-right}
+use native.Mathlib.Nat.{lt-of-mul-lt-mul-right, le-of-eq, lt-of-not-le, not-le-of-lt, le-of-suc-le-suc, eq-zero-or-pos, lt-irrefl}
 use native.Mathlib.Omega.{arith}
 use lib.Dec.{T, ltb, leb, eqb, ltb→lt, leb→le}
 use lib.Pow.{pow-add, pow-pos, pow-lt}
@@ -30,7 +31,8 @@ le-of-values (fin r m e) (fin u n d) s t a c b c' C C' p q h =
     let k : Le s (a * down d) t (n * up d * c) = le-le-fractions s t t a b (n * up d) c c' (down d) C' h (le-same t (sym (q .1))) in
     let l : Le s (m * up e * down d) t (n * up d * down e) = le-le-fractions s s t (m * up e) a (n * up d) (down e) c (down d) C (le-same s (p .1)) k in
     le-test r (m * up e * down d) u (n * up d * down e)
-    (subst (λ (z : Bool). Le z (m * up e * down d) u (n * up d * down e)) (sym (p .0)) (subst (λ (z : Bool). Le s (m * up e * down d) z (n * up d * down e)) (sym (q .0)) l))
+    (subst (λ (z : Bool). Le z (m * up e * down d) u (n * up d * down e)) (sym (p .0))
+    (subst (λ (z : Bool). Le s (m * up e * down d) z (n * up d * down e)) (sym (q .0)) l))
 
 -- ---- the sign of what is rounded
 abbrev pub Signed : Bool → Float → Type 0
@@ -132,7 +134,8 @@ exponent l (negsuc i) h =
     (l - suc i, sym (pow-add 2 (l - suc i) (suc i)) ∙ ap (λ (n : ℕ). 2 ^ n) (back l (suc i) k) ∙ sym (one-mul (2 ^ l)))
 
 -- with the fraction's two parts times k
-round-own : (f : Format) (s : Bool) (m : ℕ) (e : ℤ) (k : ℕ) → 0 < k → T (fits f (fin s m e)) → HasValue (round f s (m * up e * k) (down e * k)) s (m * up e * k) (down e * k)
+round-own : (f : Format) (s : Bool) (m : ℕ) (e : ℤ) (k : ℕ) → 0 < k → T (fits f (fin s m e))
+    → HasValue (round f s (m * up e * k) (down e * k)) s (m * up e * k) (down e * k)
 unfolding fits
 round-own f s zero e k K h =
     subst (λ (n : ℕ). HasValue (round f s n (down e * k)) s n (down e * k)) (sym (simp zero-mul)) (round-zero f s (down e * k) (mul-pos (down-pos e) K))
@@ -146,7 +149,8 @@ round-own f s (suc m) e k K h =
     let under : suc m * up e < 2 ^ suc (emax f) * down e = ltb→lt (suc m * up e) (2 ^ suc (emax f) * down e) (and-r (a && b && c) d h) in
     let J = exponent (low f) e deep in
     round-exact f s (suc m * up e * k) (down e * k) (suc m) (J .0) (mul-pos (down-pos e) K) small
-    (fine (suc m) (up e) (down e) (2 ^ low f) (2 ^ suc (emax f)) (2 ^ J .0) (2 ^ (low f + suc (emax f))) (pow-pos (low f)) (J .1) under (pow-add 2 (low f) (suc (emax f))))
+    (fine (suc m) (up e) (down e) (2 ^ low f) (2 ^ suc (emax f)) (2 ^ J .0) (2 ^ (low f + suc (emax f))) (pow-pos (low f)) (J .1) under
+    (pow-add 2 (low f) (suc (emax f))))
     (scaled (suc m) (up e) (down e) (2 ^ low f) (2 ^ J .0) k (J .1))
   where
     fine : (m u d l x j p : ℕ) → 0 < l → j * d ≡ u * l → m * u < x * d → p ≡ l * x → m * j < p
@@ -163,7 +167,8 @@ round-own f s (suc m) e k K h =
         p ∙ ap (λ (n : ℕ). m * n * k) (sym e) ∙ q
 
 -- so a value of the format is at most what a larger fraction rounds to
-pub own-le : (f : Format) (s : Bool) (m : ℕ) (e : ℤ) (k : ℕ) (t : Bool) (n : ℕ) → 0 < k → T (fits f (fin s m e)) → Le s (m * up e * k) t n → T (le (fin s m e) (round f t n (down e * k)))
+pub own-le : (f : Format) (s : Bool) (m : ℕ) (e : ℤ) (k : ℕ) (t : Bool) (n : ℕ) → 0 < k → T (fits f (fin s m e)) → Le s (m * up e * k) t n
+    → T (le (fin s m e) (round f t n (down e * k)))
 own-le f s m e k t n K h l =
     let c = down e * k in
     let C : 0 < c = mul-pos (down-pos e) K in

@@ -45,7 +45,8 @@ abs-zero f nan h e = absurd (true≢false (sym e))
 abs-zero f (inf s) h e = absurd (true≢false (sym e))
 abs-zero f (fin s zero d) h e = ap (λ (z : ℤ). fin false 0 z) (sym (zero-exp d (eqb→eq (up d * down d) 1 h)))
 abs-zero f (fin s (suc m) d) h e =
-    let k : suc m * up d * 1 ≡ 0 * 1 * down d = eqb→eq (suc m * up d * 1) (0 * 1 * down d) (and-l (eqb (suc m * up d * 1) (0 * 1 * down d)) _ (subst T (sym e) tt)) in
+    let k : suc m * up d * 1 ≡ 0 * 1 * down d = eqb→eq (suc m * up d * 1) (0 * 1 * down d)
+    (and-l (eqb (suc m * up d * 1) (0 * 1 * down d)) _ (subst T (sym e) tt)) in
     let p : 0 < suc m * up d * 1 = mul-pos (mul-pos (zero-lt-suc m) (up-pos d)) (pow-pos 0) in
     let z : 0 * 1 * down d ≡ 0 = simp zero-mul in
     absurd (bad (suc m * up d * 1) (0 * 1 * down d) k p z)
@@ -61,7 +62,8 @@ abs-other (inf false) p q = refl
 abs-other (fin false m d) p q = refl
 abs-other (fin true m d) p q =
     let h : m * up d * 1 + 0 * 1 * down d ≤ 0 = ltb-false 0 (m * up d * 1 + 0 * 1 * down d) p in
-    absurd (bad (m * up d * 1) (0 * 1 * down d) h (simp zero-mul) (λ (t : T (eqb (m * up d * 1) (0 * 1 * down d) && (false || eqb (m * up d * 1) 0))). subst T q t))
+    absurd (bad (m * up d * 1) (0 * 1 * down d) h (simp zero-mul)
+    (λ (t : T (eqb (m * up d * 1) (0 * 1 * down d) && (false || eqb (m * up d * 1) 0))). subst T q t))
   where
     bad : (a b : ℕ) → a + b ≤ 0 → b ≡ 0 → (T (eqb a b && (false || eqb a 0)) → ⊥) → ⊥
     bad a b h z k =

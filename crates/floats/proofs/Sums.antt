@@ -2,14 +2,12 @@
 use mathlib.Core.Path.{_≡_, refl, ap, _∙_}
 use mathlib.Core.Logic.{_⊎_, inl, inr}
 use mathlib.Core.Bool.{Bool, true, false, not, Bool·beq, cond, _&&_, true≢false}
-use mathlib.Core.List.{List, [], _∷_, foldl-append, List·Memᴰ, List·Memᴰ·head, List·Memᴰ·tail}
-use Prim.Native.Nat.{ℕ, suc, _+_, _-_, _<_, _*_, _≤_}
+use mathlib.Core.List.{List, [], _∷_, List·Memᴰ, List·Memᴰ·head, List·Memᴰ·tail}
+use Prim.Native.Nat.{ℕ, _+_, _-_, _<_, _*_, _≤_}
 use native.Mathlib.Nat.{zero-mul}
 use native.Mathlib.Omega.{arith}
 use lib.Dec.{T, ltb, ltb→lt}
-use lib.ListN.{length, getD, take}
-use lib.Seq.{take-suc}
-use lib.IntN.{ℤ, pos}
+use lib.IntN.{ℤ}
 use lib.Ieee.{Float, nan, inf, fin, Format, binary64, up, down, round, sum, add, lt, le, fits, isNan}
 use lib.Ieee.Fits.{up-pos, down-pos, add-fits}
 use Rattle.floats.specs.Floats.{zeroF, isVolume, totalFrom}
@@ -34,7 +32,8 @@ volume-le (fin s m e) h = h
 nothing-less : (a b : ℕ) → b ≡ 0 → a ≤ a - b
 nothing-less a b e = omega arith
 
-sum-by : (f : Format) (s : Bool) (a : ℕ) (t : Bool) (b c : ℕ) (Q : Float → Type 0) → (t ≡ false) ⊎ (b ≡ 0) → ((u : Bool) (n : ℕ) → Le s a u n → Q (round f u n c)) → Q (sum f s a t b c)
+sum-by : (f : Format) (s : Bool) (a : ℕ) (t : Bool) (b c : ℕ) (Q : Float → Type 0) → (t ≡ false) ⊎ (b ≡ 0)
+    → ((u : Bool) (n : ℕ) → Le s a u n → Q (round f u n c)) → Q (sum f s a t b c)
 unfolding sum
 sum-by f false a false b c Q w g = g false (a + b) (omega arith)
 sum-by f true a true b c Q (inl w) g = absurd (true≢false w)
@@ -59,6 +58,7 @@ no-less : (t : Bool) (n u d : ℕ) → (t ≡ false) ⊎ (n ≡ 0) → (t ≡ fa
 no-less t n u d (inl e) = inl e
 no-less t n u d (inr e) = inr (ap (λ (k : ℕ). k * u * d) e ∙ simp zero-mul)
 
+-- 2 ^ 53 + 1 does not fit, and with 0 added it rounds down; -infinity + infinity is a NaN
 pub add-raises : (f : Format) (u x : Float) → T (fits f u) → T (le zeroF x) → T (not (isNan (add f u x))) → T (le u (add f u x))
 unfolding add isNan le
 add-raises f u nan h p k = absurd p
@@ -74,16 +74,6 @@ add-raises f (fin s m e) (fin t n d) h p k =
     sum-by f s (m * up e * down d) t (n * up d * down e) (down e * down d) (λ z. T (le (fin s m e) z))
     (no-less t n (up d) (down e) (plus-or-zero t n d p))
     (λ u r l. own-le f s m e (down d) u r (down-pos d) h l)
-
--- that it fits is needed: 2 ^ 53 + 1 is no f64, and with 0 added it rounds down
-pub unfit-falls : le (fin false 9007199254740993 (pos 0)) (add binary64 (fin false 9007199254740993 (pos 0)) zeroF) ≡ false
-unfolding le add
-unfit-falls = refl
-
--- and that the sum is no NaN: -infinity + infinity is one
-pub nan-falls : le (inf true) (add binary64 (inf true) (inf false)) ≡ false
-unfolding le add
-nan-falls = refl
 
 -- ---- sums that are no NaN
 sum-not-nan : (f : Format) (s : Bool) (a : ℕ) (t : Bool) (b c : ℕ) → T (not (isNan (sum f s a t b c)))
@@ -130,15 +120,6 @@ module _ {A : Type 0} (f : A → Float) where
   total-fits u [] h = h
   total-fits u (x ∷ l) h = total-fits (add binary64 u (f x)) l (add-fits binary64 u (f x))
 
-  -- one more term
-  pub total-step : (u : Float) (l : List A) (i : ℕ) (d : A) → i < length l → totalFrom f u (take (suc i) l) ≡ add binary64 (totalFrom f u (take i l)) (f (getD l i d))
-  total-step u l i d h = rw (take-suc l i d h) (foldl-append (λ s x. add binary64 s (f x)) u (take i l) (getD l i d ∷ []))
-
-  pub total-nan : (l : List A) → totalFrom f nan l ≡ nan
-  unfolding add
-  total-nan [] = refl
-  total-nan (x ∷ l) = total-nan l
-
   pub total-above : (y u : Float) (l : List A) → T (fits binary64 u) → T (lt y u) → ((x : A) → List·Memᴰ x l → T (le zeroF (f x))) → T (le u (totalFrom f u l))
   total-above y u [] h k p = le-refl u (lt-not-nan y u k)
   total-above y u (x ∷ l) h k p =
@@ -146,7 +127,8 @@ module _ {A : Type 0} (f : A → Float) where
       let r : T (le u v) = add-above binary64 y u (f x) h k (p x (List·Memᴰ·head refl)) in
       le-trans u v (totalFrom f v l) r (total-above y v l (add-fits binary64 u (f x)) (lt-le-trans y u v k r) (λ z m. p z (List·Memᴰ·tail m)))
 
-  pub total-volumes : (u : Float) (l : List A) → T (fits binary64 u) → T (not (isNan u)) → ((x : A) → List·Memᴰ x l → T (isVolume (f x))) → T (le u (totalFrom f u l))
+  pub total-volumes : (u : Float) (l : List A) → T (fits binary64 u) → T (not (isNan u)) → ((x : A) → List·Memᴰ x l → T (isVolume (f x)))
+      → T (le u (totalFrom f u l))
   total-volumes u [] h k p = le-refl u k
   total-volumes u (x ∷ l) h k p =
       let v = add binary64 u (f x) in

@@ -17,7 +17,17 @@ module _ (b : List ℕ) (at n : ℕ) where
 
   pub part-u32 : (i : ℕ) → i + 4 ≤ n → u32At (take n (drop at b)) i ≡ u32At b (at + i)
   unfolding u32At
-  part-u32 i h = rw (byte i (omega arith), byte (i + 1) (omega arith), byte (i + 2) (omega arith), byte (i + 3) (omega arith), add-assoc at i 1, add-assoc at i 2, add-assoc at i 3)
+  part-u32 i h =
+      rw (
+        byte i (omega arith),
+        byte (i + 1) (omega arith),
+        byte (i + 2) (omega arith),
+        byte (i + 3)
+            (omega arith),
+        add-assoc at i 1,
+        add-assoc at i 2,
+        add-assoc at i 3,
+      )
 
   pub part-i32 : (i : ℕ) → i + 4 ≤ n → i32At (take n (drop at b)) i ≡ i32At b (at + i)
   unfolding i32At

@@ -141,26 +141,6 @@ pub fn put_u64(out: &mut [u8], at: usize, x: u64)
     requires { ⌜ at + 8 ≤ length (now out) ⌝ }
     ensures { λ r. ⌜ now (out .exit) ≡ put (now (out .entry)) at (le 8 x) ⌝ }
 {
-    out[at] = (x % 256) as u8;
-    let a1 = at + 1;
-    let x1 = x / 256;
-    out[a1] = (x1 % 256) as u8;
-    let a2 = a1 + 1;
-    let x2 = x1 / 256;
-    out[a2] = (x2 % 256) as u8;
-    let a3 = a2 + 1;
-    let x3 = x2 / 256;
-    out[a3] = (x3 % 256) as u8;
-    let a4 = a3 + 1;
-    let x4 = x3 / 256;
-    out[a4] = (x4 % 256) as u8;
-    let a5 = a4 + 1;
-    let x5 = x4 / 256;
-    out[a5] = (x5 % 256) as u8;
-    let a6 = a5 + 1;
-    let x6 = x5 / 256;
-    out[a6] = (x6 % 256) as u8;
-    let a7 = a6 + 1;
-    let x7 = x6 / 256;
-    out[a7] = (x7 % 256) as u8;
+    put_u32(out, at, (x % 4294967296) as u32);
+    put_u32(out, at + 4, (x / 4294967296) as u32);
 }

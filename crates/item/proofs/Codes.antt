@@ -1,22 +1,20 @@
 -- Ids as numbers, and lists of them.
-use Prim.Native.Nat.{ℕ, suc, _+_, _-_, _<_, _≤_, _^_}
+use Prim.Native.Nat.{ℕ, _+_, _<_, _≤_, _^_}
 use native.Mathlib.Numerals.{add-one}
 use native.Mathlib.Omega.{arith}
-use mathlib.Core.Path.{_≡_, refl, sym, ap, ap₂, _∙_}
-use mathlib.Core.Bool.{Bool, true, false, cond}
+use mathlib.Core.Path.{_≡_, sym, ap, ap₂, _∙_}
 use mathlib.Core.List.{List, [], _∷_, _++_, map, map-append}
 use mathlib.Core.Option.{none, some}
-use lib.Dec.{ltb}
-use lib.IntN.{ℤ, pos, negsuc}
+use lib.IntN.{ℤ}
 use lib.ListN.{length, getD, take, set}
 use lib.Seq.{take-suc, take-suc-set, take-all}
 use mir.Syntax.{w32}
-use mir.Val.{toZ, ofZ, sel, SFits}
-use mir.ValLaws.{toZ-ofZ, ofZ-fits}
+use mir.Val.{ofZ, SFits}
+use mir.ValLaws.{ofZ-fits}
 use borrow.Author.Tests.{lt-ltb, le-ltb}
 use Rattle.image.specs.Bytes.{signed32, bits32}
 use Rattle.image.proofs.Signs.{bits-ofZ, signed-bits}
-use Rattle.item.specs.AtPair.{idIn}
+use Rattle.item.specs.Ids.{idIn}
 
 pub code-some : (n : ℕ) → n < 2 ^ 32 → idIn n ≡ some (signed32 n)
 unfolding idIn

@@ -22,8 +22,8 @@ use Rattle.fit.specs.Fit.{Attribute, Result, resultOf, countAt, startAt}
 use Rattle.fit.specs.Lookups.{value}
 use Rattle.fit.specs.Sound.{idsPart}
 use Rattle.fit.proofs.Decoded.{attribute-ids, ids-all}
-use Rattle.item.specs.AtPair.{idIn, listedUnder, listedIn}
-use Rattle.item.specs.Flags.{flagOf, Flagged, Kept, anyFlagged}
+use Rattle.item.specs.Ids.{idIn, listedUnder, listedIn}
+use Rattle.item.specs.Flags.{flagOf, Flagged, OnlyAdded, anyFlagged}
 use Rattle.item.proofs.Codes.{code-some, code-none}
 use Rattle.item.proofs.Marks.{any-map}
 
@@ -40,13 +40,14 @@ pub record Flagging (codes : List ℕ) (before flags : List Bool) (k : ℕ) : Ty
   pub within : k ≤ length codes
   pub long : length flags ≡ 8192
   pub all : (i : ℕ) → i < k → getD flags (getD codes i 0 % 8192) false ≡ true
-  pub kept : (i : ℕ) → getD before i false ≡ true → getD flags i false ≡ true
+  pub still : (i : ℕ) → getD before i false ≡ true → getD flags i false ≡ true
 
 module _ (codes : List ℕ) (before : List Bool) where
   pub flagging-none : length before ≡ 8192 → Flagging codes before before 0
-  flagging-none e = record { within = omega arith; long = e; all = λ i h. absurd (omega (arith, h)); kept = λ i h. h }
+  flagging-none e = record { within = omega arith; long = e; all = λ i h. absurd (omega (arith, h)); still = λ i h. h }
 
-  pub flagging-more : (flags : List Bool) (k : ℕ) → k < length codes → Flagging codes before flags k → Flagging codes before (set flags (getD codes k 0 % 8192) true) (k + 1)
+  pub flagging-more : (flags : List Bool) (k : ℕ) → k < length codes → Flagging codes before flags k
+      → Flagging codes before (set flags (getD codes k 0 % 8192) true) (k + 1)
   flagging-more flags k h v =
       let at = getD codes k 0 % 8192 in
       let new : getD (set flags at true) at false ≡ true = getD-set-same flags at true false (omega (arith, v .long)) in
@@ -58,14 +59,15 @@ module _ (codes : List ℕ) (before : List Bool) where
             (λ (e : i ≡ k). ap (λ (j : ℕ). getD (set flags at true) (getD codes j 0 % 8192) false) e ∙ new)
             (λ (l : i < k). set-keeps flags at (getD codes i 0 % 8192) (v .all i l))
             (eq-or-lt-of-le (omega (arith, q)));
-        kept = λ i q. set-keeps flags at i (v .kept i q);
+        still = λ i q. set-keeps flags at i (v .still i q);
       }
 
-  pub flagging-all : (flags : List Bool) (k : ℕ) → length codes ≤ k → Flagging codes before flags k → (length flags ≡ 8192) × Flagged codes flags × Kept before flags
-  flagging-all flags k h v = (v .long, record { all = λ i q. v .all i (omega (arith, q, h)) }, record { kept = v .kept })
+  pub flagging-all : (flags : List Bool) (k : ℕ) → length codes ≤ k → Flagging codes before flags k
+      → (length flags ≡ 8192) × Flagged codes flags × OnlyAdded before flags
+  flagging-all flags k h v = (v .long, record { all = λ i q. v .all i (omega (arith, q, h)) }, record { still = v .still })
 
-pub flagged-still : (codes : List ℕ) (before after : List Bool) → Flagged codes before → Kept before after → Flagged codes after
-flagged-still codes before after f k = record { all = λ i h. k .kept (getD codes i 0 % 8192) (f .all i h) }
+pub flagged-still : (codes : List ℕ) (before after : List Bool) → Flagged codes before → OnlyAdded before after → Flagged codes after
+flagged-still codes before after f k = record { all = λ i h. k .still (getD codes i 0 % 8192) (f .all i h) }
 
 -- ---- the flag of an id
 bits-signed : (n : ℕ) → n < 2 ^ 32 → bits32 (signed32 n) ≡ n
@@ -98,7 +100,8 @@ module _ (flags : List Bool) where
       go true e = absurd (true≢false (sym q ∙ ap (flagOf flags) (sym (same-eq y z e)) ∙ p))
       go false e = refl
 
-  no-attribute : (a : Id) → flagOf flags a ≡ true → (l : List Attribute) → anyOf (λ x. flagOf flags (x .id)) l ≡ false → find (λ x. same (x .id) a) l ≡ none
+  no-attribute : (a : Id) → flagOf flags a ≡ true → (l : List Attribute) → anyOf (λ x. flagOf flags (x .id)) l ≡ false
+      → find (λ x. same (x .id) a) l ≡ none
   unfolding anyOf find
   no-attribute a h [] e = refl
   no-attribute a h (x ∷ l) e =

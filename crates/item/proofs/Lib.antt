@@ -1,7 +1,6 @@
 -- Laws of the rules on items.
 pub mod Codes
 pub mod Listings
-pub mod Loops
 pub mod Marks
 pub mod Flags
 pub mod Rules

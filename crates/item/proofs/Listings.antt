@@ -18,7 +18,7 @@ use Rattle.fit.specs.Lookups.{value}
 use Rattle.item.specs.declared.Listing.{Listing}
 use Rattle.context.specs.Context.{Pair, Context}
 use Rattle.item.specs.Item.{listed}
-use Rattle.item.specs.AtPair.{idIn, IdsOf, listedUnder, listedIn, ListingOf}
+use Rattle.item.specs.Ids.{idIn, IdsOf, listedUnder, listedIn, ListingOf}
 
 or-false : (b : Bool) → b ≡ b || false
 or-false true = refl
@@ -38,7 +38,8 @@ module _ (id : Id) (r : Result) where
   unfolding listedUnder _>>=_ isEmpty contains anyOf
   under-missing o a e q = rw (e, q) (record { any = refl; has = refl })
 
-  pub under-given : (o : Option Id) (a : Id) (v : Float) (h : Bool) → o ≡ some a → value r a ≡ some v → h ≡ same id (toI32 v) → ListingOf id (listedUnder r o) (record { any = true; has = h })
+  pub under-given : (o : Option Id) (a : Id) (v : Float) (h : Bool) → o ≡ some a → value r a ≡ some v → h ≡ same id (toI32 v)
+      → ListingOf id (listedUnder r o) (record { any = true; has = h })
   unfolding listedUnder _>>=_ isEmpty contains anyOf
   under-given o a v h e q p = rw (e, q) (record { any = refl; has = p ∙ or-false (same id (toI32 v)) })
 
@@ -58,8 +59,8 @@ module _ (id : Id) where
   has-append [] m = refl
   has-append (x ∷ l) m = ap (λ (b : Bool). same id x || b) (has-append l m) ∙ sym (or-assoc (same id x) (anyOf (same id) l) (anyOf (same id) m))
 
-  pub listing-append : (l m : List Id) (x y : Listing) (a h : Bool) → ListingOf id l x → ListingOf id m y → a ≡ x .any || y .any → h ≡ x .has || y .has
-      → ListingOf id (l ++ m) (record { any = a; has = h })
+  pub listing-append : (l m : List Id) (x y : Listing) (a h : Bool) → ListingOf id l x → ListingOf id m y → a ≡ x .any || y .any
+      → h ≡ x .has || y .has → ListingOf id (l ++ m) (record { any = a; has = h })
   listing-append l m x y a h p q e g = record {
     any = e ∙ ap₂ _||_ (p .any) (q .any) ∙ sym (any-append l m);
     has = g ∙ ap₂ _||_ (p .has) (q .has) ∙ sym (has-append l m);
@@ -67,9 +68,11 @@ module _ (id : Id) where
 
 -- ---- a loop over the ids
 module _ (id : Id) (f : ℕ → List Id) (codes : List ℕ) where
-  pub listing-more : (k : ℕ) (x y : Listing) (a h : Bool) → k < length codes → ListingOf id (each (take k codes) f) x → ListingOf id (f (getD codes k 0)) y
-      → a ≡ x .any || y .any → h ≡ x .has || y .has → ListingOf id (each (take (k + 1) codes) f) (record { any = a; has = h })
-  listing-more k x y a h q v w e g = rw (add-one k, each-step f codes k 0 q) (listing-append id (each (take k codes) f) (f (getD codes k 0)) x y a h v w e g)
+  pub listing-more : (k : ℕ) (x y : Listing) (a h : Bool) → k < length codes → ListingOf id (each (take k codes) f) x
+      → ListingOf id (f (getD codes k 0)) y → a ≡ x .any || y .any → h ≡ x .has || y .has
+      → ListingOf id (each (take (k + 1) codes) f) (record { any = a; has = h })
+  listing-more k x y a h q v w e g =
+      rw (add-one k, each-step f codes k 0 q) (listing-append id (each (take k codes) f) (f (getD codes k 0)) x y a h v w e g)
 
   pub listing-all : (k : ℕ) (x : Listing) → length codes ≤ k → ListingOf id (each (take k codes) f) x → ListingOf id (each codes f) x
   listing-all k x h v = rw (take-all k codes h) at v

@@ -5,11 +5,11 @@ use mathlib.Core.Path.{_≡_, refl, sym, ap, _∙_}
 use mathlib.Core.Bool.{Bool, true, false, _||_}
 use mathlib.Core.List.{List, [], _∷_, map}
 use mathlib.Core.Option.{Option, none, some}
-use lib.IntN.{pos}
 use lib.ListN.{length, getD, drop, drop-of-length-le}
 use lib.Ieee.{ne}
 use Rattle.words.specs.Words.{anyOf, given, same}
 use Rattle.words.proofs.Steps.{any-step}
+use Rattle.numbers.specs.Categories as Categories
 use Rattle.floats.specs.Floats.{zeroF}
 use Rattle.catalogue.specs.Catalogue.{Id}
 use Rattle.catalogue.specs.Lookups.{nameId}
@@ -17,7 +17,7 @@ use Rattle.fit.specs.Fit.{Result}
 use Rattle.fit.specs.Lookups.{amount}
 use Rattle.context.specs.Context.{Pair, Context}
 use Rattle.item.specs.Item.{STANDUP-FIGHTERS, isStandup}
-use Rattle.item.specs.AtPair.{idIn, IdsOf, markedUnder, markedIn}
+use Rattle.item.specs.Ids.{idIn, IdsOf, markedUnder, markedIn}
 
 module _ (r : Result) (o : Option Id) where
   pub mark-unknown : o ≡ none → false ≡ markedUnder r o
@@ -47,11 +47,12 @@ any-map f t [] = refl
 any-map f t (x ∷ l) = ap (λ (b : Bool). t (f x) || b) (any-map f t l)
 
 module _ (x : Context) (p : Pair) where
-  pub standup-category : same (p .category) (pos 66) ≡ true → true ≡ isStandup x p
+  pub standup-category : same (p .category) Categories.structureModule ≡ true → true ≡ isStandup x p
   unfolding isStandup
   standup-category e = rw e
 
-  pub standup-marked : (codes : List ℕ) (b : Bool) → IdsOf (x .names) STANDUP-FIGHTERS codes → same (p .category) (pos 66) ≡ false → b ≡ markedIn (p .result) codes → b ≡ isStandup x p
+  pub standup-marked : (codes : List ℕ) (b : Bool) → IdsOf (x .names) STANDUP-FIGHTERS codes
+      → same (p .category) Categories.structureModule ≡ false → b ≡ markedIn (p .result) codes → b ≡ isStandup x p
   unfolding isStandup markedUnder
   standup-marked codes b h e q =
       rw e

@@ -1,3 +1,3 @@
 pub mod Item
-pub mod AtPair
+pub mod Ids
 pub mod Flags

@@ -4,14 +4,17 @@ use entry::Entry;
 use entry::Rule;
 use entry::Target;
 use floats::Value;
+use numbers::categories;
+use numbers::names;
+use numbers::slots;
 ghost use mathlib.Core.Path.{_≡_};
 ghost use mathlib.Core.Bool.{not, _&&_, _||_};
 ghost use mathlib.Core.List.{List};
 ghost use Prim.Native.Nat.{ℕ, _+_, _*_, _/_, _<_, _≤_};
-ghost use lib.ListN.{length, getD};
-ghost use lib.IntN.{pos};
+ghost use lib.ListN.{length};
 ghost use lib.Ieee.{ne};
 ghost use Rattle.words.specs.Words.{anyOf, table};
+ghost use Rattle.numbers.specs.Sizes.{mostPairs};
 ghost use Rattle.floats.specs.Floats.{zeroF};
 ghost use Rattle.keys.specs.Keys.{keyAt};
 ghost use Rattle.catalogue.specs.Catalogue.{catalogueOf};
@@ -22,88 +25,72 @@ ghost use Rattle.fit.specs.Fit.{resultCount, resultOf};
 ghost use Rattle.fit.specs.Lookups.{amount};
 ghost use Rattle.fit.specs.Sound as Fit;
 ghost use Rattle.fit.specs.Sound.{Starts};
-ghost use Rattle.fit.specs.Refusals.{rig};
-ghost use Rattle.entry.specs.Wrote.{Wrote};
-ghost use Rattle.context.specs.Context.{isFitted, isIn, isOnHull};
-ghost use Rattle.context.specs.Gathered.{pairCount, pairAt, pairsOf, contextOf, Ready, Categories};
+ghost use Rattle.entry.specs.Wrote.{Room, Wrote};
+ghost use Rattle.context.specs.Gathered.{pairCount, pairAt, pairsOf, contextOf, Gathered};
 ghost use Rattle.item.specs.Item as Item;
-ghost use Rattle.item.specs.Item.{SHIP-TYPES, SHIP-GROUPS, STANDUP-FIGHTERS, isStandup, isStructure};
-ghost use Rattle.item.specs.AtPair.{idIn, IdsOf, listedUnder, listedIn, markedUnder, markedIn, ListingOf, isCapitalItem, rigSizeAt, shipRestrictedAt, capitalItemAt, standupAt, itemRules};
-ghost use Rattle.item.specs.Flags.{flagOf, Flagged, Kept, anyFlagged};
+ghost use Rattle.item.specs.Item.{SHIP-TYPES, SHIP-GROUPS, STANDUP-FIGHTERS, isRestricted, isStructure, isCapitalItem, isStandup};
+ghost use Rattle.item.specs.Item.{rigSizeAt, capitalItemAt, standupAt, itemRules};
+ghost use Rattle.item.specs.Ids.{idIn, IdsOf, listedUnder, listedIn, markedUnder, markedIn, ListingOf};
+ghost use Rattle.item.specs.Flags.{flagOf, Flagged, OnlyAdded, anyFlagged, ShipIds};
 
 // The attributes naming the ship types an item may go on.
-const SHIP_TYPES: [u32; 13] = [34, 35, 36, 37, 38, 39, 40, 41, 42, 43, 44, 45, 46];
+const SHIP_TYPES: [u32; 13] = [
+    names::FITS_TO_SHIP_TYPE,
+    names::CAN_FIT_SHIP_TYPE_1,
+    names::CAN_FIT_SHIP_TYPE_2,
+    names::CAN_FIT_SHIP_TYPE_3,
+    names::CAN_FIT_SHIP_TYPE_4,
+    names::CAN_FIT_SHIP_TYPE_5,
+    names::CAN_FIT_SHIP_TYPE_6,
+    names::CAN_FIT_SHIP_TYPE_7,
+    names::CAN_FIT_SHIP_TYPE_8,
+    names::CAN_FIT_SHIP_TYPE_9,
+    names::CAN_FIT_SHIP_TYPE_10,
+    names::CAN_FIT_SHIP_TYPE_11,
+    names::CAN_FIT_SHIP_TYPE_12,
+];
 
 // The attributes naming the ship groups an item may go on.
 const SHIP_GROUPS: [u32; 20] = [
-    47,
-    48,
-    49,
-    50,
-    51,
-    52,
-    53,
-    54,
-    55,
-    56,
-    57,
-    58,
-    59,
-    60,
-    61,
-    62,
-    63,
-    64,
-    65,
-    66,
+    names::CAN_FIT_SHIP_GROUP_01,
+    names::CAN_FIT_SHIP_GROUP_02,
+    names::CAN_FIT_SHIP_GROUP_03,
+    names::CAN_FIT_SHIP_GROUP_04,
+    names::CAN_FIT_SHIP_GROUP_05,
+    names::CAN_FIT_SHIP_GROUP_06,
+    names::CAN_FIT_SHIP_GROUP_07,
+    names::CAN_FIT_SHIP_GROUP_08,
+    names::CAN_FIT_SHIP_GROUP_09,
+    names::CAN_FIT_SHIP_GROUP_10,
+    names::CAN_FIT_SHIP_GROUP_11,
+    names::CAN_FIT_SHIP_GROUP_12,
+    names::CAN_FIT_SHIP_GROUP_13,
+    names::CAN_FIT_SHIP_GROUP_14,
+    names::CAN_FIT_SHIP_GROUP_15,
+    names::CAN_FIT_SHIP_GROUP_16,
+    names::CAN_FIT_SHIP_GROUP_17,
+    names::CAN_FIT_SHIP_GROUP_18,
+    names::CAN_FIT_SHIP_GROUP_19,
+    names::CAN_FIT_SHIP_GROUP_20,
 ];
 
 // Anything bigger than this is a capital module, and only a capital ship takes one.
 const CAPITAL_VOLUME: f64 = 3500.0;
 
 // A fighter squadron has no category telling a structure's apart from a carrier's; these attributes do, one per role.
-const STANDUP_FIGHTERS: [u32; 3] = [69, 70, 71];
+const STANDUP_FIGHTERS: [u32; 3] = [
+    names::FIGHTER_SQUADRON_IS_STANDUP_LIGHT,
+    names::FIGHTER_SQUADRON_IS_STANDUP_SUPPORT,
+    names::FIGHTER_SQUADRON_IS_STANDUP_HEAVY,
+];
+
+// The number that stands for no id, one above the bits of every id.
+const NO_ID: u64 = 4294967296;
 
 // What an item lists: whether it lists anything, and whether the ship is among it.
 pub struct Listing {
     pub any: bool,
     pub has: bool,
-}
-
-// The group or the category of pair i, from where they were gathered.
-pub fn id_at(ids: &[i32; 256], i: usize) -> i32
-    requires { ⌜ i < 256 ⌝ }
-    ensures { λ r. ⌜ r ≡ getD (now (ids .entry)) i (pos 0) ⌝ }
-{
-    ids[i]
-}
-
-pub fn is_fitted(fit: &[u8], i: usize) -> bool
-    requires { ⌜ Fit.Sound (now fit) × (i < pairCount (now fit)) ⌝ }
-    ensures { λ r. ⌜ ((k : List ℕ) → r ≡ isFitted (pairAt k (now (fit .entry)) i)) ⌝ }
-{
-    fit::item_slot(fit, i) <= 5
-}
-
-fn is_in_rig(fit: &[u8], i: usize) -> bool
-    requires { ⌜ Fit.Sound (now fit) × (i < pairCount (now fit)) ⌝ }
-    ensures { λ r. ⌜ ((k : List ℕ) → r ≡ isIn rig (pairAt k (now (fit .entry)) i)) ⌝ }
-{
-    fit::item_slot(fit, i) == 3
-}
-
-fn is_on_hull(fit: &[u8], i: usize) -> bool
-    requires { ⌜ Fit.Sound (now fit) × (i < pairCount (now fit)) ⌝ }
-    ensures { λ r. ⌜ ((k : List ℕ) → r ≡ isOnHull (pairAt k (now (fit .entry)) i)) ⌝ }
-{
-    let slot = fit::item_slot(fit, i);
-    if slot <= 5 {
-        return true;
-    }
-    if slot == 6 {
-        return true;
-    }
-    slot == 7
 }
 
 // An id as a number, so that an array can hold it; 2^32 stands for none.
@@ -112,14 +99,14 @@ fn code_of(answer: AttributeId) -> u64
 {
     match answer {
         AttributeId::Known(id) => image::bits(id) as u64,
-        AttributeId::Unknown => 4294967296,
+        AttributeId::Unknown => NO_ID,
     }
 }
 
 fn id_in(code: u64) -> AttributeId
     ensures { λ r. ⌜ idOf r ≡ idIn code ⌝ }
 {
-    if code < 4294967296 {
+    if code < NO_ID {
         return AttributeId::Known(image::signed(code as u32));
     }
     AttributeId::Unknown
@@ -172,26 +159,28 @@ fn standup_ids(catalogue: &[u8]) -> [u64; 3]
 }
 
 fn rig_size_at(
-    catalogue: &[u8],
     fit: &[u8],
-    starts: &[u32; 259],
+    facts: &[u32; 1797],
     id: i32,
     ship: f64,
     i: usize,
     out: &mut [u8],
     n: usize,
 ) -> usize
-    requires { ⌜ Ready (now catalogue) (now fit) (now starts) × (i < pairCount (now fit)) × (n < 4294967296) ⌝ }
-    ensures { λ r. ⌜ Wrote (now (out .entry)) n (now (out .exit)) r (rigSizeAt id ship (pairAt (now (catalogue .entry)) (now (fit .entry)) i)) ⌝ }
+    requires { ⌜ Fit.Sound (now fit) × Starts (now fit) (now facts) × (i < pairCount (now fit)) × Room n 1 ⌝ }
+    ensures { λ r.
+        let before = now (out .entry) in
+        let after = now (out .exit) in
+        ⌜ ((catalogue : List ℕ) → Wrote before n after r (rigSizeAt id ship (pairAt catalogue (now (fit .entry)) i))) ⌝ }
 {
-    let answer = fit::value(fit, starts, i + 2, id);
+    let answer = fit::value(fit, facts, i + 2, id);
     let Value::Given(size) = answer else {
         return n;
     };
     entry::emit_when(
         out,
         n,
-        words::both(is_in_rig(fit, i), size != ship),
+        words::both(context::is_in(fit, i, slots::RIG), size != ship),
         Entry {
             target: Target::Item(i as u32),
             rule: Rule::RigSize(floats::to_u8(ship), floats::to_u8(size)),
@@ -202,18 +191,21 @@ fn rig_size_at(
 pub fn rig_size(
     catalogue: &[u8],
     fit: &[u8],
-    starts: &[u32; 259],
+    facts: &[u32; 1797],
     out: &mut [u8],
     n: usize,
 ) -> usize
-    requires { ⌜ Ready (now catalogue) (now fit) (now starts) × (n ≤ 1000000) ⌝ }
-    ensures { λ r. ⌜ Wrote (now (out .entry)) n (now (out .exit)) r (Item.rigSize (contextOf (now (catalogue .entry)) (now (fit .entry))) (pairsOf (now (catalogue .entry)) (now (fit .entry)))) × (r ≤ n + 256) ⌝ }
+    requires { ⌜ Gathered (now catalogue) (now fit) (now facts) × Room n mostPairs ⌝ }
+    ensures { λ r.
+        let x = contextOf (now (catalogue .entry)) (now (fit .entry)) in
+        let ps = pairsOf (now (catalogue .entry)) (now (fit .entry)) in
+        ⌜ Wrote (now (out .entry)) n (now (out .exit)) r (Item.rigSize x ps) × (r ≤ n + mostPairs) ⌝ }
 {
-    let answer = catalogue::attribute_id(catalogue, 33);
+    let answer = catalogue::attribute_id(catalogue, names::RIG_SIZE);
     let AttributeId::Known(id) = answer else {
         return n;
     };
-    let of_ship = fit::value(fit, starts, 0, id);
+    let of_ship = fit::value(fit, facts, 0, id);
     let Value::Given(ship) = of_ship else {
         return n;
     };
@@ -221,7 +213,7 @@ pub fn rig_size(
     let mut m = n;
     let mut i = 0;
     while i < count {
-        m = rig_size_at(catalogue, fit, starts, id, ship, i, out, m);
+        m = rig_size_at(fit, facts, id, ship, i, out, m);
         i += 1;
     }
     m
@@ -230,7 +222,9 @@ pub fn rig_size(
 // Flags the ids in codes, by their lowest 13 bits. A code that stands for none flags place 0: a flag too many only costs searches.
 fn flag_ids(codes: &[u64], flags: &mut [bool])
     requires { ⌜ length (now flags) ≡ 8192 ⌝ }
-    ensures { λ r. ⌜ (length (now (flags .exit)) ≡ 8192) × Flagged (now (codes .entry)) (now (flags .exit)) × Kept (now (flags .entry)) (now (flags .exit)) ⌝ }
+    ensures { λ r.
+        let after = now (flags .exit) in
+        ⌜ (length after ≡ 8192) × Flagged (now (codes .entry)) after × OnlyAdded (now (flags .entry)) after ⌝ }
 {
     let mut k = 0;
     while k < codes.len() {
@@ -248,7 +242,9 @@ fn flag_at(ids: &[u8], k: usize, flags: &[bool; 8192]) -> bool
 
 // Whether any id in a slice is flagged. The loop runs to its end, so that it has no branch to guess wrong.
 fn any_flagged(ids: &[u8], flags: &[bool; 8192]) -> bool
-    ensures { λ r. ⌜ r ≡ anyOf (flagOf (now (flags .entry))) (table (length (now (ids .entry)) / 4) (keyAt (now (ids .entry)))) ⌝ }
+    ensures { λ r.
+        let keys = table (length (now (ids .entry)) / 4) (keyAt (now (ids .entry))) in
+        ⌜ r ≡ anyOf (flagOf (now (flags .entry))) keys ⌝ }
 {
     let count = ids.len() / 4;
     let mut found = false;
@@ -261,15 +257,15 @@ fn any_flagged(ids: &[u8], flags: &[bool; 8192]) -> bool
 }
 
 // Whether a result may list ships: most list none, and need no search for each of the 33 ids.
-fn may_list(fit: &[u8], starts: &[u32; 259], j: usize, flags: &[bool; 8192]) -> bool
-    requires { ⌜ Fit.Sound (now fit) × Starts (now fit) (now starts) × (j < resultCount (now fit) + 2) ⌝ }
+fn may_list(fit: &[u8], facts: &[u32; 1797], j: usize, flags: &[bool; 8192]) -> bool
+    requires { ⌜ Fit.Sound (now fit) × Starts (now fit) (now facts) × (j < resultCount (now fit) + 2) ⌝ }
     ensures { λ r. ⌜ r ≡ anyFlagged (now (flags .entry)) (resultOf (now (fit .entry)) j) ⌝ }
 {
-    any_flagged(fit::ids_of(fit, starts, j), flags)
+    any_flagged(fit::ids_of(fit, facts, j), flags)
 }
 
-fn listed_under(fit: &[u8], starts: &[u32; 259], j: usize, code: u64, id: i32) -> Listing
-    requires { ⌜ Fit.Sound (now fit) × Starts (now fit) (now starts) × (j < resultCount (now fit) + 2) ⌝ }
+fn listed_under(fit: &[u8], facts: &[u32; 1797], j: usize, code: u64, id: i32) -> Listing
+    requires { ⌜ Fit.Sound (now fit) × Starts (now fit) (now facts) × (j < resultCount (now fit) + 2) ⌝ }
     ensures { λ r. ⌜ ListingOf id (listedUnder (resultOf (now (fit .entry)) j) (idIn code)) r ⌝ }
 {
     let known = id_in(code);
@@ -279,7 +275,7 @@ fn listed_under(fit: &[u8], starts: &[u32; 259], j: usize, code: u64, id: i32) -
             has: false,
         };
     };
-    let answer = fit::value(fit, starts, j, attribute_id);
+    let answer = fit::value(fit, facts, j, attribute_id);
     let Value::Given(value) = answer else {
         return Listing {
             any: false,
@@ -293,15 +289,15 @@ fn listed_under(fit: &[u8], starts: &[u32; 259], j: usize, code: u64, id: i32) -
 }
 
 // What the item lists under a set of attributes; nothing for an item that goes on any ship.
-fn listed(fit: &[u8], starts: &[u32; 259], j: usize, codes: &[u64], id: i32) -> Listing
-    requires { ⌜ Fit.Sound (now fit) × Starts (now fit) (now starts) × (j < resultCount (now fit) + 2) ⌝ }
+fn listed(fit: &[u8], facts: &[u32; 1797], j: usize, codes: &[u64], id: i32) -> Listing
+    requires { ⌜ Fit.Sound (now fit) × Starts (now fit) (now facts) × (j < resultCount (now fit) + 2) ⌝ }
     ensures { λ r. ⌜ ListingOf id (listedIn (resultOf (now (fit .entry)) j) (now (codes .entry))) r ⌝ }
 {
     let mut any = false;
     let mut has = false;
     let mut k = 0;
     while k < codes.len() {
-        let one = listed_under(fit, starts, j, codes[k], id);
+        let one = listed_under(fit, facts, j, codes[k], id);
         any = words::either(any, one.any);
         has = words::either(has, one.has);
         k += 1;
@@ -310,7 +306,7 @@ fn listed(fit: &[u8], starts: &[u32; 259], j: usize, codes: &[u64], id: i32) -> 
 }
 
 // An item that lists ships, and not this one by its type or its group.
-fn is_restricted(types: Listing, groups: Listing) -> bool
+fn lists_others(types: Listing, groups: Listing) -> bool
     ensures { λ r. ⌜ r ≡ (not (not (types .any) && not (groups .any)) && not (types .has) && not (groups .has)) ⌝ }
 {
     if types.has {
@@ -322,130 +318,120 @@ fn is_restricted(types: Listing, groups: Listing) -> bool
     words::either(types.any, groups.any)
 }
 
-fn ship_restricted_at(
+fn is_restricted(
     catalogue: &[u8],
     fit: &[u8],
-    starts: &[u32; 259],
+    facts: &[u32; 1797],
     types: &[u64; 13],
     groups: &[u64; 20],
     flags: &[bool; 8192],
-    ship: i32,
-    group: i32,
     i: usize,
-    out: &mut [u8],
-    n: usize,
-) -> usize
-    requires { ⌜ Ready (now catalogue) (now fit) (now starts) × (i < pairCount (now fit)) × (n < 4294967296) ⌝ }
-    requires { ⌜ IdsOf (catalogueOf (now catalogue) .names) SHIP-TYPES (now types) × IdsOf (catalogueOf (now catalogue) .names) SHIP-GROUPS (now groups) ⌝ }
-    requires { ⌜ (ship ≡ contextOf (now catalogue) (now fit) .ship) × (group ≡ contextOf (now catalogue) (now fit) .group) ⌝ }
-    requires { ⌜ Flagged (now types) (now flags) × Flagged (now groups) (now flags) ⌝ }
-    ensures { λ r. ⌜ Wrote (now (out .entry)) n (now (out .exit)) r (shipRestrictedAt (contextOf (now (catalogue .entry)) (now (fit .entry))) (pairAt (now (catalogue .entry)) (now (fit .entry)) i)) ⌝ }
+) -> bool
+    requires { ⌜ Gathered (now catalogue) (now fit) (now facts) × (i < pairCount (now fit)) ⌝ }
+    requires { ⌜ ShipIds (catalogueOf (now catalogue) .names) (now types) (now groups) (now flags) ⌝ }
+    ensures { λ r.
+        let x = contextOf (now (catalogue .entry)) (now (fit .entry)) in
+        ⌜ r ≡ isRestricted x (pairAt (now (catalogue .entry)) (now (fit .entry)) i) ⌝ }
 {
-    if !is_fitted(fit, i) {
-        return n;
+    if !context::is_fitted_at(fit, i) {
+        return false;
     }
-    if !may_list(fit, starts, i + 2, flags) {
-        return n;
+    if !may_list(fit, facts, i + 2, flags) {
+        return false;
     }
-    let of_types = listed(fit, starts, i + 2, types, ship);
-    let of_groups = listed(fit, starts, i + 2, groups, group);
-    entry::emit_when(
-        out,
-        n,
-        is_restricted(of_types, of_groups),
-        Entry {
-            target: Target::Item(i as u32),
-            rule: Rule::ShipRestricted,
-        },
-    )
+    let ship = fit::ship(fit);
+    let group = context::ship_group(catalogue, fit, facts);
+    let of_types = listed(fit, facts, i + 2, types, ship);
+    let of_groups = listed(fit, facts, i + 2, groups, group);
+    lists_others(of_types, of_groups)
 }
 
 pub fn ship_restricted(
     catalogue: &[u8],
     fit: &[u8],
-    starts: &[u32; 259],
-    group: i32,
+    facts: &[u32; 1797],
     out: &mut [u8],
     n: usize,
 ) -> usize
-    requires { ⌜ Ready (now catalogue) (now fit) (now starts) × (n ≤ 1000000) × (group ≡ contextOf (now catalogue) (now fit) .group) ⌝ }
-    ensures { λ r. ⌜ Wrote (now (out .entry)) n (now (out .exit)) r (Item.shipRestricted (contextOf (now (catalogue .entry)) (now (fit .entry))) (pairsOf (now (catalogue .entry)) (now (fit .entry)))) × (r ≤ n + 256) ⌝ }
+    requires { ⌜ Gathered (now catalogue) (now fit) (now facts) × Room n mostPairs ⌝ }
+    ensures { λ r.
+        let x = contextOf (now (catalogue .entry)) (now (fit .entry)) in
+        let ps = pairsOf (now (catalogue .entry)) (now (fit .entry)) in
+        ⌜ Wrote (now (out .entry)) n (now (out .exit)) r (Item.shipRestricted x ps) × (r ≤ n + mostPairs) ⌝ }
 {
     let types = type_ids(catalogue);
     let groups = group_ids(catalogue);
     let mut flags = [false; 8192];
     flag_ids(&types, &mut flags);
     flag_ids(&groups, &mut flags);
-    let ship = fit::ship(fit);
     let count = fit::pair_count(fit);
     let mut m = n;
     let mut i = 0;
     while i < count {
-        m = ship_restricted_at(
-            catalogue,
-            fit,
-            starts,
-            &types,
-            &groups,
-            &flags,
-            ship,
-            group,
-            i,
-            out,
-            m,
-        );
+        let restricted = is_restricted(catalogue, fit, facts, &types, &groups, &flags, i);
+        let target = Target::Item(i as u32);
+        let rule = Rule::ShipRestricted;
+        m = entry::emit_when(out, m, restricted, Entry { target, rule });
         i += 1;
     }
     m
 }
 
-// A capital ship, or a structure.
-fn takes_capitals(
-    catalogue: &[u8],
-    fit: &[u8],
-    starts: &[u32; 259],
-    capital: i32,
-    category: i32,
-) -> bool
-    requires { ⌜ Ready (now catalogue) (now fit) (now starts) × (category ≡ contextOf (now catalogue) (now fit) .category) ⌝ }
-    ensures { λ r. ⌜ r ≡ (ne (amount (contextOf (now (catalogue .entry)) (now (fit .entry)) .shipResult) capital) zeroF || isStructure (contextOf (now (catalogue .entry)) (now (fit .entry)))) ⌝ }
+fn is_structure(catalogue: &[u8], fit: &[u8], facts: &[u32; 1797]) -> bool
+    requires { ⌜ Gathered (now catalogue) (now fit) (now facts) ⌝ }
+    ensures { λ r. ⌜ r ≡ isStructure (contextOf (now (catalogue .entry)) (now (fit .entry))) ⌝ }
 {
-    if fit::amount(fit, starts, 0, capital) != 0.0 {
+    words::same_id(
+        context::ship_category(catalogue, fit, facts),
+        categories::STRUCTURE,
+    )
+}
+
+// A capital ship, or a structure.
+fn takes_capitals(catalogue: &[u8], fit: &[u8], facts: &[u32; 1797], capital: i32) -> bool
+    requires { ⌜ Gathered (now catalogue) (now fit) (now facts) ⌝ }
+    ensures { λ r.
+        let x = contextOf (now (catalogue .entry)) (now (fit .entry)) in
+        ⌜ r ≡ (ne (amount (x .shipResult) capital) zeroF || isStructure x) ⌝ }
+{
+    if fit::amount(fit, facts, 0, capital) != 0.0 {
         return true;
     }
-    words::same_id(category, 65)
+    is_structure(catalogue, fit, facts)
 }
 
 // A capital rig is held apart by its rig size instead.
-fn is_capital_item(fit: &[u8], starts: &[u32; 259], volume: i32, i: usize) -> bool
-    requires { ⌜ Fit.Sound (now fit) × Starts (now fit) (now starts) × (i < pairCount (now fit)) ⌝ }
-    ensures { λ r. ⌜ ((k : List ℕ) → r ≡ isCapitalItem volume (pairAt k (now (fit .entry)) i)) ⌝ }
+fn is_capital_item(fit: &[u8], facts: &[u32; 1797], volume: i32, i: usize) -> bool
+    requires { ⌜ Fit.Sound (now fit) × Starts (now fit) (now facts) × (i < pairCount (now fit)) ⌝ }
+    ensures { λ r. ⌜ ((catalogue : List ℕ) → r ≡ isCapitalItem volume (pairAt catalogue (now (fit .entry)) i)) ⌝ }
 {
-    if !is_fitted(fit, i) {
+    if !context::is_fitted_at(fit, i) {
         return false;
     }
-    if is_in_rig(fit, i) {
+    if context::is_in(fit, i, slots::RIG) {
         return false;
     }
-    fit::amount(fit, starts, i + 2, volume) > CAPITAL_VOLUME
+    fit::amount(fit, facts, i + 2, volume) > CAPITAL_VOLUME
 }
 
 fn capital_item_at(
-    catalogue: &[u8],
     fit: &[u8],
-    starts: &[u32; 259],
+    facts: &[u32; 1797],
     volume: i32,
     i: usize,
     out: &mut [u8],
     n: usize,
 ) -> usize
-    requires { ⌜ Ready (now catalogue) (now fit) (now starts) × (i < pairCount (now fit)) × (n < 4294967296) ⌝ }
-    ensures { λ r. ⌜ Wrote (now (out .entry)) n (now (out .exit)) r (capitalItemAt volume (pairAt (now (catalogue .entry)) (now (fit .entry)) i)) ⌝ }
+    requires { ⌜ Fit.Sound (now fit) × Starts (now fit) (now facts) × (i < pairCount (now fit)) × Room n 1 ⌝ }
+    ensures { λ r.
+        let before = now (out .entry) in
+        let after = now (out .exit) in
+        ⌜ ((catalogue : List ℕ) → Wrote before n after r (capitalItemAt volume (pairAt catalogue (now (fit .entry)) i))) ⌝ }
 {
     entry::emit_when(
         out,
         n,
-        is_capital_item(fit, starts, volume, i),
+        is_capital_item(fit, facts, volume, i),
         Entry {
             target: Target::Item(i as u32),
             rule: Rule::CapitalItem,
@@ -456,53 +442,55 @@ fn capital_item_at(
 pub fn capital_item(
     catalogue: &[u8],
     fit: &[u8],
-    starts: &[u32; 259],
-    category: i32,
+    facts: &[u32; 1797],
     out: &mut [u8],
     n: usize,
 ) -> usize
-    requires { ⌜ Ready (now catalogue) (now fit) (now starts) × (n ≤ 1000000) × (category ≡ contextOf (now catalogue) (now fit) .category) ⌝ }
-    ensures { λ r. ⌜ Wrote (now (out .entry)) n (now (out .exit)) r (Item.capitalItem (contextOf (now (catalogue .entry)) (now (fit .entry))) (pairsOf (now (catalogue .entry)) (now (fit .entry)))) × (r ≤ n + 256) ⌝ }
+    requires { ⌜ Gathered (now catalogue) (now fit) (now facts) × Room n mostPairs ⌝ }
+    ensures { λ r.
+        let x = contextOf (now (catalogue .entry)) (now (fit .entry)) in
+        let ps = pairsOf (now (catalogue .entry)) (now (fit .entry)) in
+        ⌜ Wrote (now (out .entry)) n (now (out .exit)) r (Item.capitalItem x ps) × (r ≤ n + mostPairs) ⌝ }
 {
-    let of_volume = catalogue::attribute_id(catalogue, 67);
+    let of_volume = catalogue::attribute_id(catalogue, names::VOLUME);
     let AttributeId::Known(volume) = of_volume else {
         return n;
     };
-    let of_capital = catalogue::attribute_id(catalogue, 68);
+    let of_capital = catalogue::attribute_id(catalogue, names::IS_CAPITAL_SIZE);
     let AttributeId::Known(capital) = of_capital else {
         return n;
     };
-    if takes_capitals(catalogue, fit, starts, capital, category) {
+    if takes_capitals(catalogue, fit, facts, capital) {
         return n;
     }
     let count = fit::pair_count(fit);
     let mut m = n;
     let mut i = 0;
     while i < count {
-        m = capital_item_at(catalogue, fit, starts, volume, i, out, m);
+        m = capital_item_at(fit, facts, volume, i, out, m);
         i += 1;
     }
     m
 }
 
-fn marked_under(fit: &[u8], starts: &[u32; 259], j: usize, code: u64) -> bool
-    requires { ⌜ Fit.Sound (now fit) × Starts (now fit) (now starts) × (j < resultCount (now fit) + 2) ⌝ }
+fn marked_under(fit: &[u8], facts: &[u32; 1797], j: usize, code: u64) -> bool
+    requires { ⌜ Fit.Sound (now fit) × Starts (now fit) (now facts) × (j < resultCount (now fit) + 2) ⌝ }
     ensures { λ r. ⌜ r ≡ markedUnder (resultOf (now (fit .entry)) j) (idIn code) ⌝ }
 {
     let known = id_in(code);
     let AttributeId::Known(attribute_id) = known else {
         return false;
     };
-    fit::amount(fit, starts, j, attribute_id) != 0.0
+    fit::amount(fit, facts, j, attribute_id) != 0.0
 }
 
-fn is_marked(fit: &[u8], starts: &[u32; 259], j: usize, codes: &[u64]) -> bool
-    requires { ⌜ Fit.Sound (now fit) × Starts (now fit) (now starts) × (j < resultCount (now fit) + 2) ⌝ }
+fn is_marked(fit: &[u8], facts: &[u32; 1797], j: usize, codes: &[u64]) -> bool
+    requires { ⌜ Fit.Sound (now fit) × Starts (now fit) (now facts) × (j < resultCount (now fit) + 2) ⌝ }
     ensures { λ r. ⌜ r ≡ markedIn (resultOf (now (fit .entry)) j) (now (codes .entry)) ⌝ }
 {
     let mut k = 0;
     while k < codes.len() {
-        if marked_under(fit, starts, j, codes[k]) {
+        if marked_under(fit, facts, j, codes[k]) {
             return true;
         }
         k += 1;
@@ -513,92 +501,67 @@ fn is_marked(fit: &[u8], starts: &[u32; 259], j: usize, codes: &[u64]) -> bool
 fn is_standup(
     catalogue: &[u8],
     fit: &[u8],
-    starts: &[u32; 259],
-    categories: &[i32; 256],
+    facts: &[u32; 1797],
     markers: &[u64; 3],
     i: usize,
 ) -> bool
-    requires { ⌜ Ready (now catalogue) (now fit) (now starts) × (i < pairCount (now fit)) ⌝ }
-    requires { ⌜ IdsOf (catalogueOf (now catalogue) .names) STANDUP-FIGHTERS (now markers) × Categories (now catalogue) (now fit) (now categories) ⌝ }
-    ensures { λ r. ⌜ r ≡ isStandup (contextOf (now (catalogue .entry)) (now (fit .entry))) (pairAt (now (catalogue .entry)) (now (fit .entry)) i) ⌝ }
+    requires { ⌜ Gathered (now catalogue) (now fit) (now facts) × (i < pairCount (now fit)) ⌝ }
+    requires { ⌜ IdsOf (catalogueOf (now catalogue) .names) STANDUP-FIGHTERS (now markers) ⌝ }
+    ensures { λ r.
+        let x = contextOf (now (catalogue .entry)) (now (fit .entry)) in
+        ⌜ r ≡ isStandup x (pairAt (now (catalogue .entry)) (now (fit .entry)) i) ⌝ }
 {
-    if words::same_id(id_at(categories, i), 66) {
+    if words::same_id(
+        context::category(catalogue, fit, facts, i),
+        categories::STRUCTURE_MODULE,
+    ) {
         return true;
     }
-    is_marked(fit, starts, i + 2, markers)
+    is_marked(fit, facts, i + 2, markers)
 }
 
 fn standup_at(
     catalogue: &[u8],
     fit: &[u8],
-    starts: &[u32; 259],
-    categories: &[i32; 256],
+    facts: &[u32; 1797],
     markers: &[u64; 3],
-    structure: bool,
     i: usize,
     out: &mut [u8],
     n: usize,
 ) -> usize
-    requires { ⌜ Ready (now catalogue) (now fit) (now starts) × (i < pairCount (now fit)) × (n < 4294967296) ⌝ }
-    requires { ⌜ IdsOf (catalogueOf (now catalogue) .names) STANDUP-FIGHTERS (now markers) × Categories (now catalogue) (now fit) (now categories) × (structure ≡ isStructure (contextOf (now catalogue) (now fit))) ⌝ }
-    ensures { λ r. ⌜ Wrote (now (out .entry)) n (now (out .exit)) r (standupAt (contextOf (now (catalogue .entry)) (now (fit .entry))) (pairAt (now (catalogue .entry)) (now (fit .entry)) i)) ⌝ }
+    requires { ⌜ Gathered (now catalogue) (now fit) (now facts) × (i < pairCount (now fit)) × Room n 1 ⌝ }
+    requires { ⌜ IdsOf (catalogueOf (now catalogue) .names) STANDUP-FIGHTERS (now markers) ⌝ }
+    ensures { λ r.
+        let x = contextOf (now (catalogue .entry)) (now (fit .entry)) in
+        let p = pairAt (now (catalogue .entry)) (now (fit .entry)) i in
+        ⌜ Wrote (now (out .entry)) n (now (out .exit)) r (standupAt x p) ⌝ }
 {
-    if !is_on_hull(fit, i) {
+    if !context::is_on_hull(fit, i) {
         return n;
     }
-    let standup = is_standup(catalogue, fit, starts, categories, markers, i);
+    let standup = is_standup(catalogue, fit, facts, markers, i);
     let target = Target::Item(i as u32);
-    if structure {
-        return entry::emit_when(
-            out,
-            n,
-            !standup,
-            Entry {
-                target,
-                rule: Rule::ShipItem,
-            },
-        );
+    if is_structure(catalogue, fit, facts) {
+        let rule = Rule::ShipItem;
+        return entry::emit_when(out, n, !standup, Entry { target, rule });
     }
-    entry::emit_when(
-        out,
-        n,
-        standup,
-        Entry {
-            target,
-            rule: Rule::StructureItem,
-        },
-    )
+    let rule = Rule::StructureItem;
+    entry::emit_when(out, n, standup, Entry { target, rule })
 }
 
-pub fn standup(
-    catalogue: &[u8],
-    fit: &[u8],
-    starts: &[u32; 259],
-    categories: &[i32; 256],
-    category: i32,
-    out: &mut [u8],
-    n: usize,
-) -> usize
-    requires { ⌜ Ready (now catalogue) (now fit) (now starts) × (n ≤ 1000000) × Categories (now catalogue) (now fit) (now categories) × (category ≡ contextOf (now catalogue) (now fit) .category) ⌝ }
-    ensures { λ r. ⌜ Wrote (now (out .entry)) n (now (out .exit)) r (Item.standup (contextOf (now (catalogue .entry)) (now (fit .entry))) (pairsOf (now (catalogue .entry)) (now (fit .entry)))) × (r ≤ n + 256) ⌝ }
+pub fn standup(catalogue: &[u8], fit: &[u8], facts: &[u32; 1797], out: &mut [u8], n: usize) -> usize
+    requires { ⌜ Gathered (now catalogue) (now fit) (now facts) × Room n mostPairs ⌝ }
+    ensures { λ r.
+        let x = contextOf (now (catalogue .entry)) (now (fit .entry)) in
+        let ps = pairsOf (now (catalogue .entry)) (now (fit .entry)) in
+        ⌜ Wrote (now (out .entry)) n (now (out .exit)) r (Item.standup x ps) × (r ≤ n + mostPairs) ⌝ }
 {
     let markers = standup_ids(catalogue);
-    let structure = words::same_id(category, 65);
     let count = fit::pair_count(fit);
     let mut m = n;
     let mut i = 0;
     while i < count {
-        m = standup_at(
-            catalogue,
-            fit,
-            starts,
-            categories,
-            &markers,
-            structure,
-            i,
-            out,
-            m,
-        );
+        m = standup_at(catalogue, fit, facts, &markers, i, out, m);
         i += 1;
     }
     m
@@ -607,17 +570,18 @@ pub fn standup(
 pub fn validate(
     catalogue: &[u8],
     fit: &[u8],
-    starts: &[u32; 259],
-    categories: &[i32; 256],
+    facts: &[u32; 1797],
     out: &mut [u8],
     n: usize,
 ) -> usize
-    requires { ⌜ Ready (now catalogue) (now fit) (now starts) × (n ≤ 900000) × Categories (now catalogue) (now fit) (now categories) ⌝ }
-    ensures { λ r. ⌜ Wrote (now (out .entry)) n (now (out .exit)) r (itemRules (contextOf (now (catalogue .entry)) (now (fit .entry))) (pairsOf (now (catalogue .entry)) (now (fit .entry)))) × (r ≤ n + 1024) ⌝ }
+    requires { ⌜ Gathered (now catalogue) (now fit) (now facts) × Room n (4 * mostPairs) ⌝ }
+    ensures { λ r.
+        let x = contextOf (now (catalogue .entry)) (now (fit .entry)) in
+        let ps = pairsOf (now (catalogue .entry)) (now (fit .entry)) in
+        ⌜ Wrote (now (out .entry)) n (now (out .exit)) r (itemRules x ps) × (r ≤ n + 4 * mostPairs) ⌝ }
 {
-    let ship = context::ship_facts(catalogue, fit);
-    let mut m = rig_size(catalogue, fit, starts, out, n);
-    m = ship_restricted(catalogue, fit, starts, ship.group, out, m);
-    m = capital_item(catalogue, fit, starts, ship.category, out, m);
-    standup(catalogue, fit, starts, categories, ship.category, out, m)
+    let mut m = rig_size(catalogue, fit, facts, out, n);
+    m = ship_restricted(catalogue, fit, facts, out, m);
+    m = capital_item(catalogue, fit, facts, out, m);
+    standup(catalogue, fit, facts, out, m)
 }

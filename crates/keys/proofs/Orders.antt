@@ -27,11 +27,13 @@ and-right true b e = e
 and-right false b e = absurd (subst (λ (t : Bool). cond t ⊥ (Prim.Unit {0})) e tt)
 
 -- a turn of the loop: one more pair of neighbours
-pub order-turn : {A : Type 0} (r : A → A → Bool) (f : ℕ → A) (i : ℕ) (ok b s : Bool) → 0 < i → ok ≡ inOrder r (table i f) → s ≡ r (f (i - 1)) (f i) → b ≡ ok && s → b ≡ inOrder r (table (i + 1) f)
+pub order-turn : {A : Type 0} (r : A → A → Bool) (f : ℕ → A) (i : ℕ) (ok b s : Bool) → 0 < i → ok ≡ inOrder r (table i f)
+    → s ≡ r (f (i - 1)) (f i) → b ≡ ok && s → b ≡ inOrder r (table (i + 1) f)
 order-turn r f i ok b s p e q h = h ∙ rw (e, q) (sym (order-more r i f p))
 
 -- the loop's end, also where there is no neighbour
-pub order-end : {A : Type 0} (r : A → A → Bool) (f : ℕ → A) (i n : ℕ) (ok : Bool) → 0 < i → n ≤ i → i ≤ max n 1 → ok ≡ inOrder r (table i f) → ok ≡ inOrder r (table n f)
+pub order-end : {A : Type 0} (r : A → A → Bool) (f : ℕ → A) (i n : ℕ) (ok : Bool) → 0 < i → n ≤ i → i ≤ max n 1 → ok ≡ inOrder r (table i f)
+    → ok ≡ inOrder r (table n f)
 order-end r f i zero ok p a b e = let q : i ≡ 1 = omega arith in e ∙ ap (λ (k : ℕ). inOrder r (table k f)) q ∙ order-one r f ∙ sym (order-none r f)
 order-end r f i (suc n) ok p a b e = let q : i ≡ suc n = omega arith in e ∙ ap (λ (k : ℕ). inOrder r (table k f)) q
 
@@ -48,8 +50,10 @@ module _ (strict : Bool) (g : ℕ → ℕ) where
   any-le (suc (suc n)) e j k p q =
       let m : inOrder (stands strict) (table (suc n + 1) g) ≡ true = rw add-one e in
       let o = sym (order-more (stands strict) (suc n) g (omega arith)) ∙ m in
-      let h : inOrder (stands strict) (table (suc n) g) ≡ true = and-left (inOrder (stands strict) (table (suc n) g)) (stands strict (g (suc n - 1)) (g (suc n))) o in
-      let l : g (suc n - 1) ≤ g (suc n) = next-le strict (g (suc n - 1)) (g (suc n)) (and-right (inOrder (stands strict) (table (suc n) g)) (stands strict (g (suc n - 1)) (g (suc n))) o) in
+      let h : inOrder (stands strict) (table (suc n) g) ≡ true = and-left (inOrder (stands strict) (table (suc n) g))
+      (stands strict (g (suc n - 1)) (g (suc n))) o in
+      let l : g (suc n - 1) ≤ g (suc n) = next-le strict (g (suc n - 1)) (g (suc n))
+      (and-right (inOrder (stands strict) (table (suc n) g)) (stands strict (g (suc n - 1)) (g (suc n))) o) in
       let z : suc n - 1 ≡ n = omega arith in
       ⊎-elim
       (λ (x : k ≡ suc n).
@@ -105,7 +109,7 @@ module _ (keys : List ℕ) where
     pub after-differs : Sorted keys n → (i k : ℕ) → r ≤ i → same (keyAt keys i) id ≡ false → i ≤ k → k < n → same (keyAt keys k) id ≡ false
     after-differs sorted i k l e h g =
         let d : rankOf (keyAt keys i) ≡ rankOf id → ⊥ = eqb-false _ _ (sym (rank-same (keyAt keys i) id (key-range i) range) ∙ e) in
-        differs k (λ q. d (between _ _ _ (parts .over i l (omega arith)) (sorted i k h g) q))
+        differs k (λ q. d (between _ _ _ (parts .beyond i l (omega arith)) (sorted i k h g) q))
       where
         between : (a b c : ℕ) → a ≤ b → b ≤ c → c ≡ a → b ≡ a
         between a b c p q s = omega arith

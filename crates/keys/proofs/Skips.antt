@@ -35,9 +35,10 @@ pub record Searched (keys : List ℕ) (n key base end : ℕ) : Type 0 where
   pub within : end ≤ n
   pub ordered : base ≤ end
   pub under : (k : ℕ) → k < base → rankOf (keyAt keys k) < key
-  pub over : (k : ℕ) → end ≤ k → k < n → key ≤ rankOf (keyAt keys k)
+  pub beyond : (k : ℕ) → end ≤ k → k < n → key ≤ rankOf (keyAt keys k)
 
-pub skipped : (keys : List ℕ) (n key base left half : ℕ) {r : ℕ} → Sorted keys n → Searched keys n key base (base + left) → 1 ≤ half → half ≤ left → half + half ≤ left + 1
+pub skipped : (keys : List ℕ) (n key base left half : ℕ) {r : ℕ} → Sorted keys n → Searched keys n key base (base + left) → 1 ≤ half
+    → half ≤ left → half + half ≤ left + 1
     → r ≡ base + cond (ltb (rankOf (keyAt keys (base + half - 1))) key) half 0 → Searched keys n key r (r + (left - half))
 skipped keys n key base left half sorted s p h g e = go (ltb (rankOf (keyAt keys (base + half - 1))) key) refl e
   where
@@ -48,7 +49,7 @@ skipped keys n key base left half sorted s p h g e = go (ltb (rankOf (keyAt keys
           within = omega (arith, e, s .within, h);
           ordered = omega arith;
           under = λ k l. omega (arith, sorted k (base + half - 1) (omega (arith, e, l)) (omega (arith, s .within, h, p)), x);
-          over = λ k l m. s .over k (omega (arith, e, l, h)) m;
+          beyond = λ k l m. s .beyond k (omega (arith, e, l, h)) m;
         }
     go false q e =
         let x = ltb-false (rankOf (keyAt keys (base + half - 1))) key q in
@@ -56,7 +57,7 @@ skipped keys n key base left half sorted s p h g e = go (ltb (rankOf (keyAt keys
           within = omega (arith, e, s .within, h);
           ordered = omega arith;
           under = λ k l. s .under k (omega (arith, e, l));
-          over = λ k l m. omega (arith, sorted (base + half - 1) k (omega (arith, e, l, g, h)) m, x);
+          beyond = λ k l m. omega (arith, sorted (base + half - 1) k (omega (arith, e, l, g, h)) m, x);
         }
 
 -- ---- a guess that passes both tests parts the keys
@@ -80,5 +81,5 @@ pub parted : (keys : List ℕ) (n : ℕ) (id : ℤ) {key base end : ℕ} → key
 parted keys n id e s h = record {
   within = omega (arith, s .within, s .ordered);
   under = λ k g. omega (arith, s .under k g, e);
-  over = λ k g m. omega (arith, s .over k (omega (arith, g, h)) m, e);
+  beyond = λ k g m. omega (arith, s .beyond k (omega (arith, g, h)) m, e);
 }

@@ -27,7 +27,7 @@ Sorted keys n = (j k : ℕ) → j ≤ k → k < n → rankOf (keyAt keys j) ≤ 
 pub record Parts (keys : List ℕ) (n : ℕ) (id : ℤ) (r : ℕ) : Type 0 where
   pub within : r ≤ n
   pub under : (k : ℕ) → k < r → rankOf (keyAt keys k) < rankOf id
-  pub over : (k : ℕ) → r ≤ k → k < n → rankOf id ≤ rankOf (keyAt keys k)
+  pub beyond : (k : ℕ) → r ≤ k → k < n → rankOf id ≤ rankOf (keyAt keys k)
 
 -- where an id stands first among the first n keys
 unfoldable pub placeOf : List ℕ → ℕ → ℤ → Option ℕ

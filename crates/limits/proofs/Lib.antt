@@ -1,3 +1,2 @@
 -- Laws of the rules on how many of a kind there may be.
-pub mod Counts
 pub mod Limits

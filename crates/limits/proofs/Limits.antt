@@ -1,15 +1,15 @@
 -- A limit that an item has: an entry where more are used than it allows. One law for groups and types.
-use Prim.Native.Nat.{ℕ, zero, suc, _+_, _*_, _<_, _≤_}
-use native.Mathlib.Omega.{arith}
-use mathlib.Core.Path.{_≡_, refl, ap}
+use Prim.Native.Nat.{ℕ, zero, suc, _≤_}
+use mathlib.Core.Path.{_≡_, refl}
 use mathlib.Core.Bool.{Bool, true, false}
-use mathlib.Core.List.{List, [], _∷_}
+use mathlib.Core.List.{List, map}
 use mathlib.Core.Option.{Option, none, some}
 use lib.Dec.{ltb}
 use lib.Ieee.{Float}
-use lib.ListN.{length, getD, take}
+use lib.ListN.{length, getD}
 use Rattle.words.specs.Words.{_>>=_, each, when, whenAbove, countOf}
 use Rattle.words.proofs.Lengths.{few-bind, few-above}
+use Rattle.numbers.specs.Names as Names
 use Rattle.floats.specs.Floats.{toU}
 use Rattle.catalogue.specs.Catalogue.{Id}
 use Rattle.catalogue.specs.Lookups.{nameId}
@@ -17,16 +17,16 @@ use Rattle.fit.specs.Lookups.{value}
 use Rattle.entry.specs.declared.Entry.{Entry}
 use Rattle.entry.specs.declared.Rule.the-variants.{MaxGroup, MaxType}
 use Rattle.entry.specs.Wrote.{Wrote}
-use Rattle.entry.proofs.Wrote.{wrote-same, wrote-each-none, wrote-each-next, wrote-each-all, wrote-unless, wrote-bind, wrote-bind-none}
+use Rattle.entry.proofs.Wrote.{wrote-unless, wrote-bind, wrote-bind-none}
 use Rattle.context.specs.Context.{Pair, Context, isFitted, on}
-use Rattle.item.specs.Item.{inGroup, ofType, GROUP-LIMITS, groupLimits, typeLimit}
-use Rattle.item.specs.AtPair.{groupLimitAt, groupLimit, typeLimitAt}
+use Rattle.limits.specs.declared.Row.{Row}
+use Rattle.limits.specs.Limits.{GROUP-LIMITS, rowAt, inGroup, groupLimitAt, groupLimit, ofType, typeLimitAt, typeLimit}
 
 -- what both rules say of a pair
 limited : Option Float → Bool → ℕ → (ℕ → ℕ → Entry) → List Entry
 limited o fitted used e = do
   allowed ← o
-  whenAbove fitted (toU 32 allowed) used λ u. e u (toU 32 allowed)
+  whenAbove fitted used (toU 32 allowed) λ u. e u (toU 32 allowed)
 
 module _ (o : Option Float) (fitted : Bool) (used : ℕ) (e : ℕ → ℕ → Entry) where
   limited-missing : {b : List ℕ} {n : ℕ} → o ≡ none → Wrote b n b n (limited o fitted used e)
@@ -44,37 +44,40 @@ module _ (o : Option Float) (fitted : Bool) (used : ℕ) (e : ℕ → ℕ → En
 
   limited-few : length (limited o fitted used e) ≤ 1
   unfolding limited
-  limited-few = few-bind _ 1 (λ v. few-above fitted (toU 32 v) used (λ u. e u (toU 32 v))) o
+  limited-few = few-bind _ 1 (λ v. few-above fitted used (toU 32 v) (λ u. e u (toU 32 v))) o
 
 -- ---- groups
-module _ (limit : ℕ) (id : Id) (ps : List Pair) (p : Pair) where
+module _ (limit lowest : ℕ) (id : Id) (ps : List Pair) (p : Pair) where
   abbrev max-group : ℕ → ℕ → Entry
   max-group used allowed = on p (MaxGroup (p .group) limit used allowed)
 
-  pub group-missing : {b : List ℕ} {n : ℕ} → value (p .result) id ≡ none → Wrote b n b n (groupLimitAt limit id ps p)
+  pub group-missing : {b : List ℕ} {n : ℕ} → value (p .result) id ≡ none → Wrote b n b n (groupLimitAt limit lowest id ps p)
   unfolding groupLimitAt limited
-  group-missing = limited-missing (value (p .result) id) (isFitted p) (countOf (inGroup (p .group) limit) ps) max-group
+  group-missing = limited-missing (value (p .result) id) (isFitted p) (countOf (inGroup (p .group) lowest) ps) max-group
 
-  pub group-unfitted : {b : List ℕ} {n : ℕ} {v : Float} → value (p .result) id ≡ some v → isFitted p ≡ false → Wrote b n b n (groupLimitAt limit id ps p)
+  pub group-unfitted : {b : List ℕ} {n : ℕ} {v : Float} → value (p .result) id ≡ some v → isFitted p ≡ false
+      → Wrote b n b n (groupLimitAt limit lowest id ps p)
   unfolding groupLimitAt limited
-  group-unfitted = limited-unfitted (value (p .result) id) (isFitted p) (countOf (inGroup (p .group) limit) ps) max-group
+  group-unfitted = limited-unfitted (value (p .result) id) (isFitted p) (countOf (inGroup (p .group) lowest) ps) max-group
 
   pub group-fitted : {b a : List ℕ} {n k : ℕ} {v : Float} {group : Id} {used allowed : ℕ} → value (p .result) id ≡ some v → isFitted p ≡ true
-      → group ≡ p .group → used ≡ countOf (inGroup (p .group) limit) ps → allowed ≡ toU 32 v
-      → Wrote b n a k (when (ltb allowed used) (on p (MaxGroup group limit used allowed))) → Wrote b n a k (groupLimitAt limit id ps p)
+      → group ≡ p .group → used ≡ countOf (inGroup (p .group) lowest) ps → allowed ≡ toU 32 v
+      → Wrote b n a k (when (ltb allowed used) (on p (MaxGroup group limit used allowed))) → Wrote b n a k (groupLimitAt limit lowest id ps p)
   unfolding groupLimitAt limited
-  group-fitted h f g u l w = limited-fitted (value (p .result) id) (isFitted p) (countOf (inGroup (p .group) limit) ps) max-group h f (rw (g, u, l) at w)
+  group-fitted h f g u l w =
+      limited-fitted (value (p .result) id) (isFitted p) (countOf (inGroup (p .group) lowest) ps) max-group h f (rw (g, u, l) at w)
 
-  pub group-few : length (groupLimitAt limit id ps p) ≤ 1
+  pub group-few : length (groupLimitAt limit lowest id ps p) ≤ 1
   unfolding groupLimitAt limited
-  group-few = limited-few (value (p .result) id) (isFitted p) (countOf (inGroup (p .group) limit) ps) max-group
+  group-few = limited-few (value (p .result) id) (isFitted p) (countOf (inGroup (p .group) lowest) ps) max-group
 
-module _ (x : Context) (ps : List Pair) (limit name : ℕ) where
-  pub group-no-name : {b : List ℕ} {n : ℕ} → nameId (x .names) name ≡ none → Wrote b n b n (groupLimit x ps (limit, name))
+module _ (x : Context) (ps : List Pair) (g : ℕ × ℕ × ℕ) where
+  pub group-no-name : {b : List ℕ} {n : ℕ} → nameId (x .names) (g .2) ≡ none → Wrote b n b n (groupLimit x ps g)
   unfolding groupLimit
   group-no-name e = wrote-bind-none _ e
 
-  pub group-each : {b a : List ℕ} {n k : ℕ} (id : Id) → nameId (x .names) name ≡ some id → Wrote b n a k (each ps (groupLimitAt limit id ps)) → Wrote b n a k (groupLimit x ps (limit, name))
+  pub group-each : {b a : List ℕ} {n k : ℕ} (id : Id) → nameId (x .names) (g .2) ≡ some id
+      → Wrote b n a k (each ps (groupLimitAt (g .0) (g .1) id ps)) → Wrote b n a k (groupLimit x ps g)
   unfolding groupLimit
   group-each id e w = wrote-bind _ e w
 
@@ -102,34 +105,26 @@ module _ (id : Id) (ps : List Pair) (p : Pair) where
   type-few = limited-few (value (p .result) id) (isFitted p) (countOf (ofType (p .type)) ps) max-type
 
 module _ (x : Context) (ps : List Pair) where
-  pub type-no-name : {b : List ℕ} {n : ℕ} → nameId (x .names) 75 ≡ none → Wrote b n b n (typeLimit x ps)
+  pub type-no-name : {b : List ℕ} {n : ℕ} → nameId (x .names) Names.maxTypeFitted ≡ none → Wrote b n b n (typeLimit x ps)
   unfolding typeLimit
   type-no-name e = wrote-bind-none _ e
 
-  pub type-each : {b a : List ℕ} {n k : ℕ} (id : Id) → nameId (x .names) 75 ≡ some id → Wrote b n a k (each ps (typeLimitAt id ps)) → Wrote b n a k (typeLimit x ps)
-  unfolding typeLimit typeLimitAt
+  pub type-each : {b a : List ℕ} {n k : ℕ} (id : Id) → nameId (x .names) Names.maxTypeFitted ≡ some id
+      → Wrote b n a k (each ps (typeLimitAt id ps)) → Wrote b n a k (typeLimit x ps)
+  unfolding typeLimit
   type-each id e w = wrote-bind _ e w
 
--- ---- the rows of the table of limits
-rows : List ℕ
-rows = 0 ∷ 72 ∷ 1 ∷ 73 ∷ 2 ∷ 74 ∷ []
+-- ---- the rows of the table
+-- a row as the code holds it
+abbrev row : ℕ × ℕ × ℕ → Row
+row g = record { limit = g .0; lowest = g .1; name = g .2 }
 
-row-of : (k : ℕ) → k < 3 → (getD rows (2 * k) 0, getD rows (2 * k + 1) 0) ≡ getD GROUP-LIMITS k (0, 0)
-unfolding rows
-row-of zero h = refl
-row-of (suc zero) h = refl
-row-of (suc (suc zero)) h = refl
-row-of (suc (suc (suc k))) h = absurd (omega (arith, h))
+-- row k of the code's table
+abbrev pub codeRow : ℕ → Row
+codeRow k = getD (map row GROUP-LIMITS) k (row (0, 0, 0))
 
-module _ (x : Context) (ps : List Pair) where
-  pub limits-none : (b : List ℕ) (n : ℕ) → Wrote b n b n (each (take 0 GROUP-LIMITS) (groupLimit x ps))
-  limits-none b n = wrote-each-none (groupLimit x ps) GROUP-LIMITS b n
-
-  pub limits-next : {b a a′ : List ℕ} {n m m′ : ℕ} (k : ℕ) → k < 3 → Wrote b n a m (each (take k GROUP-LIMITS) (groupLimit x ps))
-      → Wrote a m a′ m′ (groupLimit x ps (getD (0 ∷ 72 ∷ 1 ∷ 73 ∷ 2 ∷ 74 ∷ []) (2 * k) 0, getD (0 ∷ 72 ∷ 1 ∷ 73 ∷ 2 ∷ 74 ∷ []) (2 * k + 1) 0)) → Wrote b n a′ m′ (each (take (k + 1) GROUP-LIMITS) (groupLimit x ps))
-  unfolding rows
-  limits-next k h v w = wrote-each-next (groupLimit x ps) GROUP-LIMITS k (0, 0) h v (wrote-same (ap (groupLimit x ps) (row-of k h)) w)
-
-  pub limits-all : {b a : List ℕ} {n m k : ℕ} → 3 ≤ k → Wrote b n a m (each (take k GROUP-LIMITS) (groupLimit x ps)) → Wrote b n a m (groupLimits x ps)
-  unfolding groupLimits groupLimit groupLimitAt
-  limits-all {b} {a} {n} {m} {k} h w = wrote-each-all (groupLimit x ps) GROUP-LIMITS k h w
+pub row-is : (k : ℕ) → codeRow k ≡ row (rowAt k)
+row-is zero = refl
+row-is (suc zero) = refl
+row-is (suc (suc zero)) = refl
+row-is (suc (suc (suc k))) = refl

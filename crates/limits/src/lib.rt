@@ -4,48 +4,81 @@ use entry::Entry;
 use entry::Rule;
 use entry::Target;
 use floats::Value;
+use numbers::limits;
+use numbers::names;
+use numbers::states;
 ghost use mathlib.Core.Path.{_≡_};
 ghost use mathlib.Core.List.{List};
-ghost use Prim.Native.Nat.{ℕ, _+_, _<_, _≤_};
+ghost use Prim.Native.Nat.{ℕ, _+_, _*_, _<_, _≤_};
 ghost use Rattle.words.specs.Words.{countOf};
+ghost use Rattle.numbers.specs.Sizes.{mostPairs};
 ghost use Rattle.fit.specs.Sound as Fit;
-ghost use Rattle.entry.specs.Wrote.{Wrote};
-ghost use Rattle.context.specs.Gathered.{pairCount, pairAt, pairsOf, contextOf, Ready, Groups};
-ghost use Rattle.item.specs.Item as Item;
-ghost use Rattle.item.specs.Item.{inGroup, ofType};
-ghost use Rattle.item.specs.AtPair.{groupLimitAt, groupLimit, typeLimitAt, limitRules};
+ghost use Rattle.fit.specs.Sound.{Starts};
+ghost use Rattle.entry.specs.Wrote.{Room, Wrote};
+ghost use Rattle.context.specs.Gathered.{pairCount, pairAt, pairsOf, contextOf, Gathered};
+ghost use Rattle.limits.specs.Limits.{rowAt, inGroup, groupLimitAt, groupLimit, groupLimits};
+ghost use Rattle.limits.specs.Limits.{ofType, typeLimitAt, typeLimit, limitRules};
 
-// A group limit, which is the least state that it counts, and its attribute.
-const GROUP_LIMITS: [u8; 6] = [0, 72, 1, 73, 2, 74];
+// A group limit, the lowest state that it counts, and its attribute.
+struct Row {
+    limit: u8,
+    lowest: u8,
+    name: u32,
+}
+
+const GROUP_LIMITS: [Row; 3] = [
+    Row {
+        limit: limits::FITTED,
+        lowest: states::OFFLINE,
+        name: names::MAX_GROUP_FITTED,
+    },
+    Row {
+        limit: limits::ONLINE,
+        lowest: states::ONLINE,
+        name: names::MAX_GROUP_ONLINE,
+    },
+    Row {
+        limit: limits::ACTIVE,
+        lowest: states::ACTIVE,
+        name: names::MAX_GROUP_ACTIVE,
+    },
+];
+
+// A row whose attribute was looked up.
+struct Limit {
+    limit: u8,
+    lowest: u8,
+    id: i32,
+}
 
 // Whether a fitted pair of the group is in a state that the limit looks at. All is read before it is tested, so that the
 // compiler can take many pairs at once.
 fn in_group(
     catalogue: &[u8],
     fit: &[u8],
-    groups: &[i32; 256],
+    facts: &[u32; 1797],
     group: i32,
-    limit: u8,
+    lowest: u8,
     i: usize,
 ) -> bool
-    requires { ⌜ Fit.Sound (now fit) × (i < pairCount (now fit)) × Groups (now catalogue) (now fit) (now groups) ⌝ }
-    ensures { λ r. ⌜ r ≡ inGroup group limit (pairAt (now (catalogue .entry)) (now (fit .entry)) i) ⌝ }
+    requires { ⌜ Gathered (now catalogue) (now fit) (now facts) × (i < pairCount (now fit)) ⌝ }
+    ensures { λ r. ⌜ r ≡ inGroup group lowest (pairAt (now (catalogue .entry)) (now (fit .entry)) i) ⌝ }
 {
-    let fitted = item::is_fitted(fit, i);
-    let alike = words::same_id(item::id_at(groups, i), group);
+    let fitted = context::is_fitted_at(fit, i);
+    let alike = words::same_id(context::group(catalogue, fit, facts, i), group);
     let state = fit::result_state(fit, i + 2);
-    words::both(words::both(fitted, alike), limit <= state)
+    words::both(words::both(fitted, alike), lowest <= state)
 }
 
-fn count_in_group(catalogue: &[u8], fit: &[u8], groups: &[i32; 256], group: i32, limit: u8) -> u32
-    requires { ⌜ Fit.Sound (now fit) × Groups (now catalogue) (now fit) (now groups) ⌝ }
-    ensures { λ r. ⌜ r ≡ countOf (inGroup group limit) (pairsOf (now (catalogue .entry)) (now (fit .entry))) ⌝ }
+fn count_in_group(catalogue: &[u8], fit: &[u8], facts: &[u32; 1797], group: i32, lowest: u8) -> u32
+    requires { ⌜ Gathered (now catalogue) (now fit) (now facts) ⌝ }
+    ensures { λ r. ⌜ r ≡ countOf (inGroup group lowest) (pairsOf (now (catalogue .entry)) (now (fit .entry))) ⌝ }
 {
     let count = fit::pair_count(fit);
     let mut used: u32 = 0;
     let mut i = 0;
     while i < count {
-        used += words::one_if(in_group(catalogue, fit, groups, group, limit, i));
+        used += words::one_if(in_group(catalogue, fit, facts, group, lowest, i));
         i += 1;
     }
     used
@@ -54,26 +87,27 @@ fn count_in_group(catalogue: &[u8], fit: &[u8], groups: &[i32; 256], group: i32,
 fn group_limit_at(
     catalogue: &[u8],
     fit: &[u8],
-    starts: &[u32; 259],
-    groups: &[i32; 256],
-    limit: u8,
-    id: i32,
+    facts: &[u32; 1797],
+    limit: Limit,
     i: usize,
     out: &mut [u8],
     n: usize,
 ) -> usize
-    requires { ⌜ Ready (now catalogue) (now fit) (now starts) × (i < pairCount (now fit)) × (n < 4294967296) × Groups (now catalogue) (now fit) (now groups) ⌝ }
-    ensures { λ r. ⌜ Wrote (now (out .entry)) n (now (out .exit)) r (groupLimitAt limit id (pairsOf (now (catalogue .entry)) (now (fit .entry))) (pairAt (now (catalogue .entry)) (now (fit .entry)) i)) ⌝ }
+    requires { ⌜ Gathered (now catalogue) (now fit) (now facts) × (i < pairCount (now fit)) × Room n 1 ⌝ }
+    ensures { λ r.
+        let ps = pairsOf (now (catalogue .entry)) (now (fit .entry)) in
+        let p = pairAt (now (catalogue .entry)) (now (fit .entry)) i in
+        ⌜ Wrote (now (out .entry)) n (now (out .exit)) r (groupLimitAt (limit .limit) (limit .lowest) (limit .id) ps p) ⌝ }
 {
-    let answer = fit::value(fit, starts, i + 2, id);
+    let answer = fit::value(fit, facts, i + 2, limit.id);
     let Value::Given(value) = answer else {
         return n;
     };
-    if !item::is_fitted(fit, i) {
+    if !context::is_fitted_at(fit, i) {
         return n;
     }
-    let group = item::id_at(groups, i);
-    let used = count_in_group(catalogue, fit, groups, group, limit);
+    let group = context::group(catalogue, fit, facts, i);
+    let used = count_in_group(catalogue, fit, facts, group, limit.lowest);
     let allowed = floats::to_u32(value);
     entry::emit_when(
         out,
@@ -81,7 +115,7 @@ fn group_limit_at(
         allowed < used,
         Entry {
             target: Target::Item(i as u32),
-            rule: Rule::MaxGroup(group, limit, used, allowed),
+            rule: Rule::MaxGroup(group, limit.limit, used, allowed),
         },
     )
 }
@@ -89,17 +123,19 @@ fn group_limit_at(
 fn group_limit(
     catalogue: &[u8],
     fit: &[u8],
-    starts: &[u32; 259],
-    groups: &[i32; 256],
-    limit: u8,
-    name: u8,
+    facts: &[u32; 1797],
+    k: usize,
     out: &mut [u8],
     n: usize,
 ) -> usize
-    requires { ⌜ Ready (now catalogue) (now fit) (now starts) × (n ≤ 2000000) × Groups (now catalogue) (now fit) (now groups) ⌝ }
-    ensures { λ r. ⌜ Wrote (now (out .entry)) n (now (out .exit)) r (groupLimit (contextOf (now (catalogue .entry)) (now (fit .entry))) (pairsOf (now (catalogue .entry)) (now (fit .entry))) (limit, name)) × (r ≤ n + 256) ⌝ }
+    requires { ⌜ Gathered (now catalogue) (now fit) (now facts) × (k < 3) × Room n mostPairs ⌝ }
+    ensures { λ r.
+        let x = contextOf (now (catalogue .entry)) (now (fit .entry)) in
+        let ps = pairsOf (now (catalogue .entry)) (now (fit .entry)) in
+        ⌜ Wrote (now (out .entry)) n (now (out .exit)) r (groupLimit x ps (rowAt k)) × (r ≤ n + mostPairs) ⌝ }
 {
-    let answer = catalogue::attribute_id(catalogue, name as u32);
+    let row = GROUP_LIMITS[k];
+    let answer = catalogue::attribute_id(catalogue, row.name);
     let AttributeId::Known(id) = answer else {
         return n;
     };
@@ -107,7 +143,12 @@ fn group_limit(
     let mut m = n;
     let mut i = 0;
     while i < count {
-        m = group_limit_at(catalogue, fit, starts, groups, limit, id, i, out, m);
+        let limit = Limit {
+            limit: row.limit,
+            lowest: row.lowest,
+            id,
+        };
+        m = group_limit_at(catalogue, fit, facts, limit, i, out, m);
         i += 1;
     }
     m
@@ -116,20 +157,20 @@ fn group_limit(
 pub fn group_limits(
     catalogue: &[u8],
     fit: &[u8],
-    starts: &[u32; 259],
-    groups: &[i32; 256],
+    facts: &[u32; 1797],
     out: &mut [u8],
     n: usize,
 ) -> usize
-    requires { ⌜ Ready (now catalogue) (now fit) (now starts) × (n ≤ 1000000) × Groups (now catalogue) (now fit) (now groups) ⌝ }
-    ensures { λ r. ⌜ Wrote (now (out .entry)) n (now (out .exit)) r (Item.groupLimits (contextOf (now (catalogue .entry)) (now (fit .entry))) (pairsOf (now (catalogue .entry)) (now (fit .entry)))) × (r ≤ n + 768) ⌝ }
+    requires { ⌜ Gathered (now catalogue) (now fit) (now facts) × Room n (3 * mostPairs) ⌝ }
+    ensures { λ r.
+        let x = contextOf (now (catalogue .entry)) (now (fit .entry)) in
+        let ps = pairsOf (now (catalogue .entry)) (now (fit .entry)) in
+        ⌜ Wrote (now (out .entry)) n (now (out .exit)) r (groupLimits x ps) × (r ≤ n + 3 * mostPairs) ⌝ }
 {
     let mut m = n;
     let mut k = 0;
     while k < 3 {
-        let limit = GROUP_LIMITS[2 * k];
-        let name = GROUP_LIMITS[2 * k + 1];
-        m = group_limit(catalogue, fit, starts, groups, limit, name, out, m);
+        m = group_limit(catalogue, fit, facts, k, out, m);
         k += 1;
     }
     m
@@ -137,16 +178,16 @@ pub fn group_limits(
 
 fn of_type(fit: &[u8], id: i32, i: usize) -> bool
     requires { ⌜ Fit.Sound (now fit) × (i < pairCount (now fit)) ⌝ }
-    ensures { λ r. ⌜ ((k : List ℕ) → r ≡ ofType id (pairAt k (now (fit .entry)) i)) ⌝ }
+    ensures { λ r. ⌜ ((catalogue : List ℕ) → r ≡ ofType id (pairAt catalogue (now (fit .entry)) i)) ⌝ }
 {
-    let fitted = item::is_fitted(fit, i);
+    let fitted = context::is_fitted_at(fit, i);
     let alike = words::same_id(fit::item_type(fit, i), id);
     words::both(fitted, alike)
 }
 
 fn count_of_type(fit: &[u8], id: i32) -> u32
     requires { ⌜ Fit.Sound (now fit) ⌝ }
-    ensures { λ r. ⌜ ((k : List ℕ) → r ≡ countOf (ofType id) (pairsOf k (now (fit .entry)))) ⌝ }
+    ensures { λ r. ⌜ ((catalogue : List ℕ) → r ≡ countOf (ofType id) (pairsOf catalogue (now (fit .entry)))) ⌝ }
 {
     let count = fit::pair_count(fit);
     let mut used: u32 = 0;
@@ -159,22 +200,25 @@ fn count_of_type(fit: &[u8], id: i32) -> u32
 }
 
 fn type_limit_at(
-    catalogue: &[u8],
     fit: &[u8],
-    starts: &[u32; 259],
+    facts: &[u32; 1797],
     id: i32,
     i: usize,
     out: &mut [u8],
     n: usize,
 ) -> usize
-    requires { ⌜ Ready (now catalogue) (now fit) (now starts) × (i < pairCount (now fit)) × (n < 4294967296) ⌝ }
-    ensures { λ r. ⌜ Wrote (now (out .entry)) n (now (out .exit)) r (typeLimitAt id (pairsOf (now (catalogue .entry)) (now (fit .entry))) (pairAt (now (catalogue .entry)) (now (fit .entry)) i)) ⌝ }
+    requires { ⌜ Fit.Sound (now fit) × Starts (now fit) (now facts) × (i < pairCount (now fit)) × Room n 1 ⌝ }
+    ensures { λ r.
+        let before = now (out .entry) in
+        let after = now (out .exit) in
+        let f = now (fit .entry) in
+        ⌜ ((catalogue : List ℕ) → Wrote before n after r (typeLimitAt id (pairsOf catalogue f) (pairAt catalogue f i))) ⌝ }
 {
-    let answer = fit::value(fit, starts, i + 2, id);
+    let answer = fit::value(fit, facts, i + 2, id);
     let Value::Given(value) = answer else {
         return n;
     };
-    if !item::is_fitted(fit, i) {
+    if !context::is_fitted_at(fit, i) {
         return n;
     }
     let type_id = fit::item_type(fit, i);
@@ -194,14 +238,17 @@ fn type_limit_at(
 pub fn type_limit(
     catalogue: &[u8],
     fit: &[u8],
-    starts: &[u32; 259],
+    facts: &[u32; 1797],
     out: &mut [u8],
     n: usize,
 ) -> usize
-    requires { ⌜ Ready (now catalogue) (now fit) (now starts) × (n ≤ 1000000) ⌝ }
-    ensures { λ r. ⌜ Wrote (now (out .entry)) n (now (out .exit)) r (Item.typeLimit (contextOf (now (catalogue .entry)) (now (fit .entry))) (pairsOf (now (catalogue .entry)) (now (fit .entry)))) × (r ≤ n + 256) ⌝ }
+    requires { ⌜ Gathered (now catalogue) (now fit) (now facts) × Room n mostPairs ⌝ }
+    ensures { λ r.
+        let x = contextOf (now (catalogue .entry)) (now (fit .entry)) in
+        let ps = pairsOf (now (catalogue .entry)) (now (fit .entry)) in
+        ⌜ Wrote (now (out .entry)) n (now (out .exit)) r (typeLimit x ps) × (r ≤ n + mostPairs) ⌝ }
 {
-    let answer = catalogue::attribute_id(catalogue, 75);
+    let answer = catalogue::attribute_id(catalogue, names::MAX_TYPE_FITTED);
     let AttributeId::Known(id) = answer else {
         return n;
     };
@@ -209,7 +256,7 @@ pub fn type_limit(
     let mut m = n;
     let mut i = 0;
     while i < count {
-        m = type_limit_at(catalogue, fit, starts, id, i, out, m);
+        m = type_limit_at(fit, facts, id, i, out, m);
         i += 1;
     }
     m
@@ -218,14 +265,16 @@ pub fn type_limit(
 pub fn validate(
     catalogue: &[u8],
     fit: &[u8],
-    starts: &[u32; 259],
-    groups: &[i32; 256],
+    facts: &[u32; 1797],
     out: &mut [u8],
     n: usize,
 ) -> usize
-    requires { ⌜ Ready (now catalogue) (now fit) (now starts) × (n ≤ 900000) × Groups (now catalogue) (now fit) (now groups) ⌝ }
-    ensures { λ r. ⌜ Wrote (now (out .entry)) n (now (out .exit)) r (limitRules (contextOf (now (catalogue .entry)) (now (fit .entry))) (pairsOf (now (catalogue .entry)) (now (fit .entry)))) × (r ≤ n + 1024) ⌝ }
+    requires { ⌜ Gathered (now catalogue) (now fit) (now facts) × Room n (4 * mostPairs) ⌝ }
+    ensures { λ r.
+        let x = contextOf (now (catalogue .entry)) (now (fit .entry)) in
+        let ps = pairsOf (now (catalogue .entry)) (now (fit .entry)) in
+        ⌜ Wrote (now (out .entry)) n (now (out .exit)) r (limitRules x ps) × (r ≤ n + 4 * mostPairs) ⌝ }
 {
-    let m = group_limits(catalogue, fit, starts, groups, out, n);
-    type_limit(catalogue, fit, starts, out, m)
+    let m = group_limits(catalogue, fit, facts, out, n);
+    type_limit(catalogue, fit, facts, out, m)
 }

@@ -6,5 +6,6 @@ pub mod marks;
 pub mod names;
 pub mod refusals;
 pub mod resources;
+pub mod sizes;
 pub mod slots;
 pub mod states;

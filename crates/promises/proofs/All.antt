@@ -69,7 +69,8 @@ module _ {A : Type 0} {P : A → Type 0} where
     all-each-of (cons {x} q k) h = all-join (h x q) (all-each-of k h)
 
   -- what is made of the first that passes
-  pub all-find : {B : Type 0} (R : B → Type 0) (t : A → Bool) {l : List A} → All P l → (b : B) (f : A → B) → R b → ((x : A) → P x → R (f x)) → R (given (find t l) b f)
+  pub all-find : {B : Type 0} (R : B → Type 0) (t : A → Bool) {l : List A} → All P l → (b : B) (f : A → B) → R b → ((x : A) → P x → R (f x))
+      → R (given (find t l) b f)
   unfolding find given
   all-find R t nil b f n s = n
   all-find R t (cons {x} {l} p h) b f n s = go (t x) (all-find R t h b f n s)

@@ -29,7 +29,8 @@ list-answers catalogue fit buffer =
     (λ h. nltb→le (length buffer) (24 * length es) (h .1 .1 .1 .1 .1 .1 .1 .0))
 
 pub skill-answers : (catalogue fit : List ℕ) (result : ℕ) (buffer : List ℕ)
-    → Answers (skillConditions catalogue fit result buffer) (skillList (catalogueOf catalogue) (fitOf fit) result) buffer (outcome buffer (skillCall catalogue fit result buffer))
+    → Answers (skillConditions catalogue fit result buffer) (skillList (catalogueOf catalogue) (fitOf fit) result) buffer
+    (outcome buffer (skillCall catalogue fit result buffer))
 unfolding skillCall catalogueRefusals fitRefusals tooShort
 skill-answers catalogue fit result buffer =
     let es = skillList (catalogueOf catalogue) (fitOf fit) result in
@@ -48,7 +49,8 @@ list-room catalogue fit buffer room h =
     let t = ltb→lt (length buffer) (24 * length es) (k .1) in
     omega arith
 
-pub skill-room : (catalogue fit : List ℕ) (result : ℕ) (buffer : List ℕ) → 12288 ≤ length buffer → refusal (outcome buffer (skillCall catalogue fit result buffer)) ≡ 10 → ⊥
+pub skill-room : (catalogue fit : List ℕ) (result : ℕ) (buffer : List ℕ) → 12288 ≤ length buffer
+    → refusal (outcome buffer (skillCall catalogue fit result buffer)) ≡ 10 → ⊥
 unfolding tooShort catalogueRefusals fitRefusals
 skill-room catalogue fit result buffer room h =
     let es = skillList (catalogueOf catalogue) (fitOf fit) result in

@@ -15,7 +15,7 @@ use Rattle.fit.specs.Lookups.{trained}
 use Rattle.entry.specs.declared.Entry.{Entry}
 use Rattle.entry.specs.declared.Rule.the-variants.{NotAHull}
 use Rattle.entry.specs.Entries.{onShip}
-use Rattle.skill.specs.Skill.{skillList}
+use Rattle.skill.specs.Skill.{entryOf, skillList}
 use Rattle.fitcheck.specs.Calls.{listCall, skillCall}
 use Rattle.promises.specs.Answers.{Outcome, outcome, refusal, Conditions, Answers}
 use Rattle.promises.specs.Compare.{Bytes, Grown, AddedVolumes, Stays, Kept}
@@ -106,7 +106,7 @@ module _ (old new : Fit) (g : Grown old new) where
   same-result n h = ap (λ (l : List Result). getElem? l n) all-results ∙ get-append (allResults old) _ n (omega arith)
 
   skills-grow : (c : Catalogue) (n : ℕ) → n ≤ length (old .results) + 1 → Within (skillList c old n) (skillList c new n)
-  unfolding skillList
+  unfolding skillList entryOf
   skills-grow c n h = rw (same-result n h, g .skills) (placed-bind _ λ r. placed-each _ λ w.
       let t = trained-lower (old .skills) (old .levels) (new .levels) (g .levels) (w .0) in
       placed-when _ _ _ _ (λ b. lt→ltb _ _ (le-trans (suc-le-suc t) (ltb→lt _ _ b))) (λ _. record { target = refl; rule = Rises.skill t }))

@@ -3,7 +3,8 @@ use mathlib.Core.Path.{refl, sym, ap₂, _∙_}
 use mathlib.Core.List.{List, _++_, map-append}
 use lib.Ieee.{ofInt, toUnsigned, toSigned, ofBits, lt, add, mul, round, odd, units, size, span, climb, sum, ofFields, eq, ne, toBits}
 use lib.Count.{trailingZeros}
-use Rattle.words.specs.Words.{_>>=_, each, when, whenAny, whenAbove, unless, only, countOf, sumOf, anyOf, find, isEmpty, inOrder, given, tableFrom, firstOf, same, contains}
+use Rattle.words.specs.Words.{_>>=_, each, when, whenAny, whenAbove, unless, only, countOf, sumOf, anyOf, find, isEmpty, inOrder, given}
+use Rattle.words.specs.Words.{tableFrom, firstOf, same, contains}
 use Rattle.image.specs.Bytes.{u16At, u32At, u64At, signed32, bits32, i32At}
 use Rattle.floats.specs.Floats.{f32At, f64At, f64Bits, abs, over}
 use Rattle.catalogue.specs.Catalogue.{catalogueOf}
@@ -14,22 +15,98 @@ use Rattle.fit.specs.Refusals as Fit
 use Rattle.fit.specs.Lookups.{value, amount, trained}
 use Rattle.entry.specs.Entries.{fields, entryBytes, written}
 use Rattle.context.specs.Context.{pairsFrom, pairs, context, isFitted, isIn, isFighterSlot, isOnHull, isOther, isModuleCategory}
-use Rattle.resource.specs.Resource.{resource, isLaunched, launched, cargoVolume, cargoUsed, loads, launchedDrones, cargo}
-use Rattle.slot.specs.Slot.{takesHardpoint, slots, racks, hardpoints, slotNumberName, wrongSlot, notAModule, notADrone, notAFighter, notAnImplant, wrongSlotIndex, holdsOne, slotTaken, subsystemTaken, slotChecks}
-use Rattle.item.specs.Item.{listed, isStandup, inGroup, ofType, isStructure, rigSize, shipRestricted, capitalItem, standup, groupLimits, typeLimit}
-use Rattle.validate.specs.Kind.{isHull, isMode, isSkill, notAMode, notASkill}
+use Rattle.resource.specs.Resource.{resource, isLaunched, launched, cargoVolume, cargoUsed, loads, launchedDrones, cargo, resources}
+use Rattle.racks.specs.Racks.{takesHardpoint, slots, racks, hardpoints}
+use Rattle.slot.specs.Slot.{slotNumberName, wrongSlot, notAModule, notADrone, notAFighter, notAnImplant, wrongSlotIndex, holdsOne}
+use Rattle.slot.specs.Slot.{sharesSlot, sharesPart, slotTaken, subsystemTaken, slotChecks}
+use Rattle.item.specs.Item.{rigSizeAt, rigSize, listed, isRestricted, shipRestrictedAt, shipRestricted, isStructure, isCapitalItem}
+use Rattle.item.specs.Item.{capitalItemAt, capitalItem, isStandup, standupAt, standup}
+use Rattle.limits.specs.Limits.{inGroup, groupLimitAt, groupLimit, groupLimits, ofType, typeLimitAt, typeLimit}
+use Rattle.validate.specs.Kind.{isHullKind, isHull, isMode, isSkill, notAMode, notASkill}
 use Rattle.validate.specs.Validate.{hullRules, listWith, listOf}
-use Rattle.skill.specs.Skill.{demands, ofResult, ofSkill, note, noted, skillAt, met, walkTo, tooMany, skillList}
+use Rattle.skill.specs.Skill.{required, demandOf, demands, ofResult, ofSkill, note, noted, skillAt, met, walkWithin, tooMany, entryOf, skillList}
 use Rattle.fitcheck.specs.Calls.{answerBy, answer, tooManyDrones, tooShort, listCall, skillCall, buffered, returned}
 use Rattle.fitcheck.specs.Hall.{fitStart, fits, badInput, fitRefused, isClear, isFaulted, hallBy, hallCall, hallReturned}
 use Rattle.promises.specs.Cases.{known, outcomeOf, Case}
-use Rattle.promises.specs.RuleCases.{KINDS, RESOURCES, SLOTS, ITEMS, ORDER}
+use Rattle.promises.specs.RuleCases.{KINDS, RESOURCES, SLOTS, ITEMS, CROWDS, ORDER}
 use Rattle.promises.specs.CallCases.{ENTRIES, CALLS}
 use Rattle.promises.specs.Edges.{STARRED, SKILLS, EDGES, Agree}
 
--- all that the definitions compute with: whoever unfolds `opened` unfolds them
+-- ---- all that the definitions compute with: whoever unfolds `opened` unfolds them
+open-floats : Unit {0}
+unfolding ofInt toUnsigned toSigned ofBits lt add mul round odd units size span climb sum ofFields eq ne toBits trailingZeros f64Bits abs over
+open-floats = tt
+
+open-words : Unit {0}
+unfolding _>>=_ each when whenAny whenAbove unless only countOf sumOf anyOf find isEmpty inOrder given tableFrom firstOf same contains
+open-words = tt
+
+open-catalogue : Unit {0}
+unfolding catalogueOf nameId typeOf groupOf categoryOf volumeOf effectMark marks lastMark rackOf hardpointOf baseValue
+open-catalogue = tt
+
+open-fit : Unit {0}
+unfolding fitOf modeOf resultAt startAt value amount trained pairsFrom pairs context
+open-fit = tt
+
+open-bytes : Unit {0}
+unfolding u16At u32At u64At signed32 bits32 i32At f32At f64At fields entryBytes written
+open-bytes = tt
+
+open-bad-fit : Unit {0}
+unfolding Fit.badSize Fit.badOrder Fit.badItem Fit.badResult Fit.badField
+open-bad-fit = tt
+
+open-refusals : Unit {0}
+unfolding Catalogue.badLength Catalogue.badOrder Catalogue.badField Catalogue.catalogueRefusals Fit.fitRefusals open-bad-fit
+open-refusals = tt
+
+open-kinds : Unit {0}
+unfolding isHullKind isHull isMode isSkill notAMode notASkill hullRules listWith listOf
+open-kinds = tt
+
+open-resources : Unit {0}
+unfolding resource isLaunched launched cargoVolume cargoUsed loads launchedDrones cargo resources
+open-resources = tt
+
+open-slots : Unit {0}
+unfolding isFitted isIn isFighterSlot isOnHull isOther isModuleCategory takesHardpoint slots racks hardpoints slotNumberName
+open-slots = tt
+
+open-slot-checks : Unit {0}
+unfolding wrongSlot notAModule notADrone notAFighter notAnImplant wrongSlotIndex holdsOne sharesSlot sharesPart slotTaken subsystemTaken slotChecks
+open-slot-checks = tt
+
+open-items : Unit {0}
+unfolding rigSizeAt rigSize listed isRestricted shipRestrictedAt shipRestricted isStructure isCapitalItem capitalItemAt capitalItem
+open-items = tt
+
+open-standup : Unit {0}
+unfolding isStandup standupAt standup
+open-standup = tt
+
+open-limits : Unit {0}
+unfolding inGroup groupLimitAt groupLimit groupLimits ofType typeLimitAt typeLimit
+open-limits = tt
+
+open-skills : Unit {0}
+unfolding required demandOf demands ofResult ofSkill note noted skillAt met walkWithin tooMany entryOf skillList
+open-skills = tt
+
+open-calls : Unit {0}
+unfolding answerBy answer tooManyDrones tooShort listCall skillCall buffered returned
+open-calls = tt
+
+open-hall : Unit {0}
+unfolding fitStart fits badInput fitRefused isClear isFaulted hallBy hallCall hallReturned
+open-hall = tt
+
+open-rules : Unit {0}
+unfolding open-kinds open-resources open-slots open-slot-checks open-items open-standup open-limits open-skills
+open-rules = tt
+
 opened : Unit {0}
-unfolding known outcomeOf ofInt toUnsigned toSigned ofBits lt add mul round odd units size span climb sum ofFields eq ne toBits trailingZeros _>>=_ each when whenAny whenAbove unless only countOf sumOf anyOf find isEmpty inOrder given tableFrom firstOf same contains u16At u32At u64At signed32 bits32 i32At f32At f64At f64Bits abs over catalogueOf Catalogue.badLength Catalogue.badOrder Catalogue.badField Catalogue.catalogueRefusals nameId typeOf groupOf categoryOf volumeOf effectMark marks lastMark rackOf hardpointOf baseValue modeOf resultAt startAt fitOf Fit.badSize Fit.badOrder Fit.badItem Fit.badResult Fit.badField Fit.fitRefusals value amount trained fields entryBytes written pairsFrom pairs context isFitted isIn isFighterSlot isOnHull isOther isModuleCategory resource isLaunched launched cargoVolume cargoUsed loads launchedDrones cargo takesHardpoint slots racks hardpoints slotNumberName wrongSlot notAModule notADrone notAFighter notAnImplant wrongSlotIndex holdsOne slotTaken subsystemTaken slotChecks listed isStandup inGroup ofType isStructure rigSize shipRestricted capitalItem standup groupLimits typeLimit isHull isMode isSkill notAMode notASkill hullRules listWith listOf demands ofResult ofSkill note noted skillAt met walkTo tooMany skillList answerBy answer tooManyDrones tooShort listCall skillCall buffered returned fitStart fits badInput fitRefused isClear isFaulted hallBy hallCall hallReturned
+unfolding known outcomeOf open-floats open-words open-catalogue open-fit open-bytes open-refusals open-rules open-calls open-hall
 opened = tt
 
 -- ---- part by part, so that an outcome that fails is found
@@ -57,6 +134,10 @@ agree-items : Agree ITEMS
 unfolding opened
 agree-items = refl
 
+agree-crowds : Agree CROWDS
+unfolding opened
+agree-crowds = refl
+
 agree-order : Agree ORDER
 unfolding opened
 agree-order = refl
@@ -79,6 +160,7 @@ edges =
     let e3 = join (STARRED ++ SKILLS ++ KINDS) RESOURCES e2 agree-resources in
     let e4 = join (STARRED ++ SKILLS ++ KINDS ++ RESOURCES) SLOTS e3 agree-slots in
     let e5 = join (STARRED ++ SKILLS ++ KINDS ++ RESOURCES ++ SLOTS) ITEMS e4 agree-items in
-    let e6 = join (STARRED ++ SKILLS ++ KINDS ++ RESOURCES ++ SLOTS ++ ITEMS) ORDER e5 agree-order in
-    let e7 = join (STARRED ++ SKILLS ++ KINDS ++ RESOURCES ++ SLOTS ++ ITEMS ++ ORDER) ENTRIES e6 agree-entries in
-    join (STARRED ++ SKILLS ++ KINDS ++ RESOURCES ++ SLOTS ++ ITEMS ++ ORDER ++ ENTRIES) CALLS e7 agree-calls
+    let e6 = join (STARRED ++ SKILLS ++ KINDS ++ RESOURCES ++ SLOTS ++ ITEMS) CROWDS e5 agree-crowds in
+    let e7 = join (STARRED ++ SKILLS ++ KINDS ++ RESOURCES ++ SLOTS ++ ITEMS ++ CROWDS) ORDER e6 agree-order in
+    let e8 = join (STARRED ++ SKILLS ++ KINDS ++ RESOURCES ++ SLOTS ++ ITEMS ++ CROWDS ++ ORDER) ENTRIES e7 agree-entries in
+    join (STARRED ++ SKILLS ++ KINDS ++ RESOURCES ++ SLOTS ++ ITEMS ++ CROWDS ++ ORDER ++ ENTRIES) CALLS e8 agree-calls

@@ -17,7 +17,8 @@ unfolding each
 each-length f k h [] = omega arith
 each-length f k h (x ∷ l) = length-append (f x) (each l f) ∙ (let a = h x in let b = each-length f k h l in omega arith)
 
-pub entry-at : (d : Entry) (es : List Entry) (rest : List ℕ) (i : ℕ) → i < length es → take 24 (drop (24 * i) (each es entryBytes ++ rest)) ≡ entryBytes (getD es i d)
+pub entry-at : (d : Entry) (es : List Entry) (rest : List ℕ) (i : ℕ) → i < length es
+    → take 24 (drop (24 * i) (each es entryBytes ++ rest)) ≡ entryBytes (getD es i d)
 unfolding each
 entry-at d [] rest i h = absurd (not-suc-le-zero h)
 entry-at d (e ∷ es) rest zero h =

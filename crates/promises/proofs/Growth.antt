@@ -11,6 +11,7 @@ use lib.ListN.{length, take, drop, take-append-drop}
 use lib.Ieee.{Float, le, fits}
 use Rattle.words.specs.Words.{each, whenAny, whenAbove, only, given}
 use Rattle.words.proofs.Steps.{only-append}
+use Rattle.numbers.specs.Slots as Slots
 use Rattle.floats.specs.Floats.{zeroF, over, isVolume}
 use Rattle.floats.proofs.Loads.{over-mono, total-grows}
 use Rattle.floats.proofs.Products.{ofNat-mono, term-plus, volume-zero}
@@ -18,18 +19,20 @@ use Rattle.catalogue.specs.Catalogue.{Id, TypeData, Catalogue}
 use Rattle.catalogue.specs.Lookups.{typeOf, volumeOf}
 use Rattle.fit.specs.Fit.{Result, Frame, Fit, modeOf}
 use Rattle.fit.specs.Fit as Fit
-use Rattle.fit.specs.Refusals.{cargoHold}
 use Rattle.entry.specs.declared.Entry.{Entry}
 use Rattle.entry.specs.declared.Rule.the-variants.{NotAHull}
 use Rattle.entry.specs.Entries.{onShip}
 use Rattle.context.specs.Context.{Pair, Context, pairOf, pairsFrom, pairs, context, isIn}
 use Rattle.validate.specs.Kind.{isHull, notAMode, notASkill}
-use Rattle.resource.specs.Resource.{resource, launched, cargoVolume, cargoUsed, loads, launchedDrones, cargo}
-use Rattle.slot.specs.Slot.{RACKS, HARDPOINTS, slots, racks, hardpoints, wrongSlot, notAModule, notADrone, notAFighter, notAnImplant, wrongSlotIndex, slotTaken, subsystemTaken, slotChecks}
-use Rattle.item.specs.Item.{GROUP-LIMITS, rigSize, shipRestricted, capitalItem, standup, groupLimits, typeLimit}
+use Rattle.resource.specs.Resource.{resource, launched, cargoVolume, cargoUsed, loads, launchedDrones, cargo, resources}
+use Rattle.racks.specs.Racks.{RACKS, HARDPOINTS, slots, racks, hardpoints}
+use Rattle.slot.specs.Slot.{wrongSlot, notAModule, notADrone, notAFighter, notAnImplant, wrongSlotIndex, slotTaken, subsystemTaken, slotChecks}
+use Rattle.item.specs.Item.{rigSize, shipRestricted, capitalItem, standup}
+use Rattle.limits.specs.Limits.{GROUP-LIMITS, groupLimitAt, groupLimit, groupLimits, typeLimitAt, typeLimit}
 use Rattle.validate.specs.Validate.{hullRules, listWith, listOf}
 use Rattle.promises.specs.Compare.{Grown, volumeAllowed, AddedVolumes, addedItems}
-use Rattle.promises.proofs.Placed.{Into, into-append, only-into, count-into, sum-into, any-into, Placed, placed-join, placed-refl, placed-when, placed-unless, placed-bind, placed-each, placed-into, and-mono, ltb-mono}
+use Rattle.promises.proofs.Placed.{Into, into-append, only-into, count-into, sum-into, any-into, Placed, placed-join, placed-refl}
+use Rattle.promises.proofs.Placed.{placed-when, placed-unless, placed-bind, placed-each, placed-into, and-mono, ltb-mono}
 use Rattle.promises.proofs.Rises.{Rises, Covers}
 
 abbrev pub Within : List Entry → List Entry → Type 0
@@ -47,10 +50,10 @@ any-more : (b : Bool) (t : Pair → Bool) {ps qs : List Pair} → Into ps qs →
 unfolding whenAny
 any-more b t s e = placed-when _ _ e e (and-mono b _ _ (any-into t s)) (λ _. covers-refl e)
 
--- a number above its limit
-above : (b : Bool) (limit : ℕ) {n m : ℕ} (e : ℕ → Entry) → n ≤ m → Covers (e n) (e m) → Within (whenAbove b limit n e) (whenAbove b limit m e)
+-- more used than allowed
+above : (b : Bool) {n m : ℕ} (allowed : ℕ) (e : ℕ → Entry) → n ≤ m → Covers (e n) (e m) → Within (whenAbove b n allowed e) (whenAbove b m allowed e)
 unfolding whenAbove
-above b limit {n} {m} e h k = placed-when _ _ (e n) (e m) (and-mono b _ _ (ltb-mono limit n m h)) (λ _. k)
+above b {n} {m} allowed e h k = placed-when _ _ (e n) (e m) (and-mono b _ _ (ltb-mono allowed n m h)) (λ _. k)
 
 module _ {ps qs : List Pair} (s : Into ps qs) where
   -- for each pair a list that does not look at the other pairs
@@ -106,12 +109,12 @@ module _ {ps qs : List Pair} (s : Into ps qs) where
     standup-grows = each-alone _
 
     groupLimits-grow : Within (groupLimits x ps) (groupLimits x qs)
-    unfolding groupLimits
+    unfolding groupLimits groupLimit groupLimitAt
     groupLimits-grow = placed-each GROUP-LIMITS λ g. placed-bind _ λ id. placed-into s λ p. placed-bind _ λ allowed.
         let h = count-into _ s in above _ _ _ h (record { target = refl; rule = Rises.maxGroup h })
 
     typeLimit-grows : Within (typeLimit x ps) (typeLimit x qs)
-    unfolding typeLimit
+    unfolding typeLimit typeLimitAt
     typeLimit-grows = placed-bind _ λ id. placed-into s λ p. placed-bind _ λ allowed.
         let h = count-into _ s in above _ _ _ h (record { target = refl; rule = Rises.maxType h })
 
@@ -129,42 +132,36 @@ unfolding only
 only-mem t [] p m = absurd (List·Memᴰ·not-nil m)
 only-mem t (x ∷ l) p m = go (t x) refl (only-mem t l p) m
   where
-    go : (b : Bool) → t x ≡ b → (List·Memᴰ p (only t l) → T (t p) × List·Memᴰ p l) → List·Memᴰ p (cond b (x ∷ only t l) (only t l)) → T (t p) × List·Memᴰ p (x ∷ l)
+    go : (b : Bool) → t x ≡ b → (List·Memᴰ p (only t l) → T (t p) × List·Memᴰ p l) → List·Memᴰ p (cond b (x ∷ only t l) (only t l))
+        → T (t p) × List·Memᴰ p (x ∷ l)
     go true e f (List·Memᴰ·head h) = (subst T (sym (ap t h ∙ e)) tt, List·Memᴰ·head h)
     go true e f (List·Memᴰ·tail n) = (f n .0, List·Memᴰ·tail (f n .1))
     go false e f n = (f n .0, List·Memᴰ·tail (f n .1))
 
 -- ---- pairs behind the others, whose cargo has volumes that are not below zero
-module _ (ps added : List Pair) (volumes : (p : Pair) → List·Memᴰ p added → T (isIn cargoHold p) → (p .quantity < 2 ^ 32) × T (isVolume (p .volume))) where
+module _ (ps added : List Pair) (volumes : (p : Pair) → List·Memᴰ p added → T (isIn Slots.cargo p) → (p .quantity < 2 ^ 32) × T (isVolume (p .volume))) where
   cargo-grows : (x : Context) → Within (cargo x ps) (cargo x (ps ++ added))
   unfolding cargo cargoUsed cargoVolume
   cargo-grows x = placed-bind _ λ capacity.
       resource-grows 11 _ _ _ λ o.
-      rw (only-append (isIn cargoHold) ps added)
-      (total-grows cargoVolume zeroF _ (only (isIn cargoHold) ps) (only (isIn cargoHold) added) (unfold fits in tt)
+      rw (only-append (isIn Slots.cargo) ps added)
+      (total-grows cargoVolume zeroF _ (only (isIn Slots.cargo) ps) (only (isIn Slots.cargo) added) (unfold fits in tt)
       (λ p m.
-      let h = only-mem (isIn cargoHold) added p m in
+      let h = only-mem (isIn Slots.cargo) added p m in
       let v = volumes p (h .1) (h .0) in
       term-plus (p .volume) (p .quantity) (v .1) (v .0))
       o)
 
   hullRules-grow : (x : Context) → Within (hullRules x ps) (hullRules x (ps ++ added))
-  unfolding hullRules
+  unfolding hullRules resources
   hullRules-grow x =
       let s = into-append ps added in
-      placed-join (placed-join (placed-join (placed-join (placed-join (placed-join (placed-join (placed-join (placed-join (placed-join (placed-join
-      (same-list (loads x))
-      (drones-grow x s))
-      (cargo-grows x))
-      (racks-grow s x))
-      (hardpoints-grow s x))
+      placed-join (placed-join (placed-join (placed-join
+      (placed-join (placed-join (same-list (loads x)) (drones-grow x s)) (cargo-grows x))
+      (placed-join (racks-grow s x) (hardpoints-grow s x)))
       (slotChecks-grow s x))
-      (rigSize-grows s x))
-      (shipRestricted-grows s x))
-      (capitalItem-grows s x))
-      (standup-grows s x))
-      (groupLimits-grow s x))
-      (typeLimit-grows s x)
+      (placed-join (placed-join (placed-join (rigSize-grows s x) (shipRestricted-grows s x)) (capitalItem-grows s x)) (standup-grows s x)))
+      (placed-join (groupLimits-grow s x) (typeLimit-grows s x))
 
   listWith-grows : (c : Catalogue) (k : Frame) (ids : List Id) → Within (listWith c k ids ps) (listWith c k ids (ps ++ added))
   unfolding listWith
@@ -193,7 +190,8 @@ pairs-items : (c : Catalogue) (n : ℕ) (is : List Fit.Item) (rs : List Result) 
 unfolding pairsFrom
 pairs-items c n [] rs p m = absurd (List·Memᴰ·not-nil m)
 pairs-items c n (i ∷ is) [] p m = absurd (List·Memᴰ·not-nil m)
-pairs-items c n (i ∷ is) (r ∷ rs) p (List·Memᴰ·head e) = (i, List·Memᴰ·head refl, ap (λ (q : Pair). q .slot) e, ap (λ (q : Pair). q .volume) e, ap (λ (q : Pair). q .quantity) e)
+pairs-items c n (i ∷ is) (r ∷ rs) p (List·Memᴰ·head e) =
+    (i, List·Memᴰ·head refl, ap (λ (q : Pair). q .slot) e, ap (λ (q : Pair). q .volume) e, ap (λ (q : Pair). q .quantity) e)
 pairs-items c n (i ∷ is) (r ∷ rs) p (List·Memᴰ·tail m) = let h = pairs-items c (suc n) is rs p m in (h .0, List·Memᴰ·tail (h .1), h .2, h .3, h .4)
 
 -- what the catalogue allows is a volume; where it says nothing, that is 0
@@ -205,7 +203,8 @@ allowed-volume c t h = go (typeOf c t) h
     flag true v k = volume-zero
     flag false v k = k
 
-    go : (o : Option TypeData) → T (given o true λ x. eqb (x .volumeFlag) 0 || isVolume (x .volume)) → T (isVolume (given o zeroF λ x. cond (eqb (x .volumeFlag) 0) zeroF (x .volume)))
+    go : (o : Option TypeData) → T (given o true λ x. eqb (x .volumeFlag) 0 || isVolume (x .volume))
+        → T (isVolume (given o zeroF λ x. cond (eqb (x .volumeFlag) 0) zeroF (x .volume)))
     go none k = volume-zero
     go (some x) k = flag (eqb (x .volumeFlag) 0) (x .volume) k
 
@@ -224,7 +223,7 @@ module _ (c : Catalogue) (old new : Fit) (g : Grown old new) (v : AddedVolumes c
       ap₂ (pairsFrom c 0) (begins (old .items) (new .items) (g .items)) (begins (old .results) (new .results) (g .results))
       ∙ pairs-append c 0 (old .items) (addedItems old new) (old .results) (drop (length (old .results)) (new .results)) (g .even)
 
-  volumes : (p : Pair) → List·Memᴰ p added → T (isIn cargoHold p) → (p .quantity < 2 ^ 32) × T (isVolume (p .volume))
+  volumes : (p : Pair) → List·Memᴰ p added → T (isIn Slots.cargo p) → (p .quantity < 2 ^ 32) × T (isVolume (p .volume))
   unfolding added isIn
   volumes p m t =
       let h = pairs-items c (0 + length (old .items)) (addedItems old new) (drop (length (old .results)) (new .results)) p m in (

@@ -12,15 +12,19 @@ use Rattle.words.proofs.Lengths
 use Rattle.words.proofs.Tables.{length-table}
 use Rattle.image.specs.Bytes.{i32At}
 use Rattle.catalogue.specs.Catalogue.{Id, Catalogue}
-use Rattle.fit.specs.Fit.{Item, Result, Frame, Fit, modeOf, resultAt, allResults, fitOf, skillCount, itemCount, resultCount, attributeCount, sizeOf, skillsAt, itemAt}
+use Rattle.fit.specs.Fit.{Item, Result, Frame, Fit, modeOf, resultAt, allResults, fitOf, skillCount, itemCount, resultCount, attributeCount}
+use Rattle.fit.specs.Fit.{sizeOf, skillsAt, itemAt}
 use Rattle.fit.specs.Refusals.{badSize}
 use Rattle.context.specs.Context.{Pair, Context, pairsFrom, pairs, context}
+use Rattle.entry.specs.declared.Entry.{Entry}
 use Rattle.validate.specs.Kind.{isHull, notAMode, notASkill}
-use Rattle.resource.specs.Resource.{LOADS, resource, loads, launchedDrones, cargo}
-use Rattle.slot.specs.Slot.{RACKS, HARDPOINTS, slots, racks, hardpoints, wrongSlot, notAModule, notADrone, notAFighter, notAnImplant, wrongSlotIndex, slotTaken, subsystemTaken, slotChecks}
-use Rattle.item.specs.Item.{GROUP-LIMITS, isStructure, rigSize, shipRestricted, capitalItem, standup, groupLimits, typeLimit}
+use Rattle.resource.specs.Resource.{LOADS, resource, loads, launchedDrones, cargo, resources}
+use Rattle.racks.specs.Racks.{RACKS, HARDPOINTS, slots, racks, hardpoints}
+use Rattle.slot.specs.Slot.{wrongSlot, notAModule, notADrone, notAFighter, notAnImplant, wrongSlotIndex, slotTaken, subsystemTaken, slotChecks}
+use Rattle.item.specs.Item.{rigSizeAt, rigSize, shipRestrictedAt, shipRestricted, isStructure, capitalItemAt, capitalItem, standupAt, standup}
+use Rattle.limits.specs.Limits.{GROUP-LIMITS, groupLimitAt, groupLimit, groupLimits, typeLimitAt, typeLimit}
 use Rattle.validate.specs.Validate.{hullRules, listWith, listOf}
-use Rattle.skill.specs.Skill.{tooMany, walkTo, skillList}
+use Rattle.skill.specs.Skill.{tooMany, walkWithin, entryOf, skillList}
 
 -- ---- a list of at most n elements
 pub record Few {A : Type 0} (n : ℕ) (l : List A) : Type 0 where
@@ -39,8 +43,8 @@ module _ {A : Type 0} where
   few-any : {B : Type 0} (b : Bool) (t : B → Bool) (l : List B) (e : A) → Few 1 (whenAny b t l e)
   few-any b t l e = record { most = Lengths.few-any b t l e }
 
-  few-above : (b : Bool) (limit n : ℕ) (e : ℕ → A) → Few 1 (whenAbove b limit n e)
-  few-above b limit n e = record { most = Lengths.few-above b limit n e }
+  few-above : (b : Bool) (n allowed : ℕ) (e : ℕ → A) → Few 1 (whenAbove b n allowed e)
+  few-above b n allowed e = record { most = Lengths.few-above b n allowed e }
 
   few-unless : (b : Bool) {n : ℕ} {l : List A} → Few n l → Few n (unless b l)
   few-unless b {n} {l} h = record { most = le-trans (Lengths.few-unless b l) (h .most) }
@@ -53,7 +57,8 @@ module _ {A : Type 0} where
     few-bind : (o : Option I) {n : ℕ} {f : I → List A} → ((x : I) → Few n (f x)) → Few n (_>>=_ o f)
     few-bind o {n} {f} h = record { most = Lengths.few-bind f n (λ x. h x .most) o }
 
-    few-given : (o : Option I) (t : I → Bool) → T (not (given o false t)) → {n : ℕ} {f : I → List A} → ((x : I) → T (not (t x)) → Few n (f x)) → Few n (_>>=_ o f)
+    few-given : (o : Option I) (t : I → Bool) → T (not (given o false t)) → {n : ℕ} {f : I → List A} → ((x : I) → T (not (t x)) → Few n (f x))
+        → Few n (_>>=_ o f)
     unfolding _>>=_ given
     few-given none t k h = record { most = zero-le }
     few-given (some x) t k h = h x k
@@ -84,25 +89,55 @@ module _ (x : Context) (ps : List Pair) where
       (few-bind _ λ name. few-bind _ λ id. few-bind _ λ v. few-when _ _))
       (few-bind _ λ id. few-bind _ λ part. few-any _ _ ps _)
 
-  few-rules : Few (20 + 16 * length ps) (hullRules x ps)
-  unfolding hullRules loads launchedDrones cargo racks hardpoints rigSize shipRestricted capitalItem standup groupLimits typeLimit
-  few-rules =
-      let n = length ps in
-      let h : Few (10 + 1 + 1 + 6 + 2 + 8 * n + 1 * n + 1 * n + 1 * n + 1 * n + 1 * n * 3 + 1 * n) (hullRules x ps) =
-      few-join (few-join (few-join (few-join (few-join (few-join (few-join (few-join (few-join (few-join (few-join
+  few-resources : Few 12 (resources x ps)
+  unfolding resources loads launchedDrones cargo
+  few-resources =
+      few-join (few-join
       (few-each LOADS λ l. few-bind _ λ load. few-bind _ λ output. few-resource (l .0) _ _)
       (few-bind _ λ limit. few-resource 5 _ _))
-      (few-bind _ λ capacity. few-resource 11 _ _))
-      (few-each RACKS λ r. few-slots (r .0) (r .1) _))
-      (few-each HARDPOINTS λ r. few-slots (r .0) (r .1) _))
-      (few-each ps few-checks))
-      (few-bind _ λ id. few-bind _ λ ship. few-each ps λ p. few-bind _ λ size. few-when _ _))
-      (few-each ps λ p. few-when _ _))
-      (few-bind _ λ volume. few-bind _ λ capital. few-unless _ (few-each ps λ p. few-when _ _)))
-      (few-each ps λ p. few-unless _ (few-cond (isStructure x) (few-when _ _) (few-when _ _))))
-      (few-each GROUP-LIMITS λ g. few-bind _ λ id. few-each ps λ p. few-bind _ λ allowed. few-above _ _ _ _))
-      (few-bind _ λ id. few-each ps λ p. few-bind _ λ allowed. few-above _ _ _ _) in
-      record { most = (let m : length (hullRules x ps) ≤ 10 + 1 + 1 + 6 + 2 + 8 * n + 1 * n + 1 * n + 1 * n + 1 * n + 1 * n * 3 + 1 * n = h .most in omega arith) }
+      (few-bind _ λ capacity. few-resource 11 _ _)
+
+  few-racks : Few 8 (racks x ps ++ hardpoints x ps)
+  unfolding racks hardpoints
+  few-racks = few-join (few-each RACKS λ r. few-slots (r .0) (r .1) _) (few-each HARDPOINTS λ r. few-slots (r .0) (r .1) _)
+
+  -- one entry a pair
+  abbrev Pairwise : List Entry → Type 0
+  Pairwise = Few (1 * length ps)
+
+  few-rigs : Pairwise (rigSize x ps)
+  unfolding rigSize rigSizeAt
+  few-rigs = few-bind _ λ id. few-bind _ λ ship. few-each ps λ p. few-bind _ λ size. few-when _ _
+
+  few-restricted : Pairwise (shipRestricted x ps)
+  unfolding shipRestricted shipRestrictedAt
+  few-restricted = few-each ps λ p. few-when _ _
+
+  few-capital : Pairwise (capitalItem x ps)
+  unfolding capitalItem capitalItemAt
+  few-capital = few-bind _ λ volume. few-bind _ λ capital. few-unless _ (few-each ps λ p. few-when _ _)
+
+  few-standup : Pairwise (standup x ps)
+  unfolding standup standupAt
+  few-standup = few-each ps λ p. few-cond (isStructure x) (few-when _ _) (few-when _ _)
+
+  few-groups : Few (1 * length ps * 3) (groupLimits x ps)
+  unfolding groupLimits groupLimit groupLimitAt
+  few-groups = few-each GROUP-LIMITS λ g. few-bind _ λ id. few-each ps λ p. few-bind _ λ allowed. few-above _ _ _ _
+
+  few-types : Pairwise (typeLimit x ps)
+  unfolding typeLimit typeLimitAt
+  few-types = few-bind _ λ id. few-each ps λ p. few-bind _ λ allowed. few-above _ _ _ _
+
+  few-rules : Few (20 + 16 * length ps) (hullRules x ps)
+  unfolding hullRules
+  few-rules =
+      let n = length ps in
+      let items = few-join (few-join (few-join few-rigs few-restricted) few-capital) few-standup in
+      let h : Few (12 + 8 + 8 * n + (1 * n + 1 * n + 1 * n + 1 * n) + (1 * n * 3 + 1 * n)) (hullRules x ps) =
+      few-join (few-join (few-join (few-join few-resources few-racks) (few-each ps few-checks)) items) (few-join few-groups few-types) in
+      let m : length (hullRules x ps) ≤ 12 + 8 + 8 * n + (1 * n + 1 * n + 1 * n + 1 * n) + (1 * n * 3 + 1 * n) = h .most in
+      record { most = omega arith }
 
 pairs-few : (c : Catalogue) (n : ℕ) (is : List Item) (rs : List Result) → length (pairsFrom c n is rs) ≤ length is
 unfolding pairsFrom
@@ -151,11 +186,11 @@ module _ (b : List ℕ) (fine : T (not (badSize b))) where
 
 -- ---- the skill list: an entry for each wanted skill
 skills-few : (c : Catalogue) (f : Fit) (n : ℕ) → T (not (given (resultAt f n) false (tooMany 512 c))) → Few 512 (skillList c f n)
-unfolding skillList tooMany
+unfolding skillList entryOf tooMany
 skills-few c f n h = few-given (resultAt f n) (tooMany 512 c) h λ r k.
-    let l = nltb→le 512 (length (walkTo 512 c r)) k in
-    let m : 1 * length (walkTo 512 c r) ≤ 512 = omega arith in
-    few-more m (few-each (walkTo 512 c r) λ w. few-when _ _)
+    let l = nltb→le 512 (length (walkWithin 512 c r)) k in
+    let m : 1 * length (walkWithin 512 c r) ≤ 512 = omega arith in
+    few-more m (few-each (walkWithin 512 c r) λ w. few-when _ _)
 
 pub skills-short : (c : Catalogue) (f : Fit) (n : ℕ) → T (not (given (resultAt f n) false (tooMany 512 c))) → length (skillList c f n) ≤ 512
 skills-short c f n h = skills-few c f n h .most

@@ -14,6 +14,6 @@ pub mod Walking
 pub mod Refusing
 pub mod Meeting
 pub mod Wanting
-pub mod Halls
+pub mod Judging
 pub mod Edges
 pub mod Promised

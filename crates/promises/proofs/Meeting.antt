@@ -14,7 +14,7 @@ use Rattle.words.specs.Words.{each, anyOf, contains, same, given}
 use Rattle.words.proofs.Steps.{each-step}
 use Rattle.catalogue.specs.Catalogue.{Id, Catalogue}
 use Rattle.fit.specs.Fit.{Result}
-use Rattle.skill.specs.Skill.{Demand, ofResult, ofSkill, note, noted, skillAt, met, walkTo, tooMany}
+use Rattle.skill.specs.Skill.{Demand, ofResult, ofSkill, note, noted, skillAt, met, walkWithin, tooMany}
 use Rattle.promises.specs.Walks.{idsOf, firsts, metBy}
 use Rattle.promises.proofs.Answering.{elem-at}
 
@@ -100,14 +100,16 @@ module _ (c : Catalogue) (r : Result) where
           let ids = idsOf (noted (met c r n)) in
           let a = elem-at ids n t (unfold skillAt in e) in
           let m = noted-more (met c r n) (ofSkill c t) in
-          let q : take (suc n) (idsOf (noted (met c r n ++ ofSkill c t))) ≡ take (suc n) ids = ap (take (suc n)) (m .1) ∙ take-append-le (suc n) ids (m .0) (a .0) in
+          let q : take (suc n) (idsOf (noted (met c r n ++ ofSkill c t))) ≡ take (suc n) ids =
+          ap (take (suc n)) (m .1) ∙ take-append-le (suc n) ids (m .0) (a .0) in
           ap (λ (l : List Demand). l ++ ofSkill c t) h
           ∙ append-assoc (ofResult c r) (each (take n ids) (ofSkill c)) (ofSkill c t)
           ∙ ap (λ (l : List Demand). ofResult c r ++ l)
-          (sym (ap (λ (k : List Id). each k (ofSkill c)) q ∙ each-step (ofSkill c) ids n t (a .0) ∙ ap (λ (u : Id). each (take n ids) (ofSkill c) ++ ofSkill c u) (a .1)))
+          (sym (ap (λ (k : List Id). each k (ofSkill c)) q ∙ each-step (ofSkill c) ids n t (a .0)
+          ∙ ap (λ (u : Id). each (take n ids) (ofSkill c) ++ ofSkill c u) (a .1)))
 
-  pub walk-order : (limit : ℕ) → T (not (tooMany limit c r)) → idsOf (walkTo limit c r) ≡ firsts (idsOf (metBy c r (idsOf (walkTo limit c r))))
-  unfolding tooMany walkTo
+  pub walk-order : (limit : ℕ) → T (not (tooMany limit c r)) → idsOf (walkWithin limit c r) ≡ firsts (idsOf (metBy c r (idsOf (walkWithin limit c r))))
+  unfolding tooMany walkWithin
   walk-order limit h =
       let ws = noted (met c r limit) in
       let l = nltb→le limit (length ws) h in

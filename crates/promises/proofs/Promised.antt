@@ -5,12 +5,12 @@ use Rattle.promises.specs.Promises.{Names, Promises}
 use Rattle.promises.proofs.Calls.{list-answers, skill-answers, list-room, skill-room}
 use Rattle.promises.proofs.Comparing.{list-kept, skills-kept}
 use Rattle.promises.proofs.Wanting.{more-wanted, skill-lists}
-use Rattle.promises.proofs.Halls.{hall-answers, judged}
+use Rattle.promises.proofs.Judging.{hall-answers, judged}
 use Rattle.promises.proofs.Edges.{edges}
 
 names : Names
 unfolding each tableFrom
-names = refl
+names = (refl, refl)
 
 pub promised : Promises
 promised = record {

@@ -10,7 +10,7 @@ use lib.ListN.{length, length-map}
 use Rattle.catalogue.specs.Catalogue.{Id, Catalogue}
 use Rattle.fit.specs.Fit.{Result}
 use Rattle.words.specs.Words.{same, contains, anyOf}
-use Rattle.skill.specs.Skill.{Demand, noted, met, walkTo, tooMany}
+use Rattle.skill.specs.Skill.{Demand, noted, met, walkWithin, tooMany}
 use Rattle.skill.specs.Wanted.{Wanted, Once}
 use Rattle.promises.specs.Walks.{idsOf}
 use Rattle.promises.proofs.Walking.{same-refl, counts-wanted, met-counts, noted-from, noted-once, walked, listed-iff-wanted}
@@ -63,7 +63,7 @@ once-length (x ∷ xs) ys o f =
 -- ---- refusal 9
 module _ (limit : ℕ) (c : Catalogue) (r : Result) where
   pub refused-many : T (tooMany limit c r) → (xs : List Id) × Once xs × ((x : Id) → List·Memᴰ x xs → Wanted c r x) × (limit < length xs)
-  unfolding tooMany walkTo
+  unfolding tooMany walkWithin
   refused-many h =
       let ws = noted (met c r limit) in
       (idsOf ws, noted-once (met c r limit), wanted, rw (length-map ws (λ (w : Demand). w .0)) (ltb→lt limit (length ws) h))
@@ -77,7 +77,7 @@ module _ (limit : ℕ) (c : Catalogue) (r : Result) where
   pub answered-few : T (not (tooMany limit c r)) → (xs : List Id) → Once xs → ((x : Id) → List·Memᴰ x xs → Wanted c r x) → length xs ≤ limit
   answered-few h xs o f =
       let w = walked limit c r h in
-      let ws = walkTo limit c r in
+      let ws = walkWithin limit c r in
       le-trans
       (once-length xs (idsOf ws) o (λ x m. let k = listed-iff-wanted c r ws w x .0 (f x m) in Memᴰ·map (λ (v : Demand). v .0) (k .1)))
       (rw (length-map ws (λ (v : Demand). v .0)) (unfold tooMany in nltb→le limit (length ws) h))

@@ -16,7 +16,9 @@ use Rattle.catalogue.specs.Catalogue.{Id}
 use Rattle.entry.specs.declared.Target.{Target}
 use Rattle.entry.specs.declared.Entry.{Entry}
 use Rattle.entry.specs.declared.Rule.{Rule}
-use Rattle.entry.specs.declared.Rule.the-variants.{Resource, Slots, WrongSlot, NotAModule, NotADrone, NotAFighter, NotAnImplant, SlotTaken, WrongSlotIndex, SubsystemTaken, Skill, RigSize, ShipRestricted, CapitalItem, StructureItem, ShipItem, MaxGroup, MaxType, NotAHull, NotAMode, NotASkill}
+use Rattle.entry.specs.declared.Rule.the-variants.{Resource, Slots, WrongSlot, NotAModule, NotADrone, NotAFighter, NotAnImplant, SlotTaken}
+use Rattle.entry.specs.declared.Rule.the-variants.{WrongSlotIndex, SubsystemTaken, Skill, RigSize, ShipRestricted, CapitalItem}
+use Rattle.entry.specs.declared.Rule.the-variants.{StructureItem, ShipItem, MaxGroup, MaxType, NotAHull, NotAMode, NotASkill}
 use Rattle.entry.specs.Entries.{fields, entryBytes}
 use Rattle.promises.specs.Compare.{varies, blank, Stays}
 
@@ -124,4 +126,5 @@ module _ (t : Target) where
       record { bytes = refl; resource = λ n. absurd (omega arith); slots = omega arith; skill = omega arith; maxGroup = omega arith; maxType = omega arith }
 
 pub covers-stays : (a b : Entry) → Covers a b → Sound (a .rule) → Sound (b .rule) → Stays (entryBytes a) (entryBytes b)
-covers-stays a b h s s′ = subst (λ (t : Target). Stays (entryBytes a) (entryBytes (record { target = t; rule = b .rule }))) (h .target) (stays (a .target) (h .rule) s s′)
+covers-stays a b h s s′ =
+    subst (λ (t : Target). Stays (entryBytes a) (entryBytes (record { target = t; rule = b .rule }))) (h .target) (stays (a .target) (h .rule) s s′)

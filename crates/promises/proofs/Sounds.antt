@@ -21,11 +21,13 @@ use Rattle.fit.specs.Lookups.{value, amount, trained}
 use Rattle.entry.specs.declared.Entry.{Entry}
 use Rattle.context.specs.Context.{Pair, Context, pairs, context, isIn}
 use Rattle.validate.specs.Kind.{isHull, notAMode, notASkill}
-use Rattle.resource.specs.Resource.{LOADS, resource, cargoVolume, cargoUsed, loads, launchedDrones, cargo}
-use Rattle.slot.specs.Slot.{RACKS, HARDPOINTS, slots, racks, hardpoints, wrongSlot, notAModule, notADrone, notAFighter, notAnImplant, wrongSlotIndex, slotTaken, subsystemTaken, slotChecks}
-use Rattle.item.specs.Item.{GROUP-LIMITS, isStructure, rigSize, shipRestricted, capitalItem, standup, groupLimits, typeLimit}
+use Rattle.resource.specs.Resource.{LOADS, resource, cargoVolume, cargoUsed, loads, launchedDrones, cargo, resources}
+use Rattle.racks.specs.Racks.{RACKS, HARDPOINTS, slots, racks, hardpoints}
+use Rattle.slot.specs.Slot.{wrongSlot, notAModule, notADrone, notAFighter, notAnImplant, wrongSlotIndex, slotTaken, subsystemTaken, slotChecks}
+use Rattle.item.specs.Item.{rigSizeAt, rigSize, shipRestrictedAt, shipRestricted, isStructure, capitalItemAt, capitalItem, standupAt, standup}
+use Rattle.limits.specs.Limits.{GROUP-LIMITS, groupLimitAt, groupLimit, groupLimits, typeLimitAt, typeLimit}
 use Rattle.validate.specs.Validate.{hullRules, listWith, listOf}
-use Rattle.skill.specs.Skill.{Demand, REQUIRED, demands, ofResult, ofSkill, note, noted, met, walkTo, skillList}
+use Rattle.skill.specs.Skill.{Demand, required, demandOf, demands, ofResult, ofSkill, note, noted, met, walkWithin, entryOf, skillList}
 use Rattle.promises.proofs.All.{All, nil, cons, all-join, all-table, all-when, all-unless, all-cond, all-bind, all-each, all-each-of, all-find}
 use Rattle.promises.proofs.Rises.{Sound}
 
@@ -46,9 +48,9 @@ any-sound : {A : Type 0} (b : Bool) (t : A → Bool) (l : List A) (e : Entry) �
 unfolding whenAny
 any-sound b t l e h = all-when _ e (λ _. h)
 
-above-sound : (b : Bool) (limit n : ℕ) (e : ℕ → Entry) → Sound (e n .rule) → AllSound (whenAbove b limit n e)
+above-sound : (b : Bool) (n allowed : ℕ) (e : ℕ → Entry) → Sound (e n .rule) → AllSound (whenAbove b n allowed e)
 unfolding whenAbove
-above-sound b limit n e h = all-when _ (e n) (λ _. h)
+above-sound b n allowed e h = all-when _ (e n) (λ _. h)
 
 resource-sound : (k : ℕ) (u a : Float) → T (fits binary64 u) → AllSound (resource k u a)
 unfolding resource
@@ -106,47 +108,41 @@ module _ (x : Context) where
         (all-bind _ λ id. all-bind _ λ part. any-sound _ _ ps _ tt)
 
     rigSize-sound : AllSound (rigSize x ps)
-    unfolding rigSize
+    unfolding rigSize rigSizeAt
     rigSize-sound = all-bind _ λ id. all-bind _ λ ship. all-each ps λ p. all-bind _ λ size. all-when _ _ (λ _. tt)
 
     shipRestricted-sound : AllSound (shipRestricted x ps)
-    unfolding shipRestricted
+    unfolding shipRestricted shipRestrictedAt
     shipRestricted-sound = all-each ps λ p. all-when _ _ (λ _. tt)
 
     capitalItem-sound : AllSound (capitalItem x ps)
-    unfolding capitalItem
+    unfolding capitalItem capitalItemAt
     capitalItem-sound = all-bind _ λ volume. all-bind _ λ capital. all-unless _ (all-each ps λ p. all-when _ _ (λ _. tt))
 
     standup-sound : AllSound (standup x ps)
-    unfolding standup
-    standup-sound = all-each ps λ p. all-unless _ (all-cond (isStructure x) (all-when _ _ (λ _. tt)) (all-when _ _ (λ _. tt)))
+    unfolding standup standupAt
+    standup-sound = all-each ps λ p. all-cond (isStructure x) (all-when _ _ (λ _. tt)) (all-when _ _ (λ _. tt))
 
     groupLimits-sound : AllSound (groupLimits x ps)
-    unfolding groupLimits
+    unfolding groupLimits groupLimit groupLimitAt
     groupLimits-sound = all-each GROUP-LIMITS λ g. all-bind _ λ id. all-each ps λ p. all-bind _ λ allowed. above-sound _ _ _ _ (few-of _)
 
     typeLimit-sound : AllSound (typeLimit x ps)
-    unfolding typeLimit
+    unfolding typeLimit typeLimitAt
     typeLimit-sound = all-bind _ λ id. all-each ps λ p. all-bind _ λ allowed. above-sound _ _ _ _ (few-of _)
 
     hullRules-sound : ((id : Id) → T (fits binary64 (amount (x .shipResult) id))) → AllSound (hullRules x ps)
-    unfolding hullRules
+    unfolding hullRules resources
     hullRules-sound h =
-        all-join (all-join (all-join (all-join (all-join (all-join (all-join (all-join (all-join (all-join (all-join
-        (loads-sound h)
-        (drones-sound ps))
-        (cargo-sound ps))
-        racks-sound)
-        hardpoints-sound)
+        all-join (all-join (all-join (all-join
+        (all-join (all-join (loads-sound h) (drones-sound ps)) (cargo-sound ps))
+        (all-join racks-sound hardpoints-sound))
         (all-each ps slotChecks-sound))
-        rigSize-sound)
-        shipRestricted-sound)
-        capitalItem-sound)
-        standup-sound)
-        groupLimits-sound)
-        typeLimit-sound
+        (all-join (all-join (all-join rigSize-sound shipRestricted-sound) capitalItem-sound) standup-sound))
+        (all-join groupLimits-sound typeLimit-sound)
 
-pub listWith-sound : (c : Catalogue) (k : Frame) (ids : List Id) (ps : List Pair) → length ps < 2 ^ 32 → ((id : Id) → T (fits binary64 (amount (k .shipResult) id)))
+pub listWith-sound : (c : Catalogue) (k : Frame) (ids : List Id) (ps : List Pair) → length ps < 2 ^ 32
+    → ((id : Id) → T (fits binary64 (amount (k .shipResult) id)))
     → AllSound (listWith c k ids ps)
 unfolding listWith context
 listWith-sound c k ids ps few h =
@@ -171,8 +167,8 @@ abbrev Small : Demand → Type 0
 Small d = d .1 < 256
 
 demands-small : (c : Catalogue) (look : Id → Option Float) → All Small (demands c look)
-unfolding demands
-demands-small c look = all-each REQUIRED λ r. all-bind _ λ skill. all-bind _ λ level. all-bind _ λ v. cons (toUnsigned-lt 8 _) nil
+unfolding demands demandOf
+demands-small c look = all-each (required c) λ r. all-bind _ λ skill. cons (toUnsigned-lt 8 _) nil
 
 note-small : {ws : List Demand} (d : Demand) → All Small ws → Small d → All Small (note ws d)
 unfolding note
@@ -198,7 +194,7 @@ met-small c r zero = demands-small c _
 met-small c r (suc n) = all-join (met-small c r n) (given-small c _)
 
 pub skills-sound : (c : Catalogue) (f : Fit) (n : ℕ) → AllSound (skillList c f n)
-unfolding skillList walkTo noted
+unfolding skillList entryOf walkWithin noted
 skills-sound c f n = all-bind _ λ r. all-each-of (noted-small (met-small c r 512) nil) λ w h.
     let level = trained (f .skills) (f .levels) (w .0) in
     all-when _ _ (λ t. let k = ltb→lt level (w .1) t in omega arith)

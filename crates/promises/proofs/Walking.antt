@@ -5,7 +5,8 @@ use native.Mathlib.Decide.{decLe}
 use native.Mathlib.Omega.{arith}
 use mathlib.Core.Path.{_≡_, refl, sym, ap, _∙_, subst}
 use mathlib.Core.Bool.{Bool, true, false, not, _||_, cond}
-use mathlib.Core.List.{List, [], _∷_, _++_, foldl, foldl-append, map, append-nil, List·Memᴰ, List·Memᴰ·head, List·Memᴰ·tail, List·Memᴰ·not-nil, Memᴰ·append-left, Memᴰ·append-right, List·Memᴰ·append-cases}
+use mathlib.Core.List.{List, [], _∷_, _++_, foldl, foldl-append, map, append-nil, List·Memᴰ, List·Memᴰ·head, List·Memᴰ·tail}
+use mathlib.Core.List.{List·Memᴰ·not-nil, Memᴰ·append-left, Memᴰ·append-right, List·Memᴰ·append-cases}
 use mathlib.Core.Option.{Option, none, some, Option·some-injective}
 use mathlib.Core.Logic.{_⊎_, _↔_, inl, inr}
 use lib.Dec.{T, eqb→eq, eqb-refl, nltb→le}
@@ -14,7 +15,7 @@ use lib.ListN.{length, getElem?}
 use Rattle.catalogue.specs.Catalogue.{Id, Catalogue}
 use Rattle.fit.specs.Fit.{Result}
 use Rattle.words.specs.Words.{given, same, contains, anyOf}
-use Rattle.skill.specs.Skill.{Demand, ofResult, ofSkill, note, noted, skillAt, met, walkTo, tooMany}
+use Rattle.skill.specs.Skill.{Demand, ofResult, ofSkill, note, noted, skillAt, met, walkWithin, tooMany}
 use Rattle.promises.specs.Walks.{idsOf}
 use Rattle.skill.specs.Wanted.{Wanted, asked, needed, Counts, Once, Walked}
 
@@ -60,8 +61,11 @@ unfolding note
 note-old [] d s l m = absurd (List·Memᴰ·not-nil m)
 note-old (w ∷ ws) d s l m = go (same (w .0) (d .0)) (note-old ws d s l) m
   where
-    go : (b : Bool) → (List·Memᴰ (s, l) ws → Has (note ws d) s l) → List·Memᴰ (s, l) (w ∷ ws) → Has (cond b ((w .0, max (w .1) (d .1)) ∷ ws) (w ∷ note ws d)) s l
-    go true f (List·Memᴰ·head e) = (max (w .1) (d .1), List·Memᴰ·head (ap (λ (x : Demand). (x .0, max (w .1) (d .1))) e), (let q : l ≡ w .1 = ap (λ (x : Demand). x .1) e in omega arith))
+    go : (b : Bool) → (List·Memᴰ (s, l) ws → Has (note ws d) s l) → List·Memᴰ (s, l) (w ∷ ws)
+        → Has (cond b ((w .0, max (w .1) (d .1)) ∷ ws) (w ∷ note ws d)) s l
+    go true f (List·Memᴰ·head e) =
+        let q : l ≡ w .1 = ap (λ (x : Demand). x .1) e in
+        (max (w .1) (d .1), List·Memᴰ·head (ap (λ (x : Demand). (x .0, max (w .1) (d .1))) e), omega arith)
     go true f (List·Memᴰ·tail m) = (l, List·Memᴰ·tail m, le-refl l)
     go false f (List·Memᴰ·head e) = (l, List·Memᴰ·head e, le-refl l)
     go false f (List·Memᴰ·tail m) = has-tail (f m)
@@ -81,7 +85,8 @@ note-from (w ∷ ws) d x m = go (same (w .0) (d .0)) (same-eq (w .0) (d .0)) (no
     which i e (inl q) = inl (List·Memᴰ·head (e ∙ ap (λ (n : ℕ). (w .0, n)) q))
     which i e (inr q) = inr (e ∙ ap (λ (n : ℕ). (w .0, n)) q ∙ ap (λ (t : Id). (t, d .1)) i)
 
-    go : (b : Bool) → (T b → w .0 ≡ d .0) → (List·Memᴰ x (note ws d) → List·Memᴰ x ws ⊎ (x ≡ d)) → List·Memᴰ x (cond b ((w .0, max (w .1) (d .1)) ∷ ws) (w ∷ note ws d))
+    go : (b : Bool) → (T b → w .0 ≡ d .0) → (List·Memᴰ x (note ws d) → List·Memᴰ x ws ⊎ (x ≡ d))
+        → List·Memᴰ x (cond b ((w .0, max (w .1) (d .1)) ∷ ws) (w ∷ note ws d))
         → List·Memᴰ x (w ∷ ws) ⊎ (x ≡ d)
     go true i f (List·Memᴰ·head e) = which (i tt) e (max-is (w .1) (d .1))
     go true i f (List·Memᴰ·tail m) = inl (List·Memᴰ·tail m)
@@ -209,7 +214,9 @@ module _ (c : Catalogue) (r : Result) where
   pub met-counts : (n : ℕ) (s : Id) (l : ℕ) → List·Memᴰ (s, l) (met c r n) → Counts c r s l
   unfolding met given
   met-counts zero s l m = inl m
-  met-counts (suc n) s l m = elim (List·Memᴰ·append-cases (met c r n) m) [ inl a ↦ met-counts n s l a | inr b ↦ go (λ t k h. met-counts n t k h) (skillAt (noted (met c r n)) n) refl b ]
+  met-counts (suc n) s l m =
+      elim (List·Memᴰ·append-cases (met c r n) m)
+      [ inl a ↦ met-counts n s l a | inr b ↦ go (λ t k h. met-counts n t k h) (skillAt (noted (met c r n)) n) refl b ]
     where
       go : ((t : Id) (k : ℕ) → List·Memᴰ (t, k) (met c r n) → Counts c r t k)
           → (o : Option Id) → skillAt (noted (met c r n)) n ≡ o → List·Memᴰ (s, l) (given o [] (ofSkill c)) → Counts c r s l
@@ -225,7 +232,8 @@ module _ (c : Catalogue) (r : Result) where
   met-closed (suc n) i t h e x m = go (λ u k f. met-closed n i u k f x) (skillAt (noted (met c r n)) n) refl e
     where
       go : ((u : Id) → i < n → skillAt (noted (met c r n)) i ≡ some u → List·Memᴰ x (ofSkill c u) → List·Memᴰ x (met c r n))
-          → (o : Option Id) → skillAt (noted (met c r n)) n ≡ o → skillAt (noted (met c r n ++ given o [] (ofSkill c))) i ≡ some t → List·Memᴰ x (met c r n ++ given o [] (ofSkill c))
+          → (o : Option Id) → skillAt (noted (met c r n)) n ≡ o → skillAt (noted (met c r n ++ given o [] (ofSkill c))) i ≡ some t
+          → List·Memᴰ x (met c r n ++ given o [] (ofSkill c))
       go f none q e =
           let e′ : skillAt (noted (met c r n)) i ≡ some t = rw append-nil at e in
           elim (eq-or-lt-of-le (le-of-suc-le-suc h)) [
@@ -270,8 +278,8 @@ module _ (c : Catalogue) (r : Result) where
     counts-in s l (inr h) = let a = wanted-in (h .0) (h .1) in noted-new n s l (met-of (h .0) (a .0) (a .1) (s, l) (h .2))
 
 -- The walk that is not refused: each wanted skill once, at the highest level that is demanded of it.
-pub walked : (limit : ℕ) (c : Catalogue) (r : Result) → T (not (tooMany limit c r)) → Walked c r (walkTo limit c r)
-unfolding walkTo tooMany
+pub walked : (limit : ℕ) (c : Catalogue) (r : Result) → T (not (tooMany limit c r)) → Walked c r (walkWithin limit c r)
+unfolding walkWithin tooMany
 walked limit c r h =
     record {
       once = noted-once (met c r limit);

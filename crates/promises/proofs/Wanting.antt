@@ -4,7 +4,8 @@ use native.Mathlib.Nat.{le-antisymm}
 use native.Mathlib.Omega.{arith}
 use mathlib.Core.Path.{_≡_, refl, sym, ap, _∙_, subst}
 use mathlib.Core.Bool.{Bool, true, false, not}
-use mathlib.Core.List.{List, [], _∷_, List·Memᴰ, List·Memᴰ·head, List·Memᴰ·tail, List·Memᴰ·not-nil, List·Memᴰ·append-cases, List·Memᴰ·eq-of-singleton, Memᴰ·append-left, Memᴰ·append-right, Memᴰ·map}
+use mathlib.Core.List.{List, [], _∷_, List·Memᴰ, List·Memᴰ·head, List·Memᴰ·tail, List·Memᴰ·not-nil, List·Memᴰ·append-cases}
+use mathlib.Core.List.{List·Memᴰ·eq-of-singleton, Memᴰ·append-left, Memᴰ·append-right, Memᴰ·map}
 use mathlib.Core.Option.{Option, some}
 use mathlib.Core.Logic.{_⊎_, _↔_, inl, inr}
 use lib.Dec.{T, T-not, ltb, ltb→lt, lt→ltb, nltb→le}
@@ -15,7 +16,7 @@ use Rattle.fit.specs.Fit.{Result, Fit, allResults, resultAt, fitOf}
 use Rattle.fit.specs.Lookups.{trained}
 use Rattle.entry.specs.declared.Rule.the-variants.{Skill}
 use Rattle.entry.specs.declared.Entry.{Entry}
-use Rattle.skill.specs.Skill.{Demand, walkTo, tooMany, targetOf, skillList}
+use Rattle.skill.specs.Skill.{Demand, walkWithin, tooMany, targetOf, entryOf, skillList}
 use Rattle.skill.specs.Wanted.{Wanted, Once, Walked}
 use Rattle.fitcheck.specs.Calls.{skillCall}
 use Rattle.promises.specs.Answers.{outcome, refusal}
@@ -27,7 +28,9 @@ use Rattle.promises.proofs.Answering.{elem-of}
 use Rattle.promises.proofs.Calls.{skill-answers}
 
 twice : (w : Demand) (ws : List Demand) → Once (idsOf (w ∷ ws)) → (s : Id) (l : ℕ) → s ≡ w .0 → List·Memᴰ (s, l) ws → ⊥
-twice w ws o s l e m = T-not (contains (w .0) (idsOf ws)) (o .0) (subst (λ (x : Id). T (contains x (idsOf ws))) e (mem-contains s (idsOf ws) (Memᴰ·map (λ (d : Demand). d .0) m)))
+twice w ws o s l e m =
+    T-not (contains (w .0) (idsOf ws)) (o .0)
+    (subst (λ (x : Id). T (contains x (idsOf ws))) e (mem-contains s (idsOf ws) (Memᴰ·map (λ (d : Demand). d .0) m)))
 
 -- an id that stands once has one level
 one-level : (ws : List Demand) → Once (idsOf ws) → (s : Id) (l m : ℕ) → List·Memᴰ (s, l) ws → List·Memᴰ (s, m) ws → l ≡ m
@@ -53,13 +56,13 @@ level-is c r ws w s l = (to, from)
         let k = w .highest s l (h .demanded) in
         subst (λ (x : ℕ). List·Memᴰ (s, x) ws) (le-antisymm (h .most (k .0) (w .sound s (k .0) (k .1))) (k .2)) (k .1)
 
-walk-of : (limit : ℕ) (c : Catalogue) (r : Result) → T (not (tooMany limit c r)) → WalkOf c r (walkTo limit c r)
+walk-of : (limit : ℕ) (c : Catalogue) (r : Result) → T (not (tooMany limit c r)) → WalkOf c r (walkWithin limit c r)
 walk-of limit c r h =
     let w = walked limit c r h in
     record {
       walked = w;
-      wanted = listed-iff-wanted c r (walkTo limit c r) w;
-      level = level-is c r (walkTo limit c r) w;
+      wanted = listed-iff-wanted c r (walkWithin limit c r) w;
+      level = level-is c r (walkWithin limit c r) w;
       order = walk-order c r limit h;
     }
 
@@ -77,7 +80,8 @@ module _ {A B : Type 0} where
   each-from [] f y m = absurd (List·Memᴰ·not-nil m)
   each-from (x ∷ l) f y m = go (List·Memᴰ·append-cases (f x) m) (each-from l f y)
     where
-      go : List·Memᴰ y (f x) ⊎ List·Memᴰ y (each l f) → (List·Memᴰ y (each l f) → (z : A) × List·Memᴰ z l × List·Memᴰ y (f z)) → (z : A) × List·Memᴰ z (x ∷ l) × List·Memᴰ y (f z)
+      go : List·Memᴰ y (f x) ⊎ List·Memᴰ y (each l f) → (List·Memᴰ y (each l f) → (z : A) × List·Memᴰ z l × List·Memᴰ y (f z))
+          → (z : A) × List·Memᴰ z (x ∷ l) × List·Memᴰ y (f z)
       go (inl a) k = (x, List·Memᴰ·head refl, a)
       go (inr a) k = let h = k a in (h .0, List·Memᴰ·tail (h .1), h .2)
 
@@ -105,22 +109,22 @@ module _ (c : Catalogue) (f : Fit) (n : ℕ) where
 
   -- the entries of a result
   skillsOf : Result → List Entry
-  skillsOf r = each (walkTo 512 c r) λ d. when (ltb (level (d .0)) (d .1)) (entry d)
+  skillsOf r = each (walkWithin 512 c r) λ d. when (ltb (level (d .0)) (d .1)) (entry d)
 
   list-is : (r : Result) → resultAt f n ≡ some r → skillList c f n ≡ skillsOf r
-  unfolding skillList _>>=_ level entry skillsOf
+  unfolding skillList entryOf _>>=_ level entry skillsOf
   list-is r q = ap (λ (o : Option Result). _>>=_ o λ s. skillsOf s) q
 
   lacks : (r : Result) → resultAt f n ≡ some r → T (not (tooMany 512 c r)) → (e : Entry) → List·Memᴰ e (skillList c f n) ↔ Lacks c f n r e
   unfolding level entry skillsOf
   lacks r q h e = (to, from)
     where
-      w : (s : Id) (l : ℕ) → List·Memᴰ (s, l) (walkTo 512 c r) ↔ Highest c r s l
+      w : (s : Id) (l : ℕ) → List·Memᴰ (s, l) (walkWithin 512 c r) ↔ Highest c r s l
       w = walk-of 512 c r h .level
 
       to : List·Memᴰ e (skillList c f n) → Lacks c f n r e
       to m =
-          let a = each-from (walkTo 512 c r) _ e (subst (λ (l : List Entry). List·Memᴰ e l) (list-is r q) m) in
+          let a = each-from (walkWithin 512 c r) _ e (subst (λ (l : List Entry). List·Memᴰ e l) (list-is r q) m) in
           let d = a .0 in
           let b = when-from _ _ e (a .2) in
           (d .0, d .1, w (d .0) (d .1) .0 (a .1), ltb→lt (level (d .0)) (d .1) (b .0), b .1)

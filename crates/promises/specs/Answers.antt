@@ -2,7 +2,7 @@
 use Prim.Native.Nat.{ℕ, _+_, _*_, _/_, _%_, _≤_, _<_}
 use mathlib.Core.Path.{_≡_}
 use mathlib.Core.Bool.{Bool, false, not}
-use mathlib.Core.List.{List, [], _∷_}
+use mathlib.Core.List.{List, [], _∷_, _++_}
 use mathlib.Core.Logic.{_⊎_, _↔_}
 use mathlib.Core.Option.{some}
 use lib.Dec.{T, ltb}
@@ -41,31 +41,29 @@ entryAt o i = take 24 (drop (24 * i) (o .buffer))
 abbrev pub Conditions : Type 0
 Conditions = List (ℕ × Bool)
 
+abbrev pub catalogueConditions : (catalogue : List ℕ) → Conditions
+catalogueConditions catalogue =
+    let c = catalogueOf catalogue in
+    (1, Catalogue.badLength catalogue) ∷ (2, Catalogue.badOrder c) ∷ (3, Catalogue.badField c) ∷ []
+
+abbrev pub fitConditions : (fit : List ℕ) → Conditions
+fitConditions fit =
+    let f = fitOf fit in
+    (4, Fit.badSize fit) ∷ (5, Fit.badOrder f) ∷ (6, Fit.badField f) ∷ []
+
 abbrev pub listConditions : (catalogue fit buffer : List ℕ) → Conditions
 listConditions catalogue fit buffer =
     let c = catalogueOf catalogue in
     let f = fitOf fit in
-    (1, Catalogue.badLength catalogue)
-    ∷ (2, Catalogue.badOrder c)
-    ∷ (3, Catalogue.badField c)
-    ∷ (4, Fit.badSize fit)
-    ∷ (5, Fit.badOrder f)
-    ∷ (6, Fit.badField f)
-    ∷ (7, tooManyDrones c f)
-    ∷ (10, tooShort buffer (listOf c f))
-    ∷ []
+    catalogueConditions catalogue ++ fitConditions fit
+    ++ (7, tooManyDrones c f) ∷ (10, tooShort buffer (listOf c f)) ∷ []
 
 abbrev pub skillConditions : (catalogue fit : List ℕ) (result : ℕ) (buffer : List ℕ) → Conditions
 skillConditions catalogue fit result buffer =
     let c = catalogueOf catalogue in
     let f = fitOf fit in
-    (1, Catalogue.badLength catalogue)
-    ∷ (2, Catalogue.badOrder c)
-    ∷ (3, Catalogue.badField c)
-    ∷ (4, Fit.badSize fit)
-    ∷ (5, Fit.badOrder f)
-    ∷ (6, Fit.badField f)
-    ∷ (8, ltb (length (f .results) + 1) result)
+    catalogueConditions catalogue ++ fitConditions fit
+    ++ (8, ltb (length (f .results) + 1) result)
     ∷ (9, given (resultAt f result) false (tooMany 512 c))
     ∷ (10, tooShort buffer (skillList c f result))
     ∷ []

@@ -9,9 +9,11 @@ use Rattle.words.specs.Words.{each}
 use Rattle.image.specs.Bytes.{le}
 use Rattle.floats.specs.Floats.{ofNat}
 use Rattle.entry.specs.declared.Rule.{Rule}
-use Rattle.entry.specs.declared.Rule.the-variants.{Resource, Slots, WrongSlot, NotAModule, NotADrone, NotAFighter, NotAnImplant, SlotTaken, WrongSlotIndex, SubsystemTaken, Skill, RigSize, ShipRestricted, CapitalItem, StructureItem, ShipItem, MaxGroup, MaxType, NotAHull, NotAMode, NotASkill}
+use Rattle.entry.specs.declared.Rule.the-variants.{Resource, Slots, WrongSlot, NotAModule, NotADrone, NotAFighter, NotAnImplant, SlotTaken}
+use Rattle.entry.specs.declared.Rule.the-variants.{WrongSlotIndex, SubsystemTaken, Skill, RigSize, ShipRestricted, CapitalItem}
+use Rattle.entry.specs.declared.Rule.the-variants.{StructureItem, ShipItem, MaxGroup, MaxType, NotAHull, NotAMode, NotASkill}
 use Rattle.entry.specs.Entries.{onShip, onItem}
-use Rattle.promises.specs.Cases.{Written, BadSize, ListCall, SkillCall, HallCall, Number, Holds, Bytes, Returns, Case}
+use Rattle.promises.specs.Cases.{Written, BadSize, ListCall, SkillCall, HallCall, Number, Holds, InBytes, Returns, Case}
 
 -- u32 numbers, one after the other
 abbrev words : List ℕ → List ℕ
@@ -20,11 +22,11 @@ words ns = each ns (le 4)
 -- ---- entries
 -- a rule of pair 258: the rule's number, its sub, and its words
 abbrev entry : Rule → ℕ → ℕ → List ℕ → Case
-entry r number sub payload = (Written (onItem 258 r), Bytes (1 ∷ number ∷ sub ∷ 0 ∷ 2 ∷ 1 ∷ 0 ∷ 0 ∷ words payload))
+entry r number sub payload = (Written (onItem 258 r), InBytes (1 ∷ number ∷ sub ∷ 0 ∷ 2 ∷ 1 ∷ 0 ∷ 0 ∷ words payload))
 
 abbrev pub ENTRIES : List Case
 ENTRIES =
-    (Written (onShip NotAHull), Bytes (0 ∷ 19 ∷ replicate 22 0))
+    (Written (onShip NotAHull), InBytes (0 ∷ 19 ∷ replicate 22 0))
     -- 1.0 and 2.0; a NaN's pattern
     ∷ entry (Resource 11 (ofNat 1) (ofNat 2)) 1 11 (0 ∷ 0x3FF00000 ∷ 0 ∷ 0x40000000 ∷ [])
     ∷ entry (Resource 0 (ofNat 1) nan) 1 0 (0 ∷ 0x3FF00000 ∷ 0 ∷ 0x7FF80000 ∷ [])
@@ -164,7 +166,13 @@ CALLS =
     -- 7: two active stacks, 4,294,967,295 and 1
     ∷ listRefuses small (launching 4294967295 1) 7
     -- one less: 4,294,967,295.0 of 0, and two that are no drones
-    ∷ (ListCall small (launching 4294967294 1) (replicate 72 7), Returns 3 (words (0x00050100 ∷ 0 ∷ 0xFFE00000 ∷ 0x41EFFFFF ∷ 0 ∷ 0 ∷ []) ++ words (0x00000501 ∷ 0 ∷ 0 ∷ 0 ∷ 0 ∷ 0 ∷ []) ++ words (0x00000501 ∷ 1 ∷ 0 ∷ 0 ∷ 0 ∷ 0 ∷ [])))
+    ∷ (
+      ListCall small (launching 4294967294 1) (replicate 72 7),
+      Returns 3
+          (words (0x00050100 ∷ 0 ∷ 0xFFE00000 ∷ 0x41EFFFFF ∷ 0 ∷ 0 ∷ [])
+          ++ words (0x00000501 ∷ 0 ∷ 0 ∷ 0 ∷ 0 ∷ 0 ∷ [])
+          ++ words (0x00000501 ∷ 1 ∷ 0 ∷ 0 ∷ 0 ∷ 0 ∷ [])),
+    )
     -- 8: result 2 with R = 0
     ∷ (SkillCall bare empty 2 [], Returns (8 * 4294967296) [])
     ∷ (SkillCall bare empty 1 [], Returns 0 [])
@@ -172,7 +180,11 @@ CALLS =
     ∷ (ListCall bare empty (replicate 23 7), Returns (10 * 4294967296) (replicate 23 7))
     -- the lists of a fit
     ∷ (ListCall small flying [], Returns 0 [])
-    ∷ (ListCall small fitted (replicate 50 7), Returns 2 (words (0x00001500 ∷ 0 ∷ 9 ∷ 0 ∷ 0 ∷ 0 ∷ []) ++ words (0x00010301 ∷ 0 ∷ 0 ∷ 0 ∷ 0 ∷ 0 ∷ []) ++ (7 ∷ 7 ∷ [])))
+    ∷ (
+      ListCall small fitted (replicate 50 7),
+      Returns 2
+          (words (0x00001500 ∷ 0 ∷ 9 ∷ 0 ∷ 0 ∷ 0 ∷ []) ++ words (0x00010301 ∷ 0 ∷ 0 ∷ 0 ∷ 0 ∷ 0 ∷ []) ++ (7 ∷ 7 ∷ [])),
+    )
     ∷ (SkillCall small fitted 2 (replicate 25 7), Returns 1 (words (0x00000B01 ∷ 0 ∷ 8 ∷ 2 ∷ 0 ∷ 0 ∷ []) ++ (7 ∷ [])))
     ∷ (SkillCall small fitted 0 [], Returns 0 [])
     -- a hall of three: clear, faulted, refused

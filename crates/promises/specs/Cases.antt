@@ -53,6 +53,13 @@ launcher = pos 15
 abbrev pub part : Id
 part = pos 16
 
+-- another type of the gun's group; one marked as a turret, then as a launcher
+abbrev pub rifle : Id
+rifle = pos 18
+
+abbrev pub hybrid : Id
+hybrid = pos 19
+
 abbrev pub standupGun : Id
 standupGun = pos 17
 
@@ -79,6 +86,13 @@ ore = pos 25
 abbrev pub ghost : Id
 ghost = pos 26
 
+-- volumes of 2 ^ 53 and of 1, which are lost when added to it one by one
+abbrev pub vast : Id
+vast = pos 27
+
+abbrev pub parcel : Id
+parcel = pos 28
+
 abbrev pub unknown : Id
 unknown = pos 99
 
@@ -93,12 +107,15 @@ known names = record {
   types =
       typed 1 25 6 ∷ typed 2 1657 65 ∷ typed 3 12 2 ∷ typed 4 340 2 ∷ typed 5 448 2 ∷ typed 6 649 2 ∷ typed 7 13 2
       ∷ typed 10 50 7 ∷ typed 11 51 7 ∷ typed 12 52 7 ∷ typed 13 53 7 ∷ typed 14 54 7 ∷ typed 15 55 7 ∷ typed 16 954 32 ∷ typed 17 1562 66
+      ∷ typed 18 50 7 ∷ typed 19 56 7
       ∷ typed 20 100 18 ∷ typed 21 1652 87 ∷ typed 22 300 20 ∷ typed 23 1306 7 ∷ typed 24 255 16
       ∷ record { id = pos 25; group = pos 450; category = pos 25; volumeFlag = 1; volume = fin false 5 (negsuc 0) }
-      ∷ record { id = pos 26; group = pos 450; category = pos 25; volumeFlag = 0; volume = fin false 125 (pos 3) } ∷ [];
+      ∷ record { id = pos 26; group = pos 450; category = pos 25; volumeFlag = 0; volume = fin false 125 (pos 3) }
+      ∷ record { id = pos 27; group = pos 450; category = pos 25; volumeFlag = 1; volume = fin false 1 (pos 53) }
+      ∷ record { id = pos 28; group = pos 450; category = pos 25; volumeFlag = 1; volume = fin false 1 (pos 0) } ∷ [];
   links =
       linked 12 2 ∷ linked 12 0 ∷ linked 12 99 ∷ linked 13 1 ∷ linked 13 3 ∷ linked 13 7
-      ∷ linked 14 1 ∷ linked 14 7 ∷ linked 15 1 ∷ linked 15 8 ∷ [];
+      ∷ linked 14 1 ∷ linked 14 7 ∷ linked 15 1 ∷ linked 15 8 ∷ linked 19 7 ∷ linked 19 8 ∷ [];
   bases = [];
 }
 
@@ -116,7 +133,8 @@ Thing = Item × Result
 
 -- so many of a type in a slot, in a state
 abbrev pub stack : (quantity : ℕ) → Id → (slot index state : ℕ) → List Attribute → Thing
-stack quantity type slot index state attributes = (record { type = type; quantity = quantity; slot = slot; reserved = 0; index = index }, result state attributes)
+stack quantity type slot index state attributes =
+    (record { type = type; quantity = quantity; slot = slot; reserved = 0; index = index }, result state attributes)
 
 -- one, online
 abbrev pub one : Id → (slot index : ℕ) → List Attribute → Thing
@@ -146,7 +164,7 @@ pub data Input : Type 0 where
   -- the list of a fit
   Fitted : Catalogue → Fit → Input
   -- the wanted skills of a result; whether they are more than a limit; the skill list of a result number
-  Walked : Catalogue → Result → Input
+  Wants : Catalogue → Result → Input
   Exceeds : ℕ → Catalogue → Result → Input
   Skilled : Catalogue → Fit → ℕ → Input
   -- an entry in bytes
@@ -165,7 +183,7 @@ pub data Expected : Type 0 where
   HoldsOf : (Float → Bool) → Expected
   Entries : List Entry → Expected
   Demands : List Demand → Expected
-  Bytes : List ℕ → Expected
+  InBytes : List ℕ → Expected
   -- the word, and the buffer afterwards
   Returns : ℕ → List ℕ → Expected
 
@@ -176,10 +194,10 @@ outcomeOf (Signed x) = Integer (toI32 x)
 outcomeOf (Over used available) = Holds (over used available)
 outcomeOf (AnyOver available) = HoldsOf λ used. over used available
 outcomeOf (Fitted c f) = Entries (listOf c f)
-outcomeOf (Walked c r) = Demands (wantedSkills c r)
+outcomeOf (Wants c r) = Demands (wantedSkills c r)
 outcomeOf (Exceeds limit c r) = Holds (tooMany limit c r)
 outcomeOf (Skilled c f n) = Entries (skillList c f n)
-outcomeOf (Written e) = Bytes (entryBytes e)
+outcomeOf (Written e) = InBytes (entryBytes e)
 outcomeOf (BadSize fit) = Holds (badSize fit)
 outcomeOf (ListCall catalogue fit buffer) = let a = listCall catalogue fit buffer in Returns (returned a) (buffered buffer a)
 outcomeOf (SkillCall catalogue fit result buffer) = let a = skillCall catalogue fit result buffer in Returns (returned a) (buffered buffer a)

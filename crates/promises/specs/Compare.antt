@@ -7,12 +7,12 @@ use lib.Dec.{T, eqb, leb, ltb}
 use lib.ListN.{length, getD, take, drop}
 use lib.Ieee.{le}
 use Rattle.words.specs.Words.{given, table}
+use Rattle.numbers.specs.Slots as Slots
 use Rattle.image.specs.Bytes.{u8At, u32At}
 use Rattle.floats.specs.Floats.{f64At, isVolume}
 use Rattle.catalogue.specs.Catalogue.{Id, Catalogue}
 use Rattle.catalogue.specs.Lookups.{typeOf}
 use Rattle.fit.specs.Fit.{Item, Fit}
-use Rattle.fit.specs.Refusals.{cargoHold}
 use Rattle.promises.specs.Answers.{Outcome, count, entryAt}
 
 -- ---- the premises
@@ -39,7 +39,7 @@ abbrev pub addedItems : Fit → Fit → List Item
 addedItems old new = drop (length (old .items)) (new .items)
 
 abbrev pub AddedVolumes : Catalogue → Fit → Fit → Type 0
-AddedVolumes c old new = (i : Item) → List·Memᴰ i (addedItems old new) → i .slot ≡ cargoHold → T (volumeAllowed c (i .type))
+AddedVolumes c old new = (i : Item) → List·Memᴰ i (addedItems old new) → i .slot ≡ Slots.cargo → T (volumeAllowed c (i .type))
 
 -- ---- the claim
 -- where an entry of a rule has its used number or its trained level: the first byte, and how many; the other rules have neither

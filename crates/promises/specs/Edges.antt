@@ -6,20 +6,22 @@ use mathlib.Core.Bool.{true, false}
 use mathlib.Core.List.{List, [], _∷_, _++_, map}
 use lib.IntN.{pos, negsuc}
 use lib.Ieee.{nan, inf, binary64, ofInt, ofBits}
+use Rattle.numbers.specs.Names.{volume, isCapitalSize, requiredSkill1, requiredSkill1Level, requiredSkill2, requiredSkill2Level}
 use Rattle.floats.specs.Floats.{ofNat}
 use Rattle.catalogue.specs.Catalogue.{Base, Catalogue}
 use Rattle.fit.specs.Fit.{Result, Fit}
 use Rattle.entry.specs.declared.Rule.the-variants.{CapitalItem, Skill}
 use Rattle.entry.specs.Entries.{onShip, onItem}
-use Rattle.promises.specs.Cases.{ship, gun, known, has, attribute, result, one, fit, Unsigned, Signed, Over, AnyOver, Fitted, Walked, Exceeds, Skilled, Number, Integer, Holds, HoldsOf, Entries, Demands, outcomeOf, Case}
-use Rattle.promises.specs.RuleCases.{KINDS, RESOURCES, SLOTS, ITEMS, ORDER}
+use Rattle.promises.specs.Cases.{ship, gun, known, has, attribute, result, one, fit, Unsigned, Signed, Over, AnyOver, Fitted, Wants}
+use Rattle.promises.specs.Cases.{Exceeds, Skilled, Number, Integer, Holds, HoldsOf, Entries, Demands, outcomeOf, Case}
+use Rattle.promises.specs.RuleCases.{KINDS, RESOURCES, SLOTS, ITEMS, CROWDS, ORDER}
 use Rattle.promises.specs.CallCases.{ENTRIES, CALLS}
 
 -- ---- skills
--- names 76 to 79 are known; what the types demand
+-- the names of two skills are known; what the types demand
 abbrev tree : List Base → Catalogue
 tree bases = record {
-  names = map (λ n. record { number = n; id = attribute n }) (76 ∷ 77 ∷ 78 ∷ 79 ∷ []);
+  names = map (λ n. record { number = n; id = attribute n }) (requiredSkill1 ∷ requiredSkill1Level ∷ requiredSkill2 ∷ requiredSkill2Level ∷ []);
   effects = [];
   types = [];
   links = [];
@@ -32,15 +34,15 @@ base type name v = record { type = pos type; attribute = attribute name; value =
 
 -- skills 1 and 2 demand each other: 2 at 1, and 1 at 4
 abbrev cycle : Catalogue
-cycle = tree (base 1 76 2 ∷ base 1 77 1 ∷ base 2 76 1 ∷ base 2 77 4 ∷ [])
+cycle = tree (base 1 requiredSkill1 2 ∷ base 1 requiredSkill1Level 1 ∷ base 2 requiredSkill1 1 ∷ base 2 requiredSkill1Level 4 ∷ [])
 
 -- 1 demands 2, that demands 3
 abbrev chain : Catalogue
-chain = tree (base 1 76 2 ∷ base 2 76 3 ∷ [])
+chain = tree (base 1 requiredSkill1 2 ∷ base 2 requiredSkill1 3 ∷ [])
 
 -- the result demands a skill at a level
 abbrev asks : ℕ → ℕ → Result
-asks id level = result 0 (has 76 (ofNat id) ∷ has 77 (ofNat level) ∷ [])
+asks id level = result 0 (has requiredSkill1 (ofNat id) ∷ has requiredSkill1Level (ofNat level) ∷ [])
 
 -- the ship, the character and one item ask for skill 1 at 3; skill 1 is trained to a level
 abbrev pilot : ℕ → Fit
@@ -67,23 +69,32 @@ STARRED =
     ∷ (Over (ofInt binary64 (negsuc 999999998)) (ofInt binary64 (negsuc 999999999)), Holds false)
     ∷ (AnyOver (inf true), HoldsOf λ _. false)
     -- a volume of 3500, and of 3500.5, in a High slot of a ship that is no capital
-    ∷ (Fitted (known (67 ∷ 68 ∷ [])) (fit ship [] (one gun 0 0 (has 67 (ofNat 3500) ∷ []) ∷ [])), Entries [])
-    ∷ (Fitted (known (67 ∷ 68 ∷ [])) (fit ship [] (one gun 0 0 (has 67 (ofBits binary64 0x40AB590000000000) ∷ []) ∷ [])), Entries (onItem 0 CapitalItem ∷ []))
+    ∷ (Fitted (known (volume ∷ isCapitalSize ∷ [])) (fit ship [] (one gun 0 0 (has volume (ofNat 3500) ∷ []) ∷ [])), Entries [])
+    ∷ (
+      Fitted (known (volume ∷ isCapitalSize ∷ [])) (fit ship [] (one gun 0 0 (has volume (ofBits binary64 0x40AB590000000000) ∷ []) ∷ [])),
+      Entries (onItem 0 CapitalItem ∷ []),
+    )
     -- 1 and 2 demand each other, 1 is demanded at 3, and by 2 at 4: 1 stands once, at 4
-    ∷ (Walked cycle (asks 1 3), Demands ((pos 1, 4) ∷ (pos 2, 1) ∷ []))
+    ∷ (Wants cycle (asks 1 3), Demands ((pos 1, 4) ∷ (pos 2, 1) ∷ []))
     ∷ []
 
 -- ---- more of skills
 abbrev pub SKILLS : List Case
 SKILLS =
     -- in the order met; a level that is not there is 0; a pair of names counts when both have ids
-    (Walked chain (asks 1 2), Demands ((pos 1, 2) ∷ (pos 2, 0) ∷ (pos 3, 0) ∷ []))
-    ∷ (Walked chain (result 0 (has 76 (ofNat 3) ∷ has 78 (ofNat 1) ∷ has 79 (ofNat 5) ∷ [])), Demands ((pos 3, 0) ∷ (pos 1, 5) ∷ (pos 2, 0) ∷ []))
-    ∷ (Walked (known (76 ∷ [])) (asks 1 3), Demands [])
+    (Wants chain (asks 1 2), Demands ((pos 1, 2) ∷ (pos 2, 0) ∷ (pos 3, 0) ∷ []))
+    ∷ (
+      Wants chain (result 0 (has requiredSkill1 (ofNat 3) ∷ has requiredSkill2 (ofNat 1) ∷ has requiredSkill2Level (ofNat 5) ∷ [])),
+      Demands ((pos 3, 0) ∷ (pos 1, 5) ∷ (pos 2, 0) ∷ []),
+    )
+    ∷ (Wants (known (requiredSkill1 ∷ [])) (asks 1 3), Demands [])
     -- casts: a level of 300, a skill of -2.7
-    ∷ (Walked (tree []) (result 0 (has 76 (ofBits binary64 0xC00599999999999A) ∷ has 77 (ofNat 300) ∷ [])), Demands ((negsuc 1, 255) ∷ []))
+    ∷ (
+      Wants (tree []) (result 0 (has requiredSkill1 (ofBits binary64 0xC00599999999999A) ∷ has requiredSkill1Level (ofNat 300) ∷ [])),
+      Demands ((negsuc 1, 255) ∷ []),
+    )
     -- the first base in stored order counts
-    ∷ (Walked (tree (base 1 76 2 ∷ base 1 76 3 ∷ [])) (asks 1 1), Demands ((pos 1, 1) ∷ (pos 2, 0) ∷ []))
+    ∷ (Wants (tree (base 1 requiredSkill1 2 ∷ base 1 requiredSkill1 3 ∷ [])) (asks 1 1), Demands ((pos 1, 1) ∷ (pos 2, 0) ∷ []))
     -- three skills are more than two
     ∷ (Exceeds 2 chain (asks 1 1), Holds true)
     ∷ (Exceeds 3 chain (asks 1 1), Holds false)
@@ -95,7 +106,7 @@ SKILLS =
     ∷ []
 
 abbrev pub EDGES : List Case
-EDGES = STARRED ++ SKILLS ++ KINDS ++ RESOURCES ++ SLOTS ++ ITEMS ++ ORDER ++ ENTRIES ++ CALLS
+EDGES = STARRED ++ SKILLS ++ KINDS ++ RESOURCES ++ SLOTS ++ ITEMS ++ CROWDS ++ ORDER ++ ENTRIES ++ CALLS
 
 -- the definitions give every outcome of a table
 abbrev pub Agree : List Case → Type 0

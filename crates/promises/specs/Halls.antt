@@ -1,25 +1,17 @@
 -- Document 01, "Hall number": what the word of a hall call says, and of each fit what its list call says.
 use Prim.Native.Nat.{ℕ, _+_, _/_, _%_, _≤_, _<_}
 use mathlib.Core.Path.{_≡_}
-use mathlib.Core.List.{List, [], _∷_}
+use mathlib.Core.List.{List, [], _∷_, _++_}
 use mathlib.Core.Logic.{_↔_}
 use lib.Dec.{T}
 use lib.ListN.{length}
 use Rattle.words.specs.Words.{countOf}
 use Rattle.catalogue.specs.Catalogue.{catalogueOf}
-use Rattle.catalogue.specs.Refusals as Catalogue
 use Rattle.fitcheck.specs.Hall.{fitCount, fits, badInput, isClear, isFaulted, fitRefused}
-use Rattle.promises.specs.Answers.{Outcome, refusal, count, Conditions, First, None}
-
-abbrev pub catalogueConditions : (catalogue : List ℕ) → Conditions
-catalogueConditions catalogue =
-    let c = catalogueOf catalogue in
-    (1, Catalogue.badLength catalogue) ∷ (2, Catalogue.badOrder c) ∷ (3, Catalogue.badField c) ∷ []
+use Rattle.promises.specs.Answers.{Outcome, refusal, count, Conditions, catalogueConditions, First, None}
 
 abbrev pub hallConditions : (catalogue input : List ℕ) → Conditions
-hallConditions catalogue input =
-    let c = catalogueOf catalogue in
-    (1, Catalogue.badLength catalogue) ∷ (2, Catalogue.badOrder c) ∷ (3, Catalogue.badField c) ∷ (4, badInput input) ∷ []
+hallConditions catalogue input = catalogueConditions catalogue ++ (4, badInput input) ∷ []
 
 -- the three numbers of an answered call, taken out of its word
 abbrev pub clearIn : ℕ → ℕ

@@ -3,7 +3,7 @@
 -- buffer by `buffered`. Read `Answers`, `Compare`, `Walks`, `Halls`, `Edges` beside this file, and validate/specs for the list.
 use Prim.Native.Nat.{ℕ, _≤_}
 use mathlib.Core.Path.{_≡_}
-use mathlib.Core.List.{List}
+use mathlib.Core.List.{List, map}
 use mathlib.Core.Logic.{_↔_}
 use lib.Dec.{T}
 use lib.ListN.{length}
@@ -14,36 +14,37 @@ use Rattle.validate.specs.Validate.{listOf}
 use Rattle.skill.specs.Skill.{tooMany, skillList}
 use Rattle.fitcheck.specs.Calls.{listCall, skillCall}
 use Rattle.fitcheck.specs.Hall.{hallCall, hallReturned}
-use Rattle.promises.specs.Answers.{Outcome, outcome, refusal, listConditions, skillConditions, None, Answers}
+use Rattle.promises.specs.Answers.{Outcome, outcome, refusal, catalogueConditions, listConditions, skillConditions, None, Answers}
 use Rattle.promises.specs.Compare.{Bytes, Grown, AddedVolumes, Kept}
 use Rattle.promises.specs.Walks.{MoreWanted, SkillsOf}
-use Rattle.promises.specs.Halls.{catalogueConditions, HallAnswers, Judged}
-use Rattle.promises.specs.Names.{nameNumbers}
+use Rattle.promises.specs.Halls.{HallAnswers, Judged}
+use Rattle.promises.specs.Names.{numbered, nameNumbers}
 use Rattle.promises.specs.Edges.{EDGES, Agree}
 
 -- the two calls, as a caller sees them
-abbrev pub listed : (catalogue fit buffer : List ℕ) → Outcome
-listed catalogue fit buffer = outcome buffer (listCall catalogue fit buffer)
+abbrev pub listOutcome : (catalogue fit buffer : List ℕ) → Outcome
+listOutcome catalogue fit buffer = outcome buffer (listCall catalogue fit buffer)
 
-abbrev pub skills : (catalogue fit : List ℕ) (result : ℕ) (buffer : List ℕ) → Outcome
-skills catalogue fit result buffer = outcome buffer (skillCall catalogue fit result buffer)
+abbrev pub skillOutcome : (catalogue fit : List ℕ) (result : ℕ) (buffer : List ℕ) → Outcome
+skillOutcome catalogue fit result buffer = outcome buffer (skillCall catalogue fit result buffer)
 
 -- Demand 1. Of any bytes, a call gives the first refusal of document 01's order whose condition holds, and no other byte than the
 -- entries' own changes; where no condition holds, it gives the list.
 abbrev pub ListAnswers : Type 0
 ListAnswers = (catalogue fit buffer : List ℕ)
-    → Answers (listConditions catalogue fit buffer) (listOf (catalogueOf catalogue) (fitOf fit)) buffer (listed catalogue fit buffer)
+    → Answers (listConditions catalogue fit buffer) (listOf (catalogueOf catalogue) (fitOf fit)) buffer (listOutcome catalogue fit buffer)
 
 abbrev pub SkillAnswers : Type 0
 SkillAnswers = (catalogue fit : List ℕ) (result : ℕ) (buffer : List ℕ)
-    → Answers (skillConditions catalogue fit result buffer) (skillList (catalogueOf catalogue) (fitOf fit) result) buffer (skills catalogue fit result buffer)
+    → Answers (skillConditions catalogue fit result buffer) (skillList (catalogueOf catalogue) (fitOf fit) result) buffer
+    (skillOutcome catalogue fit result buffer)
 
 -- No list has more than 5,141 entries, no skill list more than 512: a buffer of 123,384 bytes, or of 12,288, is never too short.
 abbrev pub ListRoom : Type 0
-ListRoom = (catalogue fit buffer : List ℕ) → 123384 ≤ length buffer → refusal (listed catalogue fit buffer) ≡ 10 → ⊥
+ListRoom = (catalogue fit buffer : List ℕ) → 123384 ≤ length buffer → refusal (listOutcome catalogue fit buffer) ≡ 10 → ⊥
 
 abbrev pub SkillRoom : Type 0
-SkillRoom = (catalogue fit : List ℕ) (result : ℕ) (buffer : List ℕ) → 12288 ≤ length buffer → refusal (skills catalogue fit result buffer) ≡ 10 → ⊥
+SkillRoom = (catalogue fit : List ℕ) (result : ℕ) (buffer : List ℕ) → 12288 ≤ length buffer → refusal (skillOutcome catalogue fit result buffer) ≡ 10 → ⊥
 
 -- Demand 3 for the list. Items and results put behind those of a fit with as many results as items, and lowered levels, make no entry
 -- vanish: it has its own place in the new list, in the old order, with a used number no lower and every other byte the same.
@@ -51,23 +52,23 @@ abbrev pub ListKept : Type 0
 ListKept = (catalogue old new oldBuffer newBuffer : List ℕ) → Bytes new
     → Grown (fitOf old) (fitOf new)
     → AddedVolumes (catalogueOf catalogue) (fitOf old) (fitOf new)
-    → refusal (listed catalogue old oldBuffer) ≡ 0
-    → refusal (listed catalogue new newBuffer) ≡ 0
-    → Kept (listed catalogue old oldBuffer) (listed catalogue new newBuffer)
+    → refusal (listOutcome catalogue old oldBuffer) ≡ 0
+    → refusal (listOutcome catalogue new newBuffer) ≡ 0
+    → Kept (listOutcome catalogue old oldBuffer) (listOutcome catalogue new newBuffer)
 
 -- Demand 3 for the skill lists of every old result, ship and character included: those are the results whose old call is answered.
 -- Volumes do not matter here.
 abbrev pub SkillKept : Type 0
 SkillKept = (catalogue old new oldBuffer newBuffer : List ℕ) (result : ℕ)
     → Grown (fitOf old) (fitOf new)
-    → refusal (skills catalogue old result oldBuffer) ≡ 0
-    → refusal (skills catalogue new result newBuffer) ≡ 0
-    → Kept (skills catalogue old result oldBuffer) (skills catalogue new result newBuffer)
+    → refusal (skillOutcome catalogue old result oldBuffer) ≡ 0
+    → refusal (skillOutcome catalogue new result newBuffer) ≡ 0
+    → Kept (skillOutcome catalogue old result oldBuffer) (skillOutcome catalogue new result newBuffer)
 
 -- The walk. An answered skill call is about a result that wants at most 512 skills. Its walk lists the wanted skills and no other, each
 -- once, in the order met, at the highest level demanded; an entry is made of each that is trained below that.
 abbrev pub SkillLists : Type 0
-SkillLists = (catalogue fit : List ℕ) (result : ℕ) (buffer : List ℕ) → refusal (skills catalogue fit result buffer) ≡ 0
+SkillLists = (catalogue fit : List ℕ) (result : ℕ) (buffer : List ℕ) → refusal (skillOutcome catalogue fit result buffer) ≡ 0
     → SkillsOf (catalogueOf catalogue) (fitOf fit) result
 
 -- The condition of refusal 9: more than 512 distinct skills are wanted.
@@ -81,11 +82,11 @@ HallCall = (catalogue input : List ℕ) → HallAnswers catalogue input (hallRet
 -- Where the catalogue is not refused, a fit is clear exactly where its list call answers with no entry, refused exactly where that refuses
 -- with 4 to 7, and faulted where it lists entries.
 abbrev pub HallFits : Type 0
-HallFits = (catalogue fit buffer : List ℕ) → None (catalogueConditions catalogue) → Judged catalogue fit buffer (listed catalogue fit buffer)
+HallFits = (catalogue fit buffer : List ℕ) → None (catalogueConditions catalogue) → Judged catalogue fit buffer (listOutcome catalogue fit buffer)
 
--- The tables number document 01's names: 0 to 87, none twice and none left out.
+-- Every name has its number of document 01, and the tables go through them in order: 0 to 87, none twice and none left out.
 abbrev pub Names : Type 0
-Names = nameNumbers ≡ from 0 88
+Names = (map (λ n. n .0) numbered ≡ map (λ n. n .1) numbered) × (nameNumbers ≡ from 0 88)
 
 -- Every edge of the table comes out as written there: the starred edges of document 01, and for every rule an input where it is listed and
 -- one where it is not. The other promises would survive a comparison turned round in a rule; this one does not.

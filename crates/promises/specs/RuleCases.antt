@@ -6,13 +6,21 @@ use mathlib.Core.List.{List, [], _∷_, map}
 use lib.IntN.{pos, negsuc}
 use lib.Ieee.{Float, nan, fin}
 use Rattle.words.specs.Words.{each, from}
+use Rattle.numbers.specs.Names.{cpuLoad, maxActiveDrones, capacity, hiSlots, turretSlotsLeft, launcherSlotsLeft, implantness, boosterness}
+use Rattle.numbers.specs.Names.{subSystemSlot, rigSize, fitsToShipType, canFitShipType12, canFitShipGroup01, canFitShipGroup20, volume}
+use Rattle.numbers.specs.Names.{isCapitalSize, fighterSquadronIsStandupLight, fighterSquadronIsStandupSupport}
+use Rattle.numbers.specs.Names.{fighterSquadronIsStandupHeavy, maxGroupFitted, maxGroupOnline, maxGroupActive, maxTypeFitted}
 use Rattle.floats.specs.Floats.{ofNat}
 use Rattle.catalogue.specs.Catalogue.{Id}
 use Rattle.fit.specs.Fit.{Attribute, Fit}
 use Rattle.entry.specs.declared.Entry.{Entry}
-use Rattle.entry.specs.declared.Rule.the-variants.{Resource, Slots, WrongSlot, NotAModule, NotADrone, NotAFighter, NotAnImplant, SlotTaken, WrongSlotIndex, SubsystemTaken, RigSize, ShipRestricted, CapitalItem, StructureItem, ShipItem, MaxGroup, MaxType, NotAHull, NotAMode, NotASkill}
+use Rattle.entry.specs.declared.Rule.the-variants.{Resource, Slots, WrongSlot, NotAModule, NotADrone, NotAFighter, NotAnImplant, SlotTaken}
+use Rattle.entry.specs.declared.Rule.the-variants.{WrongSlotIndex, SubsystemTaken, RigSize, ShipRestricted, CapitalItem, StructureItem}
+use Rattle.entry.specs.declared.Rule.the-variants.{ShipItem, MaxGroup, MaxType, NotAHull, NotAMode, NotASkill}
 use Rattle.entry.specs.Entries.{onShip, onItem}
-use Rattle.promises.specs.Cases.{ship, structure, gun, plate, shield, relay, turret, launcher, part, standupGun, drone, squadron, hardwiring, stance, gunnery, ore, ghost, unknown, known, has, result, Thing, stack, one, fitWith, fit, Fitted, Entries, Case}
+use Rattle.promises.specs.Cases.{ship, structure, gun, plate, shield, relay, turret, launcher, part, standupGun, rifle, hybrid, drone, squadron}
+use Rattle.promises.specs.Cases.{hardwiring, stance, gunnery, ore, ghost, vast, parcel, unknown, known, has, result, Thing, stack, one, fitWith}
+use Rattle.promises.specs.Cases.{fit, Fitted, Entries, Case}
 
 -- n halves, n being odd
 abbrev halves : ℕ → Float
@@ -83,27 +91,30 @@ drones = stack 3 drone 10 0 2 [] ∷ stack 100 drone 10 0 1 [] ∷ stack 2 drone
 abbrev hold : List Thing
 hold = stack 3 ore 11 0 0 [] ∷ stack 9 ghost 11 0 0 [] ∷ stack 9 unknown 11 0 0 [] ∷ []
 
-abbrev over : ℕ → ℕ → ℕ → Entry
-over kind used available = onShip (Resource kind (ofNat used) (ofNat available))
+abbrev uses : ℕ → ℕ → ℕ → Entry
+uses kind used available = onShip (Resource kind (ofNat used) (ofNat available))
 
 abbrev pub RESOURCES : List Case
 RESOURCES =
     -- `LOADS`, each resource with its own load and output
     lists (from 0 20) (fit ship (loadsOf 20 10) [])
-    (over 0 20 10 ∷ over 1 21 11 ∷ over 2 22 12 ∷ over 3 23 13 ∷ over 4 24 14 ∷ over 6 25 15 ∷ over 7 26 16 ∷ over 8 27 17 ∷ over 9 28 18 ∷ over 10 29 19 ∷ [])
+    (uses 0 20 10 ∷ uses 1 21 11 ∷ uses 2 22 12 ∷ uses 3 23 13 ∷ uses 4 24 14 ∷ uses 6 25 15 ∷ uses 7 26 16 ∷ uses 8 27 17 ∷ uses 9 28 18 ∷ uses 10 29 19 ∷ [])
     ∷ lists (from 0 20) (fit ship (loadsOf 20 20) []) []
     -- an amount that is not there is 0; a name without an id skips its line
-    ∷ lists (from 0 2) (fit ship (has 0 (ofNat 5) ∷ []) []) (over 0 5 0 ∷ [])
-    ∷ lists (from 0 1) (fit ship (has 0 (ofNat 5) ∷ []) []) []
+    ∷ lists (from 0 2) (fit ship (has cpuLoad (ofNat 5) ∷ []) []) (uses 0 5 0 ∷ [])
+    ∷ lists (from 0 1) (fit ship (has cpuLoad (ofNat 5) ∷ []) []) []
     -- `launched_drones`: DroneBay at state 2 or above, against the character's limit
-    ∷ lists (20 ∷ []) (fitWith ship (has 20 (ofNat 100) ∷ []) (has 20 (ofNat 4) ∷ []) drones) (over 5 5 4 ∷ [])
-    ∷ lists (20 ∷ []) (fitWith ship [] (has 20 (ofNat 5) ∷ []) drones) []
+    ∷ lists (maxActiveDrones ∷ []) (fitWith ship (has maxActiveDrones (ofNat 100) ∷ []) (has maxActiveDrones (ofNat 4) ∷ []) drones) (uses 5 5 4 ∷ [])
+    ∷ lists (maxActiveDrones ∷ []) (fitWith ship [] (has maxActiveDrones (ofNat 5) ∷ []) drones) []
     ∷ lists [] (fit ship [] drones) []
     -- `cargo`: volume times quantity, of the hold alone; no volume is 0
-    ∷ lists (21 ∷ []) (fit ship (has 21 (ofNat 7) ∷ []) hold) (onShip (Resource 11 (halves 15) (ofNat 7)) ∷ [])
-    ∷ lists (21 ∷ []) (fit ship (has 21 (halves 15) ∷ []) hold) []
-    ∷ lists (21 ∷ []) (fit ship [] (alone (one ore 0 0 []))) (onItem 0 NotAModule ∷ [])
+    ∷ lists (capacity ∷ []) (fit ship (has capacity (ofNat 7) ∷ []) hold) (onShip (Resource 11 (halves 15) (ofNat 7)) ∷ [])
+    ∷ lists (capacity ∷ []) (fit ship (has capacity (halves 15) ∷ []) hold) []
+    ∷ lists (capacity ∷ []) (fit ship [] (alone (one ore 0 0 []))) (onItem 0 NotAModule ∷ [])
     ∷ lists [] (fit ship [] hold) []
+    -- summed in the items' order: each 1 is lost behind 2 ^ 53, and would not be before it
+    ∷ lists (capacity ∷ []) (fit ship [] (one vast 11 0 [] ∷ one parcel 11 0 [] ∷ one parcel 11 0 [] ∷ [])) (onShip (Resource 11 (fin false 1 (pos 53)) (ofNat 0)) ∷ [])
+    ∷ lists (capacity ∷ []) (fit ship [] (one parcel 11 0 [] ∷ one parcel 11 0 [] ∷ one vast 11 0 [] ∷ [])) (onShip (Resource 11 (fin false 4503599627370497 (pos 1)) (ofNat 0)) ∷ [])
     ∷ []
 
 -- ---- slot.rs
@@ -113,27 +124,30 @@ doubled = each (from 0 6) λ slot. one gun slot 0 [] ∷ one gun slot 1 [] ∷ [
 
 -- the ship's number of slots in each rack
 abbrev room : Float → List Attribute
-room v = map (λ n. has n v) (from 22 6)
+room v = map (λ n. has n v) (from hiSlots 6)
 
 abbrev weapons : List Thing
 weapons = one turret 0 0 [] ∷ one turret 0 1 [] ∷ one launcher 0 2 [] ∷ one turret 11 0 [] ∷ []
 
 -- a part of the ship that a subsystem covers
 abbrev covers : ℕ → ℕ → Float → Thing
-covers slot index v = one part slot index (has 32 v ∷ [])
+covers slot index v = one part slot index (has subSystemSlot v ∷ [])
 
 abbrev pub SLOTS : List Case
 SLOTS =
     -- `RACKS`: more than the ship's amount, which is cast; one that is not there is 0
-    lists (from 22 6) (fit ship (room (halves 3)) doubled)
+    lists (from hiSlots 6) (fit ship (room (halves 3)) doubled)
     (onShip (Slots 0 2 1) ∷ onShip (Slots 1 2 1) ∷ onShip (Slots 2 2 1) ∷ onShip (Slots 3 2 1) ∷ onShip (Slots 4 2 1) ∷ onShip (Slots 5 2 1) ∷ [])
-    ∷ lists (from 22 6) (fit ship (room (ofNat 2)) doubled) []
-    ∷ lists (22 ∷ []) (fit ship [] (alone (one gun 0 0 []))) (onShip (Slots 0 1 0) ∷ [])
+    ∷ lists (from hiSlots 6) (fit ship (room (ofNat 2)) doubled) []
+    ∷ lists (hiSlots ∷ []) (fit ship [] (alone (one gun 0 0 []))) (onShip (Slots 0 1 0) ∷ [])
     ∷ lists [] (fit ship [] doubled) []
     -- `HARDPOINTS`: of what is fitted
-    ∷ lists (28 ∷ 29 ∷ []) (fit ship (has 28 (ofNat 1) ∷ has 29 (ofNat 1) ∷ []) weapons) (onShip (Slots 6 2 1) ∷ [])
-    ∷ lists (28 ∷ 29 ∷ []) (fit ship (has 28 (ofNat 2) ∷ []) weapons) (onShip (Slots 7 1 0) ∷ [])
-    ∷ lists (28 ∷ 29 ∷ []) (fit ship (has 28 (ofNat 2) ∷ has 29 (ofNat 1) ∷ []) weapons) []
+    ∷ lists (turretSlotsLeft ∷ launcherSlotsLeft ∷ []) (fit ship (has turretSlotsLeft (ofNat 1) ∷ has launcherSlotsLeft (ofNat 1) ∷ []) weapons)
+    (onShip (Slots 6 2 1) ∷ [])
+    ∷ lists (turretSlotsLeft ∷ launcherSlotsLeft ∷ []) (fit ship (has turretSlotsLeft (ofNat 2) ∷ []) weapons) (onShip (Slots 7 1 0) ∷ [])
+    ∷ lists (turretSlotsLeft ∷ launcherSlotsLeft ∷ []) (fit ship (has turretSlotsLeft (ofNat 2) ∷ has launcherSlotsLeft (ofNat 1) ∷ []) weapons) []
+    -- of two marks the last wins
+    ∷ lists (turretSlotsLeft ∷ launcherSlotsLeft ∷ []) (fit ship [] (alone (one hybrid 0 0 []))) (onShip (Slots 7 1 0) ∷ [])
     -- WrongSlot: a fitted item in another rack than the last of its marks says
     ∷ lists [] (fit ship [] (alone (one shield 0 0 []))) (onItem 0 (WrongSlot 1) ∷ [])
     ∷ lists [] (fit ship [] (alone (one shield 1 0 []))) []
@@ -159,31 +173,37 @@ SLOTS =
     ∷ lists [] (fit ship [] (pair (one gun 0 3 []) (one gun 0 4 []))) []
     ∷ lists [] (fit ship [] (pair (one gun 0 3 []) (one gun 1 3 []))) []
     ∷ lists [] (fit ship [] (pair (one squadron 6 2 []) (one squadron 6 2 []))) (onItem 0 SlotTaken ∷ onItem 1 SlotTaken ∷ [])
+    ∷ lists [] (fit ship [] (pair (one gun 3 2 []) (one gun 3 2 []))) (onItem 0 SlotTaken ∷ onItem 1 SlotTaken ∷ [])
     ∷ lists [] (fit ship [] (pair (one squadron 7 0 []) (one squadron 7 0 []))) []
     ∷ lists [] (fit ship [] (pair (one drone 10 0 []) (one drone 10 0 []))) []
     ∷ lists [] (fit ship [] (pair (one ore 11 0 []) (one ore 11 0 []))) []
     ∷ lists [] (fit ship [] (pair (one hardwiring 8 5 []) (one hardwiring 8 5 []))) (onItem 0 SlotTaken ∷ onItem 1 SlotTaken ∷ [])
     -- WrongSlotIndex: an implant's or a booster's own number, cast to u16
-    ∷ lists (30 ∷ 31 ∷ []) (fit ship [] (alone (one hardwiring 8 3 (has 30 (ofNat 4) ∷ has 31 (ofNat 3) ∷ [])))) (onItem 0 (WrongSlotIndex 4) ∷ [])
-    ∷ lists (30 ∷ 31 ∷ []) (fit ship [] (alone (one hardwiring 8 4 (has 30 (halves 9) ∷ [])))) []
-    ∷ lists (30 ∷ 31 ∷ []) (fit ship [] (alone (one hardwiring 8 3 (has 30 (ofNat 70000) ∷ [])))) (onItem 0 (WrongSlotIndex 65535) ∷ [])
-    ∷ lists (30 ∷ 31 ∷ []) (fit ship [] (alone (one hardwiring 9 300 (has 30 (ofNat 300) ∷ has 31 (ofNat 11) ∷ [])))) (onItem 0 (WrongSlotIndex 11) ∷ [])
-    ∷ lists (30 ∷ 31 ∷ []) (fit ship [] (alone (one hardwiring 9 300 (has 31 (ofNat 300) ∷ [])))) []
-    ∷ lists (30 ∷ 31 ∷ []) (fit ship [] (alone (one hardwiring 8 3 []))) []
-    ∷ lists [] (fit ship [] (alone (one hardwiring 8 3 (has 30 (ofNat 4) ∷ [])))) []
+    ∷ lists (implantness ∷ boosterness ∷ []) (fit ship [] (alone (one hardwiring 8 3 (has implantness (ofNat 4) ∷ has boosterness (ofNat 3) ∷ []))))
+    (onItem 0 (WrongSlotIndex 4) ∷ [])
+    ∷ lists (implantness ∷ boosterness ∷ []) (fit ship [] (alone (one hardwiring 8 4 (has implantness (halves 9) ∷ [])))) []
+    ∷ lists (implantness ∷ boosterness ∷ []) (fit ship [] (alone (one hardwiring 8 3 (has implantness (ofNat 70000) ∷ []))))
+    (onItem 0 (WrongSlotIndex 65535) ∷ [])
+    ∷ lists (implantness ∷ boosterness ∷ [])
+    (fit ship [] (alone (one hardwiring 9 300 (has implantness (ofNat 300) ∷ has boosterness (ofNat 11) ∷ []))))
+    (onItem 0 (WrongSlotIndex 11) ∷ [])
+    ∷ lists (implantness ∷ boosterness ∷ []) (fit ship [] (alone (one hardwiring 9 300 (has boosterness (ofNat 300) ∷ [])))) []
+    ∷ lists (implantness ∷ boosterness ∷ []) (fit ship [] (alone (one hardwiring 8 3 []))) []
+    ∷ lists [] (fit ship [] (alone (one hardwiring 8 3 (has implantness (ofNat 4) ∷ [])))) []
     -- SubsystemTaken: the same part of the ship; a NaN equals nothing, the two zeros each other
-    ∷ lists (32 ∷ []) (fit ship [] (pair (covers 4 0 (ofNat 125)) (covers 4 1 (ofNat 125)))) (onItem 0 SubsystemTaken ∷ onItem 1 SubsystemTaken ∷ [])
-    ∷ lists (32 ∷ []) (fit ship [] (pair (covers 4 0 (ofNat 125)) (covers 4 1 (ofNat 126)))) []
-    ∷ lists (32 ∷ []) (fit ship [] (pair (covers 4 0 nan) (covers 4 1 nan))) []
-    ∷ lists (32 ∷ []) (fit ship [] (pair (covers 4 0 (fin false 0 (pos 0))) (covers 4 1 (fin true 0 (pos 0))))) (onItem 0 SubsystemTaken ∷ onItem 1 SubsystemTaken ∷ [])
-    ∷ lists (32 ∷ []) (fit ship [] (pair (covers 4 0 (ofNat 125)) (covers 0 1 (ofNat 125)))) []
+    ∷ lists (subSystemSlot ∷ []) (fit ship [] (pair (covers 4 0 (ofNat 125)) (covers 4 1 (ofNat 125)))) (onItem 0 SubsystemTaken ∷ onItem 1 SubsystemTaken ∷ [])
+    ∷ lists (subSystemSlot ∷ []) (fit ship [] (pair (covers 4 0 (ofNat 125)) (covers 4 1 (ofNat 126)))) []
+    ∷ lists (subSystemSlot ∷ []) (fit ship [] (pair (covers 4 0 nan) (covers 4 1 nan))) []
+    ∷ lists (subSystemSlot ∷ []) (fit ship [] (pair (covers 4 0 (fin false 0 (pos 0))) (covers 4 1 (fin true 0 (pos 0)))))
+    (onItem 0 SubsystemTaken ∷ onItem 1 SubsystemTaken ∷ [])
+    ∷ lists (subSystemSlot ∷ []) (fit ship [] (pair (covers 4 0 (ofNat 125)) (covers 0 1 (ofNat 125)))) []
     ∷ lists [] (fit ship [] (pair (covers 4 0 (ofNat 125)) (covers 4 1 (ofNat 125)))) []
     ∷ []
 
 -- ---- item.rs
 -- a rig of a size
 abbrev rigged : Float → List Thing
-rigged v = alone (one gun 3 0 (has 33 v ∷ []))
+rigged v = alone (one gun 3 0 (has rigSize v ∷ []))
 
 -- a gun in a High slot with some attributes
 abbrev high : List Attribute → List Thing
@@ -196,63 +216,113 @@ inState index state attributes = stack 1 gun 0 index state attributes
 abbrev pub ITEMS : List Case
 ITEMS =
     -- RigSize: unequal before the cast, shown after it; both have one
-    lists (33 ∷ []) (fit ship (has 33 (ofNat 1) ∷ []) (rigged (ofNat 2))) (onItem 0 (RigSize 1 2) ∷ [])
-    ∷ lists (33 ∷ []) (fit ship (has 33 (ofNat 1) ∷ []) (rigged (halves 3))) (onItem 0 (RigSize 1 1) ∷ [])
-    ∷ lists (33 ∷ []) (fit ship (has 33 (ofNat 1) ∷ []) (rigged nan)) (onItem 0 (RigSize 1 0) ∷ [])
-    ∷ lists (33 ∷ []) (fit ship (has 33 (ofNat 1) ∷ []) (rigged (ofNat 1))) []
-    ∷ lists (33 ∷ []) (fit ship [] (rigged (ofNat 2))) []
-    ∷ lists (33 ∷ []) (fit ship (has 33 (ofNat 1) ∷ []) (alone (one gun 3 0 []))) []
-    ∷ lists (33 ∷ []) (fit ship (has 33 (ofNat 1) ∷ []) (high (has 33 (ofNat 2) ∷ []))) []
-    ∷ lists [] (fit ship (has 33 (ofNat 1) ∷ []) (rigged (ofNat 2))) []
+    lists (rigSize ∷ []) (fit ship (has rigSize (ofNat 1) ∷ []) (rigged (ofNat 2))) (onItem 0 (RigSize 1 2) ∷ [])
+    ∷ lists (rigSize ∷ []) (fit ship (has rigSize (ofNat 1) ∷ []) (rigged (halves 3))) (onItem 0 (RigSize 1 1) ∷ [])
+    ∷ lists (rigSize ∷ []) (fit ship (has rigSize (ofNat 1) ∷ []) (rigged nan)) (onItem 0 (RigSize 1 0) ∷ [])
+    ∷ lists (rigSize ∷ []) (fit ship (has rigSize (ofNat 1) ∷ []) (rigged (ofNat 1))) []
+    ∷ lists (rigSize ∷ []) (fit ship [] (rigged (ofNat 2))) []
+    ∷ lists (rigSize ∷ []) (fit ship (has rigSize (ofNat 1) ∷ []) (alone (one gun 3 0 []))) []
+    ∷ lists (rigSize ∷ []) (fit ship (has rigSize (ofNat 1) ∷ []) (high (has rigSize (ofNat 2) ∷ []))) []
+    ∷ lists [] (fit ship (has rigSize (ofNat 1) ∷ []) (rigged (ofNat 2))) []
     -- ShipRestricted: lists types or groups, and neither the ship's
-    ∷ lists (from 34 33) (fit ship [] (high (has 34 (ofNat 7) ∷ []))) (onItem 0 ShipRestricted ∷ [])
-    ∷ lists (from 34 33) (fit ship [] (high (has 34 (ofNat 7) ∷ has 46 (halves 3) ∷ []))) []
-    ∷ lists (from 34 33) (fit ship [] (high (has 47 (ofNat 26) ∷ []))) (onItem 0 ShipRestricted ∷ [])
-    ∷ lists (from 34 33) (fit ship [] (high (has 47 (ofNat 26) ∷ has 66 (ofNat 25) ∷ []))) []
-    ∷ lists (from 34 33) (fit ship [] (high (has 34 (ofNat 7) ∷ has 47 (ofNat 25) ∷ []))) []
-    ∷ lists (from 34 33) (fit ship [] (high [])) []
-    ∷ lists (from 34 33) (fit ship [] (alone (one gun 11 0 (has 34 (ofNat 7) ∷ [])))) []
-    ∷ lists [] (fit ship [] (high (has 34 (ofNat 7) ∷ []))) []
+    ∷ lists (from fitsToShipType 33) (fit ship [] (high (has fitsToShipType (ofNat 7) ∷ []))) (onItem 0 ShipRestricted ∷ [])
+    ∷ lists (from fitsToShipType 33) (fit ship [] (high (has fitsToShipType (ofNat 7) ∷ has canFitShipType12 (halves 3) ∷ []))) []
+    ∷ lists (from fitsToShipType 33) (fit ship [] (high (has canFitShipGroup01 (ofNat 26) ∷ []))) (onItem 0 ShipRestricted ∷ [])
+    ∷ lists (from fitsToShipType 33) (fit ship [] (high (has canFitShipGroup01 (ofNat 26) ∷ has canFitShipGroup20 (ofNat 25) ∷ []))) []
+    ∷ lists (from fitsToShipType 33) (fit ship [] (high (has fitsToShipType (ofNat 7) ∷ has canFitShipGroup01 (ofNat 25) ∷ []))) []
+    ∷ lists (from fitsToShipType 33) (fit ship [] (high [])) []
+    -- a listed 0 and a negative one are listed; -1.5 is cast to -1
+    ∷ lists (from fitsToShipType 33) (fit ship [] (high (has fitsToShipType (ofNat 0) ∷ []))) (onItem 0 ShipRestricted ∷ [])
+    ∷ lists (from fitsToShipType 33) (fit ship [] (high (has canFitShipGroup01 (fin true 3 (negsuc 0)) ∷ []))) (onItem 0 ShipRestricted ∷ [])
+    ∷ lists (from fitsToShipType 33) (fit ship [] (alone (one gun 11 0 (has fitsToShipType (ofNat 7) ∷ [])))) []
+    ∷ lists [] (fit ship [] (high (has fitsToShipType (ofNat 7) ∷ []))) []
     -- CapitalItem: not on a capital or a structure, not a rig, not in the hold
-    ∷ lists (67 ∷ 68 ∷ []) (fit ship (has 68 (ofNat 0) ∷ []) (high (has 67 (ofNat 4000) ∷ []))) (onItem 0 CapitalItem ∷ [])
-    ∷ lists (67 ∷ 68 ∷ []) (fit ship (has 68 (ofNat 1) ∷ []) (high (has 67 (ofNat 4000) ∷ []))) []
-    ∷ lists (67 ∷ 68 ∷ []) (fit structure [] (alone (one standupGun 0 0 (has 67 (ofNat 4000) ∷ [])))) []
-    ∷ lists (67 ∷ 68 ∷ []) (fit ship [] (alone (one gun 3 0 (has 67 (ofNat 4000) ∷ [])))) []
-    ∷ lists (67 ∷ 68 ∷ []) (fit ship [] (alone (one gun 11 0 (has 67 (ofNat 4000) ∷ [])))) []
-    ∷ lists (67 ∷ []) (fit ship [] (high (has 67 (ofNat 4000) ∷ []))) []
+    ∷ lists (volume ∷ isCapitalSize ∷ []) (fit ship (has isCapitalSize (ofNat 0) ∷ []) (high (has volume (ofNat 4000) ∷ []))) (onItem 0 CapitalItem ∷ [])
+    ∷ lists (volume ∷ isCapitalSize ∷ []) (fit ship (has isCapitalSize (ofNat 1) ∷ []) (high (has volume (ofNat 4000) ∷ []))) []
+    ∷ lists (volume ∷ isCapitalSize ∷ []) (fit structure [] (alone (one standupGun 0 0 (has volume (ofNat 4000) ∷ [])))) []
+    ∷ lists (volume ∷ isCapitalSize ∷ []) (fit ship [] (alone (one gun 3 0 (has volume (ofNat 4000) ∷ [])))) []
+    ∷ lists (volume ∷ isCapitalSize ∷ []) (fit ship [] (alone (one gun 11 0 (has volume (ofNat 4000) ∷ [])))) []
+    ∷ lists (volume ∷ []) (fit ship [] (high (has volume (ofNat 4000) ∷ []))) []
+    -- a capital's mark is any number but 0: a NaN and a negative one are marks
+    ∷ lists (volume ∷ isCapitalSize ∷ []) (fit ship (has isCapitalSize nan ∷ []) (high (has volume (ofNat 4000) ∷ []))) []
+    ∷ lists (volume ∷ isCapitalSize ∷ []) (fit ship (has isCapitalSize (fin true 1 (pos 0)) ∷ []) (high (has volume (ofNat 4000) ∷ []))) []
     -- StructureItem and ShipItem: category 66, or a mark of a squadron; what the hull has to accept
-    ∷ lists (from 69 3) (fit ship [] (alone (one standupGun 0 0 []))) (onItem 0 StructureItem ∷ [])
-    ∷ lists (from 69 3) (fit ship [] (pair (one squadron 6 0 (has 69 (ofNat 1) ∷ [])) (one squadron 7 0 (has 71 (ofNat 1) ∷ [])))) (onItem 0 StructureItem ∷ onItem 1 StructureItem ∷ [])
-    ∷ lists (from 69 3) (fit ship [] (alone (one squadron 6 0 (has 70 (ofNat 0) ∷ [])))) []
-    ∷ lists (from 69 3) (fit structure [] (pair (one gun 0 0 []) (one squadron 6 0 []))) (onItem 0 ShipItem ∷ onItem 1 ShipItem ∷ [])
-    ∷ lists (from 69 3) (fit structure [] (pair (one standupGun 0 0 []) (one squadron 6 0 (has 70 (ofNat 1) ∷ [])))) []
-    ∷ lists (from 69 3) (fit structure [] (pair (one gun 11 0 []) (one drone 10 0 []))) []
-    ∷ lists [] (fit ship [] (pair (one standupGun 0 0 []) (one squadron 6 0 (has 69 (ofNat 1) ∷ [])))) (onItem 0 StructureItem ∷ [])
+    ∷ lists (from fighterSquadronIsStandupLight 3) (fit ship [] (alone (one standupGun 0 0 []))) (onItem 0 StructureItem ∷ [])
+    ∷ lists (from fighterSquadronIsStandupLight 3)
+    (fit ship []
+    (pair (one squadron 6 0 (has fighterSquadronIsStandupLight (ofNat 1) ∷ [])) (one squadron 7 0 (has fighterSquadronIsStandupHeavy (ofNat 1) ∷ []))))
+    (onItem 0 StructureItem ∷ onItem 1 StructureItem ∷ [])
+    ∷ lists (from fighterSquadronIsStandupLight 3) (fit ship [] (alone (one squadron 6 0 (has fighterSquadronIsStandupSupport (ofNat 0) ∷ [])))) []
+    ∷ lists (from fighterSquadronIsStandupLight 3) (fit structure [] (pair (one gun 0 0 []) (one squadron 6 0 []))) (onItem 0 ShipItem ∷ onItem 1 ShipItem ∷ [])
+    ∷ lists (from fighterSquadronIsStandupLight 3)
+    (fit structure [] (pair (one standupGun 0 0 []) (one squadron 6 0 (has fighterSquadronIsStandupSupport (ofNat 1) ∷ []))))
+    []
+    ∷ lists (from fighterSquadronIsStandupLight 3) (fit structure [] (pair (one gun 11 0 []) (one drone 10 0 []))) []
+    ∷ lists [] (fit ship [] (pair (one standupGun 0 0 []) (one squadron 6 0 (has fighterSquadronIsStandupLight (ofNat 1) ∷ [])))) (onItem 0 StructureItem ∷ [])
+    -- and so is a squadron's
+    ∷ lists (from fighterSquadronIsStandupLight 3)
+    (fit ship []
+    (pair (one squadron 6 0 (has fighterSquadronIsStandupLight nan ∷ [])) (one squadron 7 0 (has fighterSquadronIsStandupHeavy (fin true 1 (pos 0)) ∷ []))))
+    (onItem 0 StructureItem ∷ onItem 1 StructureItem ∷ [])
     -- MaxGroup: fitted, online, active; each pair by its own limit; limit by limit, then pair by pair
-    ∷ lists (from 72 3) (fit ship [] (inState 0 1 (has 72 (ofNat 1) ∷ []) ∷ inState 1 0 [] ∷ one plate 1 0 [] ∷ one gun 11 0 [] ∷ [])) (onItem 0 (MaxGroup (pos 50) 0 2 1) ∷ [])
-    ∷ lists (from 72 3) (fit ship [] (pair (inState 0 1 (has 73 (ofNat 0) ∷ [])) (inState 1 0 []))) (onItem 0 (MaxGroup (pos 50) 1 1 0) ∷ [])
-    ∷ lists (from 72 3) (fit ship [] (inState 0 2 (has 74 (ofNat 1) ∷ []) ∷ inState 1 3 [] ∷ inState 2 1 [] ∷ [])) (onItem 0 (MaxGroup (pos 50) 2 2 1) ∷ [])
-    ∷ lists (from 72 3) (fit ship [] (pair (inState 0 1 (has 72 (ofNat 1) ∷ has 73 (ofNat 0) ∷ [])) (inState 1 1 (has 72 (halves 1) ∷ []))))
+    ∷ lists (from maxGroupFitted 3)
+    (fit ship [] (inState 0 1 (has maxGroupFitted (ofNat 1) ∷ []) ∷ inState 1 0 [] ∷ one plate 1 0 [] ∷ one gun 11 0 [] ∷ []))
+    (onItem 0 (MaxGroup (pos 50) 0 2 1) ∷ [])
+    ∷ lists (from maxGroupFitted 3) (fit ship [] (pair (inState 0 1 (has maxGroupOnline (ofNat 0) ∷ [])) (inState 1 0 [])))
+    (onItem 0 (MaxGroup (pos 50) 1 1 0) ∷ [])
+    ∷ lists (from maxGroupFitted 3) (fit ship [] (inState 0 2 (has maxGroupActive (ofNat 1) ∷ []) ∷ inState 1 3 [] ∷ inState 2 1 [] ∷ []))
+    (onItem 0 (MaxGroup (pos 50) 2 2 1) ∷ [])
+    ∷ lists (from maxGroupFitted 3)
+    (fit ship [] (pair (inState 0 1 (has maxGroupFitted (ofNat 1) ∷ has maxGroupOnline (ofNat 0) ∷ [])) (inState 1 1 (has maxGroupFitted (halves 1) ∷ []))))
     (onItem 0 (MaxGroup (pos 50) 0 2 1) ∷ onItem 1 (MaxGroup (pos 50) 0 2 0) ∷ onItem 0 (MaxGroup (pos 50) 1 2 0) ∷ [])
-    ∷ lists (from 72 3) (fit ship [] (pair (inState 0 1 (has 72 (ofNat 2) ∷ [])) (inState 1 1 []))) []
-    ∷ lists (from 72 3) (fit ship [] (alone (one gun 11 0 (has 72 (ofNat 0) ∷ [])))) []
-    ∷ lists [] (fit ship [] (alone (inState 0 1 (has 72 (ofNat 0) ∷ [])))) []
+    ∷ lists (from maxGroupFitted 3) (fit ship [] (pair (inState 0 1 (has maxGroupFitted (ofNat 2) ∷ [])) (inState 1 1 []))) []
+    ∷ lists (from maxGroupFitted 3) (fit ship [] (alone (one gun 11 0 (has maxGroupFitted (ofNat 0) ∷ [])))) []
+    -- two types of one group count together; a pair that is not counted itself; a type that is not there is of group 0
+    ∷ lists (from maxGroupFitted 3) (fit ship [] (pair (inState 0 1 (has maxGroupFitted (ofNat 1) ∷ [])) (one rifle 0 1 [])))
+    (onItem 0 (MaxGroup (pos 50) 0 2 1) ∷ [])
+    ∷ lists (from maxGroupFitted 3) (fit ship [] (pair (inState 0 1 (has maxGroupActive (ofNat 0) ∷ [])) (inState 1 2 [])))
+    (onItem 0 (MaxGroup (pos 50) 2 1 0) ∷ [])
+    ∷ lists (from maxGroupFitted 3) (fit ship [] (alone (one unknown 0 0 (has maxGroupFitted (ofNat 0) ∷ []))))
+    (onItem 0 NotAModule ∷ onItem 0 (MaxGroup (pos 0) 0 1 0) ∷ [])
+    ∷ lists [] (fit ship [] (alone (inState 0 1 (has maxGroupFitted (ofNat 0) ∷ [])))) []
     -- MaxType: fitted, of the same type
-    ∷ lists (75 ∷ []) (fit ship [] (inState 0 1 (has 75 (ofNat 1) ∷ []) ∷ inState 1 0 [] ∷ one plate 1 0 [] ∷ one gun 11 0 [] ∷ [])) (onItem 0 (MaxType gun 2 1) ∷ [])
-    ∷ lists (75 ∷ []) (fit ship [] (inState 0 1 (has 75 (ofNat 1) ∷ []) ∷ one plate 1 0 [] ∷ one gun 11 0 [] ∷ [])) []
-    ∷ lists (75 ∷ []) (fit ship [] (alone (one gun 11 0 (has 75 (ofNat 0) ∷ [])))) []
-    ∷ lists [] (fit ship [] (alone (inState 0 1 (has 75 (ofNat 0) ∷ [])))) []
+    ∷ lists (maxTypeFitted ∷ [])
+    (fit ship [] (inState 0 1 (has maxTypeFitted (ofNat 1) ∷ []) ∷ inState 1 0 [] ∷ one plate 1 0 [] ∷ one gun 11 0 [] ∷ []))
+    (onItem 0 (MaxType gun 2 1) ∷ [])
+    ∷ lists (maxTypeFitted ∷ []) (fit ship [] (inState 0 1 (has maxTypeFitted (ofNat 1) ∷ []) ∷ one plate 1 0 [] ∷ one gun 11 0 [] ∷ [])) []
+    ∷ lists (maxTypeFitted ∷ []) (fit ship [] (alone (one gun 11 0 (has maxTypeFitted (ofNat 0) ∷ [])))) []
+    -- another type of the same group does not count
+    ∷ lists (maxTypeFitted ∷ []) (fit ship [] (pair (inState 0 1 (has maxTypeFitted (ofNat 1) ∷ [])) (one rifle 0 1 []))) []
+    ∷ lists [] (fit ship [] (alone (inState 0 1 (has maxTypeFitted (ofNat 0) ∷ [])))) []
+    ∷ []
+
+-- ---- 256 pairs: amounts that 8 bits do not hold
+-- as many guns in High slots as a fit can have pairs; the first has these attributes
+abbrev crowd : List Attribute → List Thing
+crowd attributes = one gun 0 0 attributes ∷ map (λ i. one gun 0 i []) (from 1 255)
+
+-- the ship's slots, and the first gun's limits of its group and its type
+abbrev crowded : Float → Fit
+crowded v = fit ship (has hiSlots v ∷ []) (crowd (has maxGroupFitted v ∷ has maxTypeFitted v ∷ []))
+
+abbrev pub CROWDS : List Case
+CROWDS =
+    lists (hiSlots ∷ maxGroupFitted ∷ maxTypeFitted ∷ []) (crowded (ofNat 256)) []
+    ∷ lists (hiSlots ∷ maxGroupFitted ∷ maxTypeFitted ∷ []) (crowded (ofNat 255))
+    (onShip (Slots 0 256 255) ∷ onItem 0 (MaxGroup (pos 50) 0 256 255) ∷ onItem 0 (MaxType gun 256 255) ∷ [])
     ∷ []
 
 -- ---- all at once: the order of `validate`, of its files and of the eight slot checks
 abbrev manifest : List Thing
 manifest =
-    stack 1 gun 0 0 2 (has 34 (ofNat 7) ∷ has 67 (ofNat 4000) ∷ has 72 (ofNat 0) ∷ has 73 (ofNat 0) ∷ has 74 (ofNat 0) ∷ has 75 (ofNat 0) ∷ [])
+    stack 1 gun 0 0 2
+    (has fitsToShipType (ofNat 7) ∷ has volume (ofNat 4000)
+    ∷ has maxGroupFitted (ofNat 0) ∷ has maxGroupOnline (ofNat 0) ∷ has maxGroupActive (ofNat 0) ∷ has maxTypeFitted (ofNat 0) ∷ [])
     ∷ one turret 0 0 []
-    ∷ one shield 3 0 (has 33 (ofNat 2) ∷ [])
+    ∷ one shield 3 0 (has rigSize (ofNat 2) ∷ [])
     ∷ stack 2 drone 10 0 2 []
     ∷ stack 2 ore 11 0 0 []
-    ∷ one gun 8 3 (has 30 (ofNat 4) ∷ [])
+    ∷ one gun 8 3 (has implantness (ofNat 4) ∷ [])
     ∷ covers 4 0 (ofNat 125)
     ∷ covers 4 1 (ofNat 125)
     ∷ one standupGun 5 0 []
@@ -263,7 +333,13 @@ manifest =
 
 abbrev broken : Fit
 broken = record {
-  frame = record { ship = ship; modeFlag = 1; mode = gun; shipResult = result 0 (has 0 (ofNat 5) ∷ has 33 (ofNat 1) ∷ []); characterResult = result 0 (has 20 (ofNat 1) ∷ []) };
+  frame = record {
+    ship = ship;
+    modeFlag = 1;
+    mode = gun;
+    shipResult = result 0 (has cpuLoad (ofNat 5) ∷ has rigSize (ofNat 1) ∷ []);
+    characterResult = result 0 (has maxActiveDrones (ofNat 1) ∷ []);
+  };
   skills = gun ∷ [];
   levels = 5 ∷ [];
   items = map (λ t. t .0) manifest;
@@ -274,7 +350,7 @@ abbrev pub ORDER : List Case
 ORDER =
     lists (from 0 88) broken
     (onShip NotAMode ∷ onShip (NotASkill gun)
-    ∷ over 0 5 0 ∷ over 5 2 1 ∷ over 11 5 0
+    ∷ uses 0 5 0 ∷ uses 5 2 1 ∷ uses 11 5 0
     ∷ onShip (Slots 0 3 0) ∷ onShip (Slots 3 1 0) ∷ onShip (Slots 4 2 0) ∷ onShip (Slots 5 1 0)
     ∷ onShip (Slots 6 1 0)
     ∷ onItem 0 SlotTaken
@@ -293,8 +369,8 @@ ORDER =
     ∷ onItem 0 (MaxGroup (pos 50) 0 1 0) ∷ onItem 0 (MaxGroup (pos 50) 1 1 0) ∷ onItem 0 (MaxGroup (pos 50) 2 1 0)
     ∷ onItem 0 (MaxType gun 1 0) ∷ [])
     -- pairs that fail several of the eight checks
-    ∷ lists (from 30 3) (fit ship [] (pair (one ore 9 1 (has 31 (ofNat 2) ∷ [])) (one ore 9 1 [])))
+    ∷ lists (from implantness 3) (fit ship [] (pair (one ore 9 1 (has boosterness (ofNat 2) ∷ [])) (one ore 9 1 [])))
     (onItem 0 NotAnImplant ∷ onItem 0 SlotTaken ∷ onItem 0 (WrongSlotIndex 2) ∷ onItem 1 NotAnImplant ∷ onItem 1 SlotTaken ∷ [])
-    ∷ lists (32 ∷ []) (fit ship [] (pair (one shield 4 0 (has 32 (ofNat 1) ∷ [])) (one drone 4 0 (has 32 (ofNat 1) ∷ []))))
+    ∷ lists (subSystemSlot ∷ []) (fit ship [] (pair (one shield 4 0 (has subSystemSlot (ofNat 1) ∷ [])) (one drone 4 0 (has subSystemSlot (ofNat 1) ∷ []))))
     (onItem 0 (WrongSlot 1) ∷ onItem 0 SlotTaken ∷ onItem 0 SubsystemTaken ∷ onItem 1 NotAModule ∷ onItem 1 SlotTaken ∷ onItem 1 SubsystemTaken ∷ [])
     ∷ []

@@ -1,3 +1,4 @@
--- Laws of racks and hardpoints: counts of pairs, and what is reported.
-pub mod Counts
+-- Laws of racks and hardpoints: the tables' rows, the test of a hardpoint, and what is reported.
+pub mod Rows
+pub mod Taking
 pub mod Reports

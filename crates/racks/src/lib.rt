@@ -3,50 +3,64 @@ use catalogue::AttributeId;
 use entry::Entry;
 use entry::Rule;
 use entry::Target;
+use numbers::names;
+use numbers::slots;
 ghost use mathlib.Core.Path.{_≡_};
-ghost use mathlib.Core.List.{List, _++_};
+ghost use mathlib.Core.List.{List};
 ghost use Prim.Native.Nat.{ℕ, _+_, _<_, _≤_};
 ghost use Rattle.words.specs.Words.{countOf};
 ghost use Rattle.fit.specs.Sound as Fit;
-ghost use Rattle.entry.specs.Wrote.{Wrote};
+ghost use Rattle.entry.specs.Wrote.{Wrote, Room};
 ghost use Rattle.context.specs.Context.{isIn};
-ghost use Rattle.context.specs.Gathered.{pairCount, pairAt, pairsOf, contextOf, Ready, Hardpoints};
-ghost use Rattle.slot.specs.Slot as Slot;
-ghost use Rattle.slot.specs.Tables.{rackNumbers, hardpointNumbers, rowAt, inRack, onHardpoint};
+ghost use Rattle.context.specs.Gathered.{pairCount, pairAt, pairsOf, contextOf, Gathered};
+ghost use Rattle.racks.specs.Racks as Racks;
+ghost use Rattle.racks.specs.Racks.{rowAt, inRack, onHardpoint, takesHardpoint, racksAndHardpoints};
 
-// A rack, and the name of the ship attribute saying how many slots it has. A ship without the attribute has no such rack
-// at all.
-const RACKS: [u8; 12] = [0, 22, 1, 23, 2, 24, 3, 25, 4, 26, 5, 27];
-
-// A hardpoint, and the name of the ship attribute saying how many there are. A weapon takes one on top of the slot it sits
-// in.
-const HARDPOINTS: [u8; 4] = [6, 28, 7, 29];
-
-// A row of a table.
+// A slot, and the name of the ship attribute saying how many of them it has.
 struct Row {
     slot: u8,
     name: u32,
 }
 
-fn rack(i: usize) -> Row
-    requires { ⌜ i < 6 ⌝ }
-    ensures { λ r. ⌜ (r .slot ≡ rowAt rackNumbers i .0) × (r .name ≡ rowAt rackNumbers i .1) ⌝ }
-{
+// A ship without the attribute has no such rack at all.
+const RACKS: [Row; 6] = [
     Row {
-        slot: RACKS[2 * i],
-        name: image::wide32(RACKS[2 * i + 1]),
-    }
-}
+        slot: slots::HIGH,
+        name: names::HI_SLOTS,
+    },
+    Row {
+        slot: slots::MEDIUM,
+        name: names::MED_SLOTS,
+    },
+    Row {
+        slot: slots::LOW,
+        name: names::LOW_SLOTS,
+    },
+    Row {
+        slot: slots::RIG,
+        name: names::RIG_SLOTS,
+    },
+    Row {
+        slot: slots::SUBSYSTEM,
+        name: names::MAX_SUBSYSTEMS,
+    },
+    Row {
+        slot: slots::SERVICE,
+        name: names::SERVICE_SLOTS,
+    },
+];
 
-fn hardpoint(i: usize) -> Row
-    requires { ⌜ i < 2 ⌝ }
-    ensures { λ r. ⌜ (r .slot ≡ rowAt hardpointNumbers i .0) × (r .name ≡ rowAt hardpointNumbers i .1) ⌝ }
-{
+// A weapon takes a hardpoint on top of the slot it sits in.
+const HARDPOINTS: [Row; 2] = [
     Row {
-        slot: HARDPOINTS[2 * i],
-        name: image::wide32(HARDPOINTS[2 * i + 1]),
-    }
-}
+        slot: slots::TURRET,
+        name: names::TURRET_SLOTS_LEFT,
+    },
+    Row {
+        slot: slots::LAUNCHER,
+        name: names::LAUNCHER_SLOTS_LEFT,
+    },
+];
 
 // How many pairs sit in a rack.
 fn in_rack(fit: &[u8], slot: u8) -> u32
@@ -64,57 +78,64 @@ fn in_rack(fit: &[u8], slot: u8) -> u32
 }
 
 // Whether pair i is fitted and takes a hardpoint.
-fn takes_hardpoint(fit: &[u8], hardpoints: &[u8; 256], i: usize, slot: u8) -> bool
-    requires { ⌜ Fit.Sound (now fit) × (i < pairCount (now fit)) × (slot < 8) ⌝ }
-    ensures { λ r. ⌜ ((catalogue : List ℕ) → Hardpoints catalogue (now (fit .entry)) (now (hardpoints .entry)) → r ≡ Slot.takesHardpoint slot (pairAt catalogue (now (fit .entry)) i)) ⌝ }
+fn takes_hardpoint(catalogue: &[u8], fit: &[u8], facts: &[u32; 1797], slot: u8, i: usize) -> bool
+    requires { ⌜ Gathered (now catalogue) (now fit) (now facts) × (i < pairCount (now fit)) × (slot < 8) ⌝ }
+    ensures { λ r. ⌜ r ≡ takesHardpoint slot (pairAt (now (catalogue .entry)) (now (fit .entry)) i) ⌝ }
 {
     words::both(
-        context::is_fitted(fit::item_slot(fit, i)),
-        context::slot_at(hardpoints, i) == slot,
+        context::is_fitted_at(fit, i),
+        context::hardpoint(catalogue, fit, facts, i) == slot,
     )
 }
 
 // How many pairs take a hardpoint.
-fn on_hardpoint(fit: &[u8], hardpoints: &[u8; 256], slot: u8) -> u32
-    requires { ⌜ Fit.Sound (now fit) × (slot < 8) ⌝ }
-    ensures { λ r. ⌜ ((catalogue : List ℕ) → Hardpoints catalogue (now (fit .entry)) (now (hardpoints .entry)) → r ≡ countOf (Slot.takesHardpoint slot) (pairsOf catalogue (now (fit .entry)))) ⌝ }
+fn on_hardpoint(catalogue: &[u8], fit: &[u8], facts: &[u32; 1797], slot: u8) -> u32
+    requires { ⌜ Gathered (now catalogue) (now fit) (now facts) × (slot < 8) ⌝ }
+    ensures { λ r. ⌜ r ≡ countOf (takesHardpoint slot) (pairsOf (now (catalogue .entry)) (now (fit .entry))) ⌝ }
 {
     let count = fit::pair_count(fit);
     let mut used: u32 = 0;
     let mut i = 0;
     while i < count {
-        used += words::one_if(takes_hardpoint(fit, hardpoints, i, slot));
+        used += words::one_if(takes_hardpoint(catalogue, fit, facts, slot, i));
         i += 1;
     }
     used
+}
+
+// A row, and how many items take one of what it names.
+struct Count {
+    slot: u8,
+    name: u32,
+    used: u32,
 }
 
 // More items in a rack or on a hardpoint than the ship has of them.
 fn report(
     catalogue: &[u8],
     fit: &[u8],
-    starts: &[u32; 259],
-    slot: u8,
-    name: u32,
-    used: u32,
+    facts: &[u32; 1797],
+    count: Count,
     out: &mut [u8],
     n: usize,
 ) -> usize
-    requires { ⌜ Ready (now catalogue) (now fit) (now starts) × (n < 4294967296) ⌝ }
-    ensures { λ r. ⌜ (r ≤ n + 1) × Wrote (now (out .entry)) n (now (out .exit)) r (Slot.slots (contextOf (now (catalogue .entry)) (now (fit .entry))) slot name used) ⌝ }
+    requires { ⌜ Gathered (now catalogue) (now fit) (now facts) × Room n 1 ⌝ }
+    ensures { λ r.
+        let x = contextOf (now (catalogue .entry)) (now (fit .entry)) in
+        ⌜ Wrote (now (out .entry)) n (now (out .exit)) r (Racks.slots x (count .slot) (count .name) (count .used)) × (r ≤ n + 1) ⌝ }
 {
-    let id = catalogue::attribute_id(catalogue, name);
+    let id = catalogue::attribute_id(catalogue, count.name);
     match id {
         AttributeId::Known(id) => {
-            let available = floats::to_u32(fit::amount(fit, starts, 0, id));
-            let test = used > available;
+            let available = floats::to_u32(fit::amount(fit, facts, 0, id));
+            let test = count.used > available;
             entry::emit_when(
                 out,
                 n,
                 test,
                 Entry {
                     target: Target::Ship,
-                    rule: Rule::Slots(slot, used, available),
+                    rule: Rule::Slots(count.slot, count.used, available),
                 },
             )
         }
@@ -125,27 +146,37 @@ fn report(
 fn rack_at(
     catalogue: &[u8],
     fit: &[u8],
-    starts: &[u32; 259],
+    facts: &[u32; 1797],
     i: usize,
     out: &mut [u8],
     n: usize,
 ) -> usize
-    requires { ⌜ Ready (now catalogue) (now fit) (now starts) × (i < 6) × (n < 4294967296) ⌝ }
-    ensures { λ r. ⌜ (r ≤ n + 1) × Wrote (now (out .entry)) n (now (out .exit)) r (inRack (contextOf (now (catalogue .entry)) (now (fit .entry))) (pairsOf (now (catalogue .entry)) (now (fit .entry))) (rowAt rackNumbers i)) ⌝ }
+    requires { ⌜ Gathered (now catalogue) (now fit) (now facts) × (i < 6) × Room n 1 ⌝ }
+    ensures { λ r.
+        let x = contextOf (now (catalogue .entry)) (now (fit .entry)) in
+        let ps = pairsOf (now (catalogue .entry)) (now (fit .entry)) in
+        ⌜ Wrote (now (out .entry)) n (now (out .exit)) r (inRack x ps (rowAt Racks.RACKS i)) × (r ≤ n + 1) ⌝ }
 {
-    let row = rack(i);
-    let used = in_rack(fit, row.slot);
-    report(catalogue, fit, starts, row.slot, row.name, used, out, n)
+    let row = RACKS[i];
+    let count = Count {
+        slot: row.slot,
+        name: row.name,
+        used: in_rack(fit, row.slot),
+    };
+    report(catalogue, fit, facts, count, out, n)
 }
 
-fn racks(catalogue: &[u8], fit: &[u8], starts: &[u32; 259], out: &mut [u8], n: usize) -> usize
-    requires { ⌜ Ready (now catalogue) (now fit) (now starts) × (n ≤ 1000100) ⌝ }
-    ensures { λ r. ⌜ (r ≤ n + 6) × Wrote (now (out .entry)) n (now (out .exit)) r (Slot.racks (contextOf (now (catalogue .entry)) (now (fit .entry))) (pairsOf (now (catalogue .entry)) (now (fit .entry)))) ⌝ }
+fn racks(catalogue: &[u8], fit: &[u8], facts: &[u32; 1797], out: &mut [u8], n: usize) -> usize
+    requires { ⌜ Gathered (now catalogue) (now fit) (now facts) × Room n 6 ⌝ }
+    ensures { λ r.
+        let x = contextOf (now (catalogue .entry)) (now (fit .entry)) in
+        let ps = pairsOf (now (catalogue .entry)) (now (fit .entry)) in
+        ⌜ Wrote (now (out .entry)) n (now (out .exit)) r (Racks.racks x ps) × (r ≤ n + 6) ⌝ }
 {
     let mut k = n;
     let mut i = 0;
     while i < 6 {
-        k = rack_at(catalogue, fit, starts, i, out, k);
+        k = rack_at(catalogue, fit, facts, i, out, k);
         i += 1;
     }
     k
@@ -154,35 +185,37 @@ fn racks(catalogue: &[u8], fit: &[u8], starts: &[u32; 259], out: &mut [u8], n: u
 fn hardpoint_at(
     catalogue: &[u8],
     fit: &[u8],
-    starts: &[u32; 259],
-    hardpoints: &[u8; 256],
+    facts: &[u32; 1797],
     i: usize,
     out: &mut [u8],
     n: usize,
 ) -> usize
-    requires { ⌜ Ready (now catalogue) (now fit) (now starts) × Hardpoints (now catalogue) (now fit) (now hardpoints) × (i < 2) × (n < 4294967296) ⌝ }
-    ensures { λ r. ⌜ (r ≤ n + 1) × Wrote (now (out .entry)) n (now (out .exit)) r (onHardpoint (contextOf (now (catalogue .entry)) (now (fit .entry))) (pairsOf (now (catalogue .entry)) (now (fit .entry))) (rowAt hardpointNumbers i)) ⌝ }
+    requires { ⌜ Gathered (now catalogue) (now fit) (now facts) × (i < 2) × Room n 1 ⌝ }
+    ensures { λ r.
+        let x = contextOf (now (catalogue .entry)) (now (fit .entry)) in
+        let ps = pairsOf (now (catalogue .entry)) (now (fit .entry)) in
+        ⌜ Wrote (now (out .entry)) n (now (out .exit)) r (onHardpoint x ps (rowAt Racks.HARDPOINTS i)) × (r ≤ n + 1) ⌝ }
 {
-    let row = hardpoint(i);
-    let used = on_hardpoint(fit, hardpoints, row.slot);
-    report(catalogue, fit, starts, row.slot, row.name, used, out, n)
+    let row = HARDPOINTS[i];
+    let count = Count {
+        slot: row.slot,
+        name: row.name,
+        used: on_hardpoint(catalogue, fit, facts, row.slot),
+    };
+    report(catalogue, fit, facts, count, out, n)
 }
 
-fn hardpoints(
-    catalogue: &[u8],
-    fit: &[u8],
-    starts: &[u32; 259],
-    hardpoints: &[u8; 256],
-    out: &mut [u8],
-    n: usize,
-) -> usize
-    requires { ⌜ Ready (now catalogue) (now fit) (now starts) × Hardpoints (now catalogue) (now fit) (now hardpoints) × (n ≤ 1000100) ⌝ }
-    ensures { λ r. ⌜ (r ≤ n + 2) × Wrote (now (out .entry)) n (now (out .exit)) r (Slot.hardpoints (contextOf (now (catalogue .entry)) (now (fit .entry))) (pairsOf (now (catalogue .entry)) (now (fit .entry)))) ⌝ }
+fn hardpoints(catalogue: &[u8], fit: &[u8], facts: &[u32; 1797], out: &mut [u8], n: usize) -> usize
+    requires { ⌜ Gathered (now catalogue) (now fit) (now facts) × Room n 2 ⌝ }
+    ensures { λ r.
+        let x = contextOf (now (catalogue .entry)) (now (fit .entry)) in
+        let ps = pairsOf (now (catalogue .entry)) (now (fit .entry)) in
+        ⌜ Wrote (now (out .entry)) n (now (out .exit)) r (Racks.hardpoints x ps) × (r ≤ n + 2) ⌝ }
 {
     let mut k = n;
     let mut i = 0;
     while i < 2 {
-        k = hardpoint_at(catalogue, fit, starts, hardpoints, i, out, k);
+        k = hardpoint_at(catalogue, fit, facts, i, out, k);
         i += 1;
     }
     k
@@ -192,14 +225,16 @@ fn hardpoints(
 pub fn validate(
     catalogue: &[u8],
     fit: &[u8],
-    starts: &[u32; 259],
-    hardpoints: &[u8; 256],
+    facts: &[u32; 1797],
     out: &mut [u8],
     n: usize,
 ) -> usize
-    requires { ⌜ Ready (now catalogue) (now fit) (now starts) × Hardpoints (now catalogue) (now fit) (now hardpoints) × (n ≤ 1000000) ⌝ }
-    ensures { λ r. ⌜ (r ≤ n + 8) × Wrote (now (out .entry)) n (now (out .exit)) r (Slot.racks (contextOf (now (catalogue .entry)) (now (fit .entry))) (pairsOf (now (catalogue .entry)) (now (fit .entry))) ++ Slot.hardpoints (contextOf (now (catalogue .entry)) (now (fit .entry))) (pairsOf (now (catalogue .entry)) (now (fit .entry)))) ⌝ }
+    requires { ⌜ Gathered (now catalogue) (now fit) (now facts) × Room n 8 ⌝ }
+    ensures { λ r.
+        let x = contextOf (now (catalogue .entry)) (now (fit .entry)) in
+        let ps = pairsOf (now (catalogue .entry)) (now (fit .entry)) in
+        ⌜ Wrote (now (out .entry)) n (now (out .exit)) r (racksAndHardpoints x ps) × (r ≤ n + 8) ⌝ }
 {
-    let k = racks(catalogue, fit, starts, out, n);
-    crate::hardpoints(catalogue, fit, starts, hardpoints, out, k)
+    let k = racks(catalogue, fit, facts, out, n);
+    crate::hardpoints(catalogue, fit, facts, out, k)
 }

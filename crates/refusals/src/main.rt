@@ -8,26 +8,6 @@ mod drawing;
 ghost use mathlib.Core.Path.{_≡_};
 ghost use lib.ListN.{length};
 
-fn catalogue_number(b: &[u8]) -> u64 {
-    let v = catalogue_refusals::verdict(b);
-    match v {
-        catalogue::Verdict::Accepted => 0,
-        catalogue::Verdict::BadLength => 1,
-        catalogue::Verdict::BadOrder => 2,
-        catalogue::Verdict::BadField => 3,
-    }
-}
-
-fn fit_number(b: &[u8]) -> u64 {
-    let v = fit_refusals::verdict(b);
-    match v {
-        fit::Verdict::Accepted => 0,
-        fit::Verdict::BadSize => 4,
-        fit::Verdict::BadOrder => 5,
-        fit::Verdict::BadField => 6,
-    }
-}
-
 // The longest image of a row is a fit of 30,001 attributes.
 fn zeros() -> [u8; 360400]
     ensures { λ r. ⌜ 360400 ≡ length r ⌝ }
@@ -45,9 +25,9 @@ fn number_of(row: &[u8], is_fit: bool) -> u64 {
     }
     let whole = image::part(&bytes, 0, n);
     if is_fit {
-        return fit_number(whole);
+        return fit_refusals::number(whole);
     }
-    catalogue_number(whole)
+    catalogue_refusals::number(whole)
 }
 
 // A line without a colon is a comment.

@@ -1,4 +1,4 @@
--- Laws of the sums over pairs, and of what the rules say by their names.
+-- Laws of the sums over pairs, of the table of loads, and of what the rules say by their names.
 pub mod Sums
-pub mod Named
 pub mod Rows
+pub mod Named

@@ -1,7 +1,8 @@
--- Laws of noting skills, of the walk, and of its entries.
+-- Laws of what is required, of noting skills, of the walk, and of its entries.
 pub mod Bits
+pub mod Zips
+pub mod Requirements
 pub mod Noting
 pub mod Walks
 pub mod Notes
-pub mod Required
 pub mod Reports

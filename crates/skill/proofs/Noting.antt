@@ -1,24 +1,29 @@
 -- What noting a skill does to the list that two arrays hold, by the skill's place.
-use mathlib.Core.Path.{_≡_, refl, ap, ap₂, sym, _∙_}
+use mathlib.Core.Path.{_≡_, refl, ap, sym, _∙_, subst}
 use mathlib.Core.Logic.{_⊎_, inl, inr, ⊎-elim}
 use mathlib.Core.Bool.{Bool, true, false, cond}
 use mathlib.Core.List.{List, [], _∷_, _++_}
 use Prim.Native.Nat.{ℕ, zero, suc, _+_, _<_, _≤_, max}
 use native.Mathlib.Omega.{arith}
-use native.Mathlib.Nat.{le-of-suc-le-suc, not-suc-le-zero, max-eq-left, max-eq-right, ne-of-lt}
+use native.Mathlib.Nat.{le-of-suc-le-suc, not-suc-le-zero, max-eq-left, max-eq-right}
 use lib.ListN.{length, getD, set, length-append, length-set}
 use lib.Seq.{ext-getD, getD-set-same, getD-set-other}
 use lib.IntN.{ℤ, pos}
 use lib.Dec.{eqb}
+use mir.Syntax.{w32}
+use mir.Val.{ofZ, toZ, SFits}
+use mir.ValLaws.{toZ-ofZ}
 use borrow.Author.Tests.{eqb-true, eqb-false}
 use Rattle.words.specs.Words.{same, table}
 use Rattle.words.proofs.Sames.{same-refl, same-not}
-use Rattle.words.proofs.Tables.{length-table, getD-table, table-more, table-same}
+use Rattle.words.proofs.Tables.{length-table, getD-table}
 use Rattle.skill.specs.Skill.{Demand, note}
-use Rattle.skill.specs.Held.{heldAt, heldOf, Placed}
+use Rattle.skill.specs.Held.{heldAt, zipTo, heldOf, Placed}
+use Rattle.skill.proofs.Zips.{pair-eq, zip-put}
 
-pub demand-eq : {a b : ℤ} {x y : ℕ} → a ≡ b → x ≡ y → _≡_ {A = Demand} (a, x) (b, y)
-demand-eq p q = ap₂ (λ (a : ℤ) (x : ℕ). (a, x)) p q
+-- a place found by an id's bits
+pub placed : {ids : List ℤ} {n j : ℕ} (i : ℤ) → SFits w32 i → Placed ids n (toZ w32 (ofZ w32 i)) j → Placed ids n i j
+placed {ids} {n} {j} i fits p = subst (λ (z : ℤ). Placed ids n z j) (toZ-ofZ w32 i fits) p
 
 abbrev nothing : Demand
 nothing = (pos 0, 0)
@@ -72,11 +77,11 @@ module _ (ids : List ℤ) (levels : List ℕ) (n : ℕ) (i : ℤ) (l j : ℕ) (p
       p .before k (omega (arith, r)) (sym (ap (λ (d : Demand). d .0) (at-held k r)) ∙ e))
 
   pub found-length : j < n → n ≡ length (note (heldOf ids levels n) (i, l))
-  unfolding heldOf
+  unfolding zipTo
   found-length h = sym (ap length (found h) ∙ length-set held j _ ∙ length-table 0 n (heldAt ids levels))
 
   pub missing-length : n ≤ j → n + 1 ≡ length (note (heldOf ids levels n) (i, l))
-  unfolding heldOf
+  unfolding zipTo
   missing-length h = sym (ap length (missing h) ∙ omega (arith, length-append held ((i, l) ∷ []), length-table 0 n (heldAt ids levels)))
 
   -- a table that is the old one but at j, where it is v
@@ -87,29 +92,26 @@ module _ (ids : List ℤ) (levels : List ℕ) (n : ℕ) (i : ℤ) (l j : ℕ) (p
       let r : k < n = omega (arith, q, length-table 0 n f) in
       getD-table n f k nothing r
       ∙ ⊎-elim
-      (λ (s : k ≡ j). ap f s ∙ e ∙ sym (ap (λ (m : ℕ). getD (set held j v) m nothing) s ∙ getD-set-same held j v nothing (omega (arith, length-table 0 n (heldAt ids levels)))))
+      (λ (s : k ≡ j).
+      let at : getD (set held j v) j nothing ≡ v = getD-set-same held j v nothing (omega (arith, length-table 0 n (heldAt ids levels))) in
+      ap f s ∙ e ∙ sym (ap (λ (m : ℕ). getD (set held j v) m nothing) s ∙ at))
       (λ (s : k ≡ j → ⊥). o k s ∙ sym (getD-set-other held j k v nothing s ∙ at-held k r))
       (same-or-not k j))
 
   pub raised : length levels ≡ 512 → n ≤ 512 → j < n → getD levels j 0 < l → heldOf ids (set levels j l) n ≡ note (heldOf ids levels n) (i, l)
-  unfolding heldOf
+  unfolding zipTo
   raised hl hn h g =
       changed (heldAt ids (set levels j l)) (i, max (getD levels j 0) l) h
-      (demand-eq (p .found h) (getD-set-same levels j l 0 (omega (arith, hl)) ∙ sym (max-eq-right (omega (arith, g)))))
-      (λ k s. demand-eq refl (getD-set-other levels j k l 0 s))
+      (pair-eq (p .found h) (getD-set-same levels j l 0 (omega (arith, hl)) ∙ sym (max-eq-right (omega (arith, g)))))
+      (λ k s. pair-eq refl (getD-set-other levels j k l 0 s))
       ∙ sym (found h)
 
-  pub kept : j < n → l ≤ getD levels j 0 → heldOf ids levels n ≡ note (heldOf ids levels n) (i, l)
-  unfolding heldOf
-  kept h g =
-      changed (heldAt ids levels) (i, max (getD levels j 0) l) h (demand-eq (p .found h) (sym (max-eq-left g))) (λ k s. refl) ∙ sym (found h)
+  pub unraised : j < n → l ≤ getD levels j 0 → heldOf ids levels n ≡ note (heldOf ids levels n) (i, l)
+  unfolding zipTo
+  unraised h g =
+      changed (heldAt ids levels) (i, max (getD levels j 0) l) h (pair-eq (p .found h) (sym (max-eq-left g))) (λ k s. refl) ∙ sym (found h)
 
   pub added : length ids ≡ 512 → length levels ≡ 512 → n < 512 → n ≤ j → heldOf (set ids n i) (set levels n l) (n + 1) ≡ note (heldOf ids levels n) (i, l)
-  unfolding heldOf
+  unfolding zipTo
   added hi hl hn h =
-      let f = heldAt (set ids n i) (set levels n l) in
-      table-more n f
-      ∙ ap₂ (λ (ds : List Demand) (d : Demand). ds ++ (d ∷ []))
-      (table-same n f (heldAt ids levels) (λ k q. demand-eq (getD-set-other ids n k i (pos 0) (ne-of-lt q)) (getD-set-other levels n k l 0 (ne-of-lt q))))
-      (demand-eq (getD-set-same ids n i (pos 0) (omega (arith, hi))) (getD-set-same levels n l 0 (omega (arith, hl))))
-      ∙ sym (missing h)
+      zip-put (pos 0) 0 ids levels n i l (omega (arith, hi)) (omega (arith, hl)) ∙ sym (missing h)

@@ -14,9 +14,8 @@ use Rattle.fit.specs.Fit.{Fit, Result, fitOf, resultAt, resultOf, resultCount}
 use Rattle.fit.specs.Lookups.{trained}
 use Rattle.fit.proofs.Decoded.{result-some}
 use Rattle.entry.specs.declared.Target.the-variants.{Ship, Item}
-use Rattle.skill.specs.Skill.{Demand, wantedSkills, tooMany, targetOf, skillList}
-use Rattle.skill.specs.Steps.{entryOf, reported}
-use Rattle.skill.specs.Held.{walkOf, WalkedTo}
+use Rattle.skill.specs.Skill.{Demand, wantedSkills, tooMany, targetOf, entryOf, reported, skillList}
+use Rattle.skill.specs.Held.{walkOf, HoldsWanted}
 use Rattle.skill.specs.declared.Walk.{Walk}
 
 -- the target of a result by its number
@@ -35,18 +34,18 @@ unfolding entryOf
 few-entry f n w = few-when (ltb (trained (f .skills) (f .levels) (w .0)) (w .1)) _
 
 list-of : (c : Catalogue) (f : Fit) (n : ℕ) (r : Result) → resultAt f n ≡ some r → skillList c f n ≡ reported f n (wantedSkills c r)
-unfolding skillList entryOf _>>=_
+unfolding skillList _>>=_
 list-of c f n r e = rw e
 
 -- what `report` writes of a walk that was not refused is the skill list
-pub reported-all : (catalogue fit : List ℕ) (result : ℕ) (w : Walk) → WalkedTo catalogue fit result w → w .len ≤ 512 → result < resultCount fit + 2
+pub reported-all : (catalogue fit : List ℕ) (result : ℕ) (w : Walk) → HoldsWanted catalogue fit result w → w .len ≤ 512 → result < resultCount fit + 2
     → reported (fitOf fit) result (walkOf w) ≡ skillList (catalogueOf catalogue) (fitOf fit) result
 reported-all catalogue fit result w v h g =
     ap (reported (fitOf fit) result) (v .holds h) ∙ sym (list-of (catalogueOf catalogue) (fitOf fit) result (resultOf fit result) (result-some fit result g))
 
 -- whether the walk is refused, as the skill call asks
-pub too-many : (catalogue fit : List ℕ) (result : ℕ) (w : Walk) → WalkedTo catalogue fit result w → result < resultCount fit + 2
+pub too-many : (catalogue fit : List ℕ) (result : ℕ) (w : Walk) → HoldsWanted catalogue fit result w → result < resultCount fit + 2
     → ltb 512 (w .len) ≡ given (resultAt (fitOf fit) result) false (tooMany 512 (catalogueOf catalogue))
 unfolding given
 too-many catalogue fit result w v g =
-    v .over ∙ sym (ap (λ (o : Option Result). given o false (tooMany 512 (catalogueOf catalogue))) (result-some fit result g))
+    v .many ∙ sym (ap (λ (o : Option Result). given o false (tooMany 512 (catalogueOf catalogue))) (result-some fit result g))

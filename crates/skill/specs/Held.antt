@@ -1,29 +1,51 @@
--- Document 01, "Skill walk": up to 512 skills and levels are held. What the arrays of a walk hold, what noting does to them, and what
+-- Document 01, "Skill walk": up to 512 skills and levels are held. What the arrays of the code hold, what noting does to them, and what
 -- a walk that has ended says.
 use Prim.Native.Nat.{ℕ, _+_, _≤_, _<_}
 use mathlib.Core.Path.{_≡_}
-use mathlib.Core.List.{List, _++_, foldl}
+use mathlib.Core.List.{List, [], _∷_, foldl}
 use lib.Dec.{ltb}
 use lib.ListN.{length, getD}
 use lib.IntN.{ℤ, pos}
 use Rattle.words.specs.Words.{table}
+use Rattle.numbers.specs.Sizes.{mostWanted}
 use Rattle.catalogue.specs.Catalogue.{catalogueOf}
 use Rattle.fit.specs.Fit.{resultOf}
-use Rattle.skill.specs.Skill.{Demand, note, wantedSkills, tooMany}
-use Rattle.skill.specs.Steps.{Pair}
+use Rattle.skill.specs.Skill.{Requirement, Demand, note, wantedSkills, tooMany}
 use Rattle.skill.specs.declared.Walk.{Walk}
-use Rattle.skill.specs.declared.Pairs.{Pairs}
+use Rattle.skill.specs.declared.Required.{Required}
+use Rattle.skill.specs.declared.Asked.{Asked}
+use Rattle.skill.specs.declared.Asked.the-variants.{Skill, Nothing}
+
+-- ---- two arrays side by side; x and y stand past their ends
+module _ {A B : Type 0} (x : A) (y : B) where
+  abbrev pub zipAt : List A → List B → ℕ → A × B
+  zipAt a b i = (getD a i x, getD b i y)
+
+  -- the first n
+  unfoldable pub zipTo : List A → List B → ℕ → List (A × B)
+  zipTo a b n = table n (zipAt a b)
+
+abbrev pub requirementsIn : List ℤ → List ℤ → ℕ → List Requirement
+requirementsIn skills levels n = zipTo (pos 0) (pos 0) skills levels n
+
+abbrev pub requirementsOf : Required → List Requirement
+requirementsOf r = requirementsIn (r .skills) (r .levels) (r .len)
 
 abbrev pub heldAt : List ℤ → List ℕ → ℕ → Demand
-heldAt ids levels i = (getD ids i (pos 0), getD levels i 0)
+heldAt ids levels i = zipAt (pos 0) 0 ids levels i
 
--- the first len skills with their levels
-unfoldable pub heldOf : List ℤ → List ℕ → ℕ → List Demand
-heldOf ids levels len = table len (heldAt ids levels)
+-- the first n skills with their levels
+abbrev pub heldOf : List ℤ → List ℕ → ℕ → List Demand
+heldOf ids levels n = zipTo (pos 0) 0 ids levels n
 
 abbrev pub walkOf : Walk → List Demand
 walkOf w = heldOf (w .ids) (w .levels) (w .len)
 
+abbrev pub askedOf : Asked → List Demand
+askedOf (Skill id level) = (id, level) ∷ []
+askedOf Nothing = []
+
+-- ---- noting
 -- the first place of an id among the first len, or len
 pub record Placed (ids : List ℤ) (len : ℕ) (id : ℤ) (r : ℕ) : Type 0 where
   pub within : r ≤ len
@@ -32,37 +54,20 @@ pub record Placed (ids : List ℤ) (len : ℕ) (id : ℤ) (r : ℕ) : Type 0 whe
 
 -- a demand noted: how many skills that makes, and the arrays where they hold that many
 pub record Noted (ids : List ℤ) (levels : List ℕ) (len : ℕ) (id : ℤ) (level : ℕ) (ids′ : List ℤ) (levels′ : List ℕ) (r : ℕ) : Type 0 where
-  pub ids-length : length ids′ ≡ 512
-  pub levels-length : length levels′ ≡ 512
+  pub ids-length : length ids′ ≡ mostWanted
+  pub levels-length : length levels′ ≡ mostWanted
   pub count : r ≡ length (note (heldOf ids levels len) (id, level))
-  pub holds : r ≤ 512 → heldOf ids′ levels′ r ≡ note (heldOf ids levels len) (id, level)
+  pub holds : r ≤ mostWanted → heldOf ids′ levels′ r ≡ note (heldOf ids levels len) (id, level)
 
--- some demands noted in their order: 513 stands for more skills than there is room for
+-- some demands noted in their order: one more than the most stands for more skills than there is room for
 pub record Notes (ids : List ℤ) (levels : List ℕ) (len : ℕ) (ids′ : List ℤ) (levels′ : List ℕ) (r : ℕ) (ds : List Demand) : Type 0 where
-  pub ids-length : length ids′ ≡ 512
-  pub levels-length : length levels′ ≡ 512
-  pub limit : r ≤ 513
-  pub over : 512 < r → 512 < length (foldl note (heldOf ids levels len) ds)
-  pub holds : r ≤ 512 → heldOf ids′ levels′ r ≡ foldl note (heldOf ids levels len) ds
+  pub ids-length : length ids′ ≡ mostWanted
+  pub levels-length : length levels′ ≡ mostWanted
+  pub limit : r ≤ mostWanted + 1
+  pub full : mostWanted < r → mostWanted < length (foldl note (heldOf ids levels len) ds)
+  pub holds : r ≤ mostWanted → heldOf ids′ levels′ r ≡ foldl note (heldOf ids levels len) ds
 
-abbrev pub pairAt : List ℤ → List ℤ → ℕ → Pair
-pairAt skills levels i = (getD skills i (pos 0), getD levels i (pos 0))
-
--- the first len pairs of attributes
-unfoldable pub pairsIn : List ℤ → List ℤ → ℕ → List Pair
-pairsIn skills levels len = table len (pairAt skills levels)
-
-abbrev pub pairsOf : Pairs → List Pair
-pairsOf p = pairsIn (p .skills) (p .levels) (p .len)
-
--- some pairs kept behind those that are there
-pub record Kept (skills levels : List ℤ) (n : ℕ) (skills′ levels′ : List ℤ) (r : ℕ) (ps : List Pair) : Type 0 where
-  pub skills-length : length skills′ ≡ 6
-  pub levels-length : length levels′ ≡ 6
-  pub limit : r ≤ n + 1
-  pub holds : pairsIn skills′ levels′ r ≡ pairsIn skills levels n ++ ps
-
--- a walk that has ended: whether there are too many skills, and the wanted ones where there are not
-pub record WalkedTo (catalogue fit : List ℕ) (result : ℕ) (w : Walk) : Type 0 where
-  pub over : ltb 512 (w .len) ≡ tooMany 512 (catalogueOf catalogue) (resultOf fit result)
-  pub holds : w .len ≤ 512 → walkOf w ≡ wantedSkills (catalogueOf catalogue) (resultOf fit result)
+-- a walk that has ended: whether too many skills are wanted, and the wanted ones where not
+pub record HoldsWanted (catalogue fit : List ℕ) (result : ℕ) (w : Walk) : Type 0 where
+  pub many : ltb mostWanted (w .len) ≡ tooMany mostWanted (catalogueOf catalogue) (resultOf fit result)
+  pub holds : w .len ≤ mostWanted → walkOf w ≡ wantedSkills (catalogueOf catalogue) (resultOf fit result)

@@ -1,4 +1,3 @@
 pub mod Skill
 pub mod Wanted
-pub mod Steps
 pub mod Held

@@ -5,12 +5,16 @@ use entry::Entry;
 use entry::Rule;
 use entry::Target;
 use floats::Value;
+use numbers::names;
+use numbers::sizes::MOST_WANTED;
 ghost use mathlib.Core.Path.{_≡_};
-ghost use mathlib.Core.List.{[], _∷_};
+ghost use mathlib.Core.List.{[], _∷_, _++_};
 ghost use Prim.Native.Nat.{_+_, _<_, _≤_};
 ghost use lib.ListN.{length, getD};
 ghost use lib.IntN.{pos};
 ghost use Rattle.words.specs.Words.{each, table, anyOf, same};
+ghost use Rattle.numbers.specs.Sizes as Sizes;
+ghost use Rattle.numbers.specs.Sizes.{mostWanted};
 ghost use Rattle.floats.specs.Values.{valueOf};
 ghost use Rattle.catalogue.specs.Catalogue.{catalogueOf, baseCount};
 ghost use Rattle.catalogue.specs.Lookups.{baseValue};
@@ -20,46 +24,150 @@ ghost use Rattle.catalogue.specs.Walks.{spanValue};
 ghost use Rattle.fit.specs.Fit.{fitOf, resultCount, resultOf};
 ghost use Rattle.fit.specs.Lookups.{value};
 ghost use Rattle.fit.specs.Sound as Fit;
-ghost use Rattle.entry.specs.Wrote.{Wrote};
+ghost use Rattle.entry.specs.Wrote.{Wrote, Room};
 ghost use Rattle.skill.specs.Skill as Skill;
-ghost use Rattle.skill.specs.Skill.{targetOf};
-ghost use Rattle.skill.specs.Steps.{pairOf, rowOf, required, asked, demandOf, entryOf, reported};
-ghost use Rattle.skill.specs.Held.{walkOf, Placed, Noted, Notes, pairsOf, Kept, WalkedTo};
+ghost use Rattle.skill.specs.Skill.{requirement, required, demandOf, targetOf, entryOf, reported};
+ghost use Rattle.skill.specs.Held.{requirementsIn, requirementsOf, askedOf, walkOf};
+ghost use Rattle.skill.specs.Held.{Placed, Noted, Notes, HoldsWanted};
 
-// The names of a skill and of the level it wants, in turn.
-const REQUIRED: [u32; 12] = [76, 77, 78, 79, 80, 81, 82, 83, 84, 85, 86, 87];
+// The names of a skill and of the level it wants.
+struct Row {
+    skill: u32,
+    level: u32,
+}
 
-// The attributes of a skill and of its level, for each pair of names that both have one.
-struct Pairs {
+const REQUIRED: [Row; 6] = [
+    Row {
+        skill: names::REQUIRED_SKILL_1,
+        level: names::REQUIRED_SKILL_1_LEVEL,
+    },
+    Row {
+        skill: names::REQUIRED_SKILL_2,
+        level: names::REQUIRED_SKILL_2_LEVEL,
+    },
+    Row {
+        skill: names::REQUIRED_SKILL_3,
+        level: names::REQUIRED_SKILL_3_LEVEL,
+    },
+    Row {
+        skill: names::REQUIRED_SKILL_4,
+        level: names::REQUIRED_SKILL_4_LEVEL,
+    },
+    Row {
+        skill: names::REQUIRED_SKILL_5,
+        level: names::REQUIRED_SKILL_5_LEVEL,
+    },
+    Row {
+        skill: names::REQUIRED_SKILL_6,
+        level: names::REQUIRED_SKILL_6_LEVEL,
+    },
+];
+
+// The attributes of a skill and of its level, for each row whose names both have one.
+struct Required {
     skills: [i32; 6],
     levels: [i32; 6],
     len: usize,
 }
 
+// What one requirement asks for.
+enum Asked {
+    Skill(i32, u8),
+    Nothing,
+}
+
 // The skills noted so far, in the order met, each with the highest level asked of it.
 pub struct Walk {
-    pub ids: [i32; 512],
-    pub levels: [u8; 512],
+    pub ids: [i32; MOST_WANTED],
+    pub levels: [u8; MOST_WANTED],
     pub len: usize,
 }
 
-impl Walk {
-    pub fn new() -> Walk
-        ensures { λ r. ⌜ (r .len ≡ 0) × (walkOf r ≡ []) ⌝ }
-    {
-        let ids = [0i32; 512];
-        let levels = [0u8; 512];
-        Walk {
-            ids: ids,
-            levels: levels,
-            len: 0,
-        }
+// Keeps a row when both names have attributes.
+fn keep(
+    skills: &mut [i32; 6],
+    levels: &mut [i32; 6],
+    n: usize,
+    skill: AttributeId,
+    level: AttributeId,
+) -> usize
+    requires { ⌜ (n < 6) × (length (now skills) ≡ 6) × (length (now levels) ≡ 6) ⌝ }
+    ensures { λ r.
+        let before = requirementsIn (now (skills .entry)) (now (levels .entry)) n in
+        let after = requirementsIn (now (skills .exit)) (now (levels .exit)) r in
+        ⌜ (after ≡ before ++ requirement (idOf skill) (idOf level)) × (r ≤ n + 1)
+        × (length (now (skills .exit)) ≡ 6) × (length (now (levels .exit)) ≡ 6) ⌝ }
+{
+    match skill {
+        AttributeId::Known(s) => match level {
+            AttributeId::Known(l) => {
+                skills[n] = s;
+                levels[n] = l;
+                n + 1
+            }
+            AttributeId::Unknown => n,
+        },
+        AttributeId::Unknown => n,
+    }
+}
+
+// The names are looked up once for the whole walk.
+fn required_of(catalogue: &[u8]) -> Required
+    requires { ⌜ Catalogue.Sound (now catalogue) ⌝ }
+    ensures { λ r. ⌜ (requirementsOf r ≡ required (catalogueOf (now (catalogue .entry)))) × (r .len ≤ 6) ⌝ }
+{
+    let mut skills = [0i32; 6];
+    let mut levels = [0i32; 6];
+    let mut n: usize = 0;
+    let mut i: usize = 0;
+    while i < 6 {
+        let row = REQUIRED[i];
+        let skill = catalogue::attribute_id(catalogue, row.skill);
+        let level = catalogue::attribute_id(catalogue, row.level);
+        n = keep(&mut skills, &mut levels, n, skill, level);
+        i += 1;
+    }
+    Required {
+        skills: skills,
+        levels: levels,
+        len: n,
+    }
+}
+
+// A skill that a value names, at the level that another says; a missing level is 0.
+fn demand(skill: f64, level: Value) -> Asked
+    ensures { λ r. ⌜ askedOf r ≡ Skill.demand skill (valueOf level) ∷ [] ⌝ }
+{
+    Asked::Skill(floats::to_i32(skill), floats::to_u8(floats::amount(level)))
+}
+
+// What one requirement asks for by the values of a result.
+fn asked_by_result(fit: &[u8], starts: &[u32; 259], result: usize, skill: i32, level: i32) -> Asked
+    requires { ⌜ Fit.Sound (now fit) × Fit.Starts (now fit) (now starts) × (result < resultCount (now fit) + 2) ⌝ }
+    ensures { λ r. ⌜ askedOf r ≡ demandOf (value (resultOf (now (fit .entry)) result)) (skill, level) ⌝ }
+{
+    let wanted = fit::value(fit, starts, result, skill);
+    match wanted {
+        Value::Given(v) => demand(v, fit::value(fit, starts, result, level)),
+        Value::Missing => Asked::Nothing,
+    }
+}
+
+// What one requirement asks for by the base values of a skill, which stand in a span.
+fn asked_by_skill(catalogue: &[u8], span: Span, skill: i32, level: i32) -> Asked
+    requires { ⌜ Catalogue.Sound (now catalogue) × (span .from ≤ span .to) × (span .to ≤ baseCount (now catalogue)) ⌝ }
+    ensures { λ r. ⌜ askedOf r ≡ demandOf (spanValue (now (catalogue .entry)) (span .from) (span .to)) (skill, level) ⌝ }
+{
+    let wanted = catalogue::base_value(catalogue, span, skill);
+    match wanted {
+        Value::Given(v) => demand(v, catalogue::base_value(catalogue, span, level)),
+        Value::Missing => Asked::Nothing,
     }
 }
 
 // Whether an id is among the first len. The loop runs to its end, so that the compiler can take many ids at once.
-fn is_among(ids: &[i32; 512], len: usize, id: i32) -> bool
-    requires { ⌜ len ≤ 512 ⌝ }
+fn is_among(ids: &[i32; MOST_WANTED], len: usize, id: i32) -> bool
+    requires { ⌜ len ≤ mostWanted ⌝ }
     ensures { λ r. ⌜ r ≡ anyOf (λ x. same x id) (table len (λ k. getD (now (ids .entry)) k (pos 0))) ⌝ }
 {
     let mut found = false;
@@ -73,8 +181,8 @@ fn is_among(ids: &[i32; 512], len: usize, id: i32) -> bool
 }
 
 // The first place of an id among the first len, or len. Most demands are of new skills.
-fn place(ids: &[i32; 512], len: usize, id: i32) -> usize
-    requires { ⌜ len ≤ 512 ⌝ }
+fn place(ids: &[i32; MOST_WANTED], len: usize, id: i32) -> usize
+    requires { ⌜ len ≤ mostWanted ⌝ }
     ensures { λ r. ⌜ Placed (now (ids .entry)) len id r ⌝ }
 {
     if !is_among(ids, len, id) {
@@ -91,9 +199,16 @@ fn place(ids: &[i32; 512], len: usize, id: i32) -> usize
     len
 }
 
-// Keeps the highest level asked of a skill, in the order it was first met. How many skills there are then: 513 where there is no room.
-fn note(ids: &mut [i32; 512], levels: &mut [u8; 512], len: usize, id: i32, level: u8) -> usize
-    requires { ⌜ (len ≤ 512) × (length (now ids) ≡ 512) × (length (now levels) ≡ 512) ⌝ }
+// Keeps the highest level asked of a skill, in the order it was first met. How many skills there are then: one more than the most where
+// there is no room.
+fn note(
+    ids: &mut [i32; MOST_WANTED],
+    levels: &mut [u8; MOST_WANTED],
+    len: usize,
+    id: i32,
+    level: u8,
+) -> usize
+    requires { ⌜ (len ≤ mostWanted) × (length (now ids) ≡ mostWanted) × (length (now levels) ≡ mostWanted) ⌝ }
     ensures { λ r. ⌜ Noted (now (ids .entry)) (now (levels .entry)) len id level (now (ids .exit)) (now (levels .exit)) r ⌝ }
 {
     let at = place(ids, len, id);
@@ -104,210 +219,112 @@ fn note(ids: &mut [i32; 512], levels: &mut [u8; 512], len: usize, id: i32, level
         }
         return len;
     }
-    if len < 512 {
+    if len < MOST_WANTED {
         ids[len] = id;
         levels[len] = level;
         return len + 1;
     }
-    513
+    MOST_WANTED + 1
 }
 
-// Keeps a pair when both names have ids.
-fn keep(
-    skills: &mut [i32; 6],
-    levels: &mut [i32; 6],
-    n: usize,
-    skill: AttributeId,
-    level: AttributeId,
-) -> usize
-    requires { ⌜ (n < 6) × (length (now skills) ≡ 6) × (length (now levels) ≡ 6) ⌝ }
-    ensures { λ r. ⌜ Kept (now (skills .entry)) (now (levels .entry)) n (now (skills .exit)) (now (levels .exit)) r (pairOf (idOf skill) (idOf level)) ⌝ }
-{
-    match skill {
-        AttributeId::Known(s) => match level {
-            AttributeId::Known(l) => {
-                skills[n] = s;
-                levels[n] = l;
-                n + 1
-            }
-            AttributeId::Unknown => n,
-        },
-        AttributeId::Unknown => n,
-    }
-}
-
-// Row i of the names.
-fn keep_row(
-    catalogue: &[u8],
-    i: usize,
-    skills: &mut [i32; 6],
-    levels: &mut [i32; 6],
-    n: usize,
-) -> usize
-    requires { ⌜ Catalogue.Sound (now catalogue) × (i < 6) × (n < 6) × (length (now skills) ≡ 6) × (length (now levels) ≡ 6) ⌝ }
-    ensures { λ r. ⌜ Kept (now (skills .entry)) (now (levels .entry)) n (now (skills .exit)) (now (levels .exit)) r (rowOf (catalogueOf (now (catalogue .entry))) (getD Skill.REQUIRED i (0, 0))) ⌝ }
-{
-    let skill = catalogue::attribute_id(catalogue, REQUIRED[2 * i]);
-    let level = catalogue::attribute_id(catalogue, REQUIRED[2 * i + 1]);
-    keep(skills, levels, n, skill, level)
-}
-
-// The names are looked up once for the whole walk.
-fn required_of(catalogue: &[u8]) -> Pairs
-    requires { ⌜ Catalogue.Sound (now catalogue) ⌝ }
-    ensures { λ r. ⌜ (pairsOf r ≡ required (catalogueOf (now (catalogue .entry)))) × (r .len ≤ 6) ⌝ }
-{
-    let mut skills = [0i32; 6];
-    let mut levels = [0i32; 6];
-    let mut n: usize = 0;
-    let mut i: usize = 0;
-    while i < 6 {
-        n = keep_row(catalogue, i, &mut skills, &mut levels, n);
-        i += 1;
-    }
-    Pairs {
-        skills: skills,
-        levels: levels,
-        len: n,
-    }
-}
-
-// Notes a skill that a value names. Where there is no room, none is made.
-fn note_value(
-    ids: &mut [i32; 512],
-    levels: &mut [u8; 512],
+// Notes what is asked for. Where there is no room, none is made.
+fn note_asked(
+    ids: &mut [i32; MOST_WANTED],
+    levels: &mut [u8; MOST_WANTED],
     len: usize,
-    skill: f64,
-    level: Value,
+    asked: Asked,
 ) -> usize
-    requires { ⌜ (len ≤ 513) × (length (now ids) ≡ 512) × (length (now levels) ≡ 512) ⌝ }
-    ensures { λ r. ⌜ Notes (now (ids .entry)) (now (levels .entry)) len (now (ids .exit)) (now (levels .exit)) r (asked skill (valueOf level) ∷ []) ⌝ }
+    requires { ⌜ (len ≤ mostWanted + 1) × (length (now ids) ≡ mostWanted) × (length (now levels) ≡ mostWanted) ⌝ }
+    ensures { λ r. ⌜ Notes (now (ids .entry)) (now (levels .entry)) len (now (ids .exit)) (now (levels .exit)) r (askedOf asked) ⌝ }
 {
-    if 512 < len {
+    if MOST_WANTED < len {
         return len;
     }
-    note(
-        ids,
-        levels,
-        len,
-        floats::to_i32(skill),
-        floats::to_u8(floats::amount(level)),
-    )
-}
-
-// What one pair asks for by the values of a result.
-fn note_reached(
-    fit: &[u8],
-    starts: &[u32; 259],
-    result: usize,
-    skill: i32,
-    level: i32,
-    ids: &mut [i32; 512],
-    levels: &mut [u8; 512],
-    len: usize,
-) -> usize
-    requires { ⌜ Fit.Sound (now fit) × Fit.Starts (now fit) (now starts) × (result < resultCount (now fit) + 2) × (len ≤ 513) × (length (now ids) ≡ 512) × (length (now levels) ≡ 512) ⌝ }
-    ensures { λ r. ⌜ Notes (now (ids .entry)) (now (levels .entry)) len (now (ids .exit)) (now (levels .exit)) r (demandOf (value (resultOf (now (fit .entry)) result)) (skill, level)) ⌝ }
-{
-    let wanted = fit::value(fit, starts, result, skill);
-    match wanted {
-        Value::Given(v) => note_value(ids, levels, len, v, fit::value(fit, starts, result, level)),
-        Value::Missing => len,
+    match asked {
+        Asked::Skill(id, level) => note(ids, levels, len, id, level),
+        Asked::Nothing => len,
     }
 }
 
-// What one pair asks for by the base values of a skill, which stand in a span.
-fn note_base(
-    catalogue: &[u8],
-    span: Span,
-    skill: i32,
-    level: i32,
-    ids: &mut [i32; 512],
-    levels: &mut [u8; 512],
-    len: usize,
-) -> usize
-    requires { ⌜ Catalogue.Sound (now catalogue) × (span .from ≤ span .to) × (span .to ≤ baseCount (now catalogue)) × (len ≤ 513) × (length (now ids) ≡ 512) × (length (now levels) ≡ 512) ⌝ }
-    ensures { λ r. ⌜ Notes (now (ids .entry)) (now (levels .entry)) len (now (ids .exit)) (now (levels .exit)) r (demandOf (spanValue (now (catalogue .entry)) (span .from) (span .to)) (skill, level)) ⌝ }
-{
-    let wanted = catalogue::base_value(catalogue, span, skill);
-    match wanted {
-        Value::Given(v) => {
-            note_value(
-                ids,
-                levels,
-                len,
-                v,
-                catalogue::base_value(catalogue, span, level),
-            )
-        }
-        Value::Missing => len,
-    }
-}
-
-// All that a result asks for itself.
+// Notes all that a result asks for itself, as the first.
 fn note_result(
     fit: &[u8],
     starts: &[u32; 259],
     result: usize,
-    pairs: Pairs,
-    ids: &mut [i32; 512],
-    levels: &mut [u8; 512],
-    len: usize,
+    required: Required,
+    ids: &mut [i32; MOST_WANTED],
+    levels: &mut [u8; MOST_WANTED],
 ) -> usize
-    requires { ⌜ Fit.Sound (now fit) × Fit.Starts (now fit) (now starts) × (result < resultCount (now fit) + 2) × (pairs .len ≤ 6) × (len ≤ 513) × (length (now ids) ≡ 512) × (length (now levels) ≡ 512) ⌝ }
-    ensures { λ r. ⌜ Notes (now (ids .entry)) (now (levels .entry)) len (now (ids .exit)) (now (levels .exit)) r (each (pairsOf pairs) (demandOf (value (resultOf (now (fit .entry)) result)))) ⌝ }
+    requires { ⌜ Fit.Sound (now fit) × Fit.Starts (now fit) (now starts) × (result < resultCount (now fit) + 2) × (required .len ≤ 6)
+        × (length (now ids) ≡ mostWanted) × (length (now levels) ≡ mostWanted) ⌝ }
+    ensures { λ r.
+        let ds = each (requirementsOf required) (demandOf (value (resultOf (now (fit .entry)) result))) in
+        ⌜ Notes (now (ids .entry)) (now (levels .entry)) 0 (now (ids .exit)) (now (levels .exit)) r ds ⌝ }
 {
-    let n = pairs.len;
-    let mut k = len;
+    let n = required.len;
+    let mut len: usize = 0;
     let mut i: usize = 0;
     while i < n {
-        let skill = pairs.skills[i];
-        let level = pairs.levels[i];
-        k = note_reached(fit, starts, result, skill, level, ids, levels, k);
+        let skill = required.skills[i];
+        let level = required.levels[i];
+        len = note_asked(
+            ids,
+            levels,
+            len,
+            asked_by_result(fit, starts, result, skill, level),
+        );
         i += 1;
     }
-    k
+    len
 }
 
-// All that a skill asks for.
+// Notes all that a skill asks for.
 fn note_skill(
     catalogue: &[u8],
     id: i32,
-    pairs: Pairs,
-    ids: &mut [i32; 512],
-    levels: &mut [u8; 512],
+    required: Required,
+    ids: &mut [i32; MOST_WANTED],
+    levels: &mut [u8; MOST_WANTED],
     len: usize,
 ) -> usize
-    requires { ⌜ Catalogue.Sound (now catalogue) × (pairs .len ≤ 6) × (len ≤ 513) × (length (now ids) ≡ 512) × (length (now levels) ≡ 512) ⌝ }
-    ensures { λ r. ⌜ Notes (now (ids .entry)) (now (levels .entry)) len (now (ids .exit)) (now (levels .exit)) r (each (pairsOf pairs) (demandOf (baseValue (catalogueOf (now (catalogue .entry))) id))) ⌝ }
+    requires { ⌜ Catalogue.Sound (now catalogue) × (required .len ≤ 6)
+        × (len ≤ mostWanted + 1) × (length (now ids) ≡ mostWanted) × (length (now levels) ≡ mostWanted) ⌝ }
+    ensures { λ r.
+        let ds = each (requirementsOf required) (demandOf (baseValue (catalogueOf (now (catalogue .entry))) id)) in
+        ⌜ Notes (now (ids .entry)) (now (levels .entry)) len (now (ids .exit)) (now (levels .exit)) r ds ⌝ }
 {
     let span = catalogue::bases_of(catalogue, id);
-    let n = pairs.len;
+    let n = required.len;
     let mut k = len;
     let mut i: usize = 0;
     while i < n {
-        let skill = pairs.skills[i];
-        let level = pairs.levels[i];
-        k = note_base(catalogue, span, skill, level, ids, levels, k);
+        let skill = required.skills[i];
+        let level = required.levels[i];
+        k = note_asked(
+            ids,
+            levels,
+            k,
+            asked_by_skill(catalogue, span, skill, level),
+        );
         i += 1;
     }
     k
 }
 
 // The whole tree of skills depending on skills. The walk goes on while skills are added; a skill is added once, so it ends even where
-// skills point at one another. Over 512 skills its length is 513.
+// skills point at one another. Its length is over the most where too many are wanted.
 pub fn wanted_skills(catalogue: &[u8], fit: &[u8], starts: &[u32; 259], result: usize) -> Walk
-    requires { ⌜ Catalogue.Sound (now catalogue) × Fit.Sound (now fit) × Fit.Starts (now fit) (now starts) × (result < resultCount (now fit) + 2) ⌝ }
-    ensures { λ r. ⌜ WalkedTo (now (catalogue .entry)) (now (fit .entry)) result r ⌝ }
+    requires { ⌜ Catalogue.Sound (now catalogue) × Fit.Sound (now fit) × Fit.Starts (now fit) (now starts)
+        × (result < resultCount (now fit) + 2) ⌝ }
+    ensures { λ r. ⌜ HoldsWanted (now (catalogue .entry)) (now (fit .entry)) result r ⌝ }
 {
-    let pairs = required_of(catalogue);
-    let start = Walk::new();
-    let mut ids = start.ids;
-    let mut levels = start.levels;
-    let mut len = note_result(fit, starts, result, pairs, &mut ids, &mut levels, start.len);
+    let required = required_of(catalogue);
+    let mut ids = [0i32; MOST_WANTED];
+    let mut levels = [0u8; MOST_WANTED];
+    let mut len = note_result(fit, starts, result, required, &mut ids, &mut levels);
     let mut next: usize = 0;
     while next < len {
-        if 512 < len {
+        if MOST_WANTED < len {
             return Walk {
                 ids: ids,
                 levels: levels,
@@ -315,7 +332,7 @@ pub fn wanted_skills(catalogue: &[u8], fit: &[u8], starts: &[u32; 259], result: 
             };
         }
         let id = ids[next];
-        len = note_skill(catalogue, id, pairs, &mut ids, &mut levels, len);
+        len = note_skill(catalogue, id, required, &mut ids, &mut levels, len);
         next += 1;
     }
     Walk {
@@ -327,7 +344,7 @@ pub fn wanted_skills(catalogue: &[u8], fit: &[u8], starts: &[u32; 259], result: 
 
 // The ship for results 0 and 1, else an item.
 fn target_of(result: usize) -> Target
-    requires { ⌜ result < 4294967296 ⌝ }
+    requires { ⌜ result < Sizes.word ⌝ }
     ensures { λ r. ⌜ r ≡ targetOf result ⌝ }
 {
     if result < 2 {
@@ -338,7 +355,7 @@ fn target_of(result: usize) -> Target
 
 // An entry where a wanted skill is trained lower.
 fn report_skill(fit: &[u8], result: usize, id: i32, wanted: u8, out: &mut [u8], n: usize) -> usize
-    requires { ⌜ Fit.Sound (now fit) × (result < 4294967296) × (n < 4294967296) ⌝ }
+    requires { ⌜ Fit.Sound (now fit) × (result < Sizes.word) × Room n 1 ⌝ }
     ensures { λ r. ⌜ Wrote (now (out .entry)) n (now (out .exit)) r (entryOf (fitOf (now (fit .entry))) result (id, wanted)) ⌝ }
 {
     let trained = fit::trained_level(fit, id);
@@ -355,8 +372,10 @@ fn report_skill(fit: &[u8], result: usize, id: i32, wanted: u8, out: &mut [u8], 
 
 // The wanted skills that are trained lower, in the walk's order.
 pub fn report(fit: &[u8], result: usize, walk: Walk, out: &mut [u8], n: usize) -> usize
-    requires { ⌜ Fit.Sound (now fit) × (result < resultCount (now fit) + 2) × (walk .len ≤ 512) × (n ≤ 1000000) ⌝ }
-    ensures { λ r. ⌜ Wrote (now (out .entry)) n (now (out .exit)) r (reported (fitOf (now (fit .entry))) result (walkOf walk)) × (r ≤ n + 512) ⌝ }
+    requires { ⌜ Fit.Sound (now fit) × (result < resultCount (now fit) + 2) × (walk .len ≤ mostWanted) × Room n mostWanted ⌝ }
+    ensures { λ r.
+        let es = reported (fitOf (now (fit .entry))) result (walkOf walk) in
+        ⌜ Wrote (now (out .entry)) n (now (out .exit)) r es × (r ≤ n + mostWanted) ⌝ }
 {
     let len = walk.len;
     let mut k = n;

@@ -1,20 +1,41 @@
 -- Whether another pair sits in a slot, told by how many do: the pair itself is one of them.
 use Prim.Native.Nat.{ℕ, _+_, _-_, _<_, _≤_, min}
+use native.Mathlib.Nat.{eq-or-lt-of-le, ne-of-lt}
 use native.Mathlib.Omega.{arith}
-use mathlib.Core.Path.{_≡_, refl, sym, ap, _∙_}
+use mathlib.Core.Path.{_≡_, refl, sym, ap, subst, _∙_}
 use mathlib.Core.Bool.{Bool, true, false, not, _&&_, _||_, cond}
 use mathlib.Core.List.{List}
+use mathlib.Core.Logic.{⊎-elim}
 use lib.Dec.{eqb, ltb}
+use lib.ListN.{length, getD, set}
+use lib.Seq.{getD-set-same, getD-set-other}
 use borrow.Author.Tests.{eqb-true, eqb-false, ltb-true, ltb-false, eq-eqb, ne-eqb, lt-ltb, le-ltb}
 use Rattle.words.specs.Words.{table, anyOf}
 use Rattle.words.proofs.Tables.{any-more}
-use Rattle.context.specs.Context.{isOther}
+use Rattle.fit.specs.Fit.{itemAt}
+use Rattle.context.specs.Context.{Pair, isOther}
 use Rattle.context.specs.Gathered.{pairAt}
-use Rattle.slot.specs.AtPair.{Sits, sharesSlot}
+use Rattle.slot.specs.Slot.{sharesSlot}
+use Rattle.slot.specs.AtPair.{Sits, Placed}
 
 -- the same slot and the same index
 pub sits-as : {s i t j place : ℕ} → s ≡ t → i ≡ j → Sits s i place → Sits t j place
 sits-as p q h = record { number = rw (p, q) at (h .number); small = rw q at (h .small) }
+
+-- one place more
+pub placed-next : (fit places : List ℕ) (i : ℕ) {place : ℕ} → i < length places → Placed i fit places
+    → Sits (itemAt fit i .slot) (itemAt fit i .index) place
+    → Placed (i + 1) fit (set places i place)
+placed-next fit places i {place} h f s k q = ⊎-elim here before (eq-or-lt-of-le (omega (arith, q)))
+  where
+    At : ℕ → ℕ → Type 0
+    At j = Sits (itemAt fit j .slot) (itemAt fit j .index)
+
+    here : k ≡ i → At k (getD (set places i place) k 0)
+    here e = subst (λ (j : ℕ). At j (getD (set places i place) j 0)) (sym e) (subst (At i) (sym (getD-set-same places i place 0 h)) s)
+
+    before : k < i → At k (getD (set places i place) k 0)
+    before g = subst (At k) (sym (getD-set-other places i k place 0 (ne-of-lt g))) (f k g)
 
 -- two numbers are the same where slots and indices are
 pub sits-same : {s i a t j b : ℕ} → Sits s i a → Sits t j b → eqb a b ≡ eqb s t && eqb i j
@@ -35,7 +56,8 @@ pub told-none : (at : ℕ) {any : Bool} → any ≡ false → Told at 0 0 any
 told-none at e = record { own = omega arith; other = le-ltb (min 1 (0 - at)) 0 (omega arith) ∙ sym e }
 
 -- one thing more
-pub told-next : {at j there k : ℕ} {any b : Bool} → (j ≡ at → b ≡ true) → k ≡ cond b 1 0 → Told at j there any → Told at (j + 1) (there + k) (any || (not (eqb j at) && b))
+pub told-next : {at j there k : ℕ} {any b : Bool} → (j ≡ at → b ≡ true) → k ≡ cond b 1 0 → Told at j there any
+    → Told at (j + 1) (there + k) (any || (not (eqb j at) && b))
 told-next {at} {j} {there} {k} {any} {b} passes e h = go any b (eqb j at) refl (h .other) refl
   where
     one : b ≡ true → k ≡ 1
@@ -70,31 +92,35 @@ told-all {at} {n} {there} l h =
     ap (λ (m : ℕ). ltb m there) (sym e) ∙ h .other
 
 -- ---- the pairs of a fit
+-- a pair sits where another does
+abbrev alike : Pair → Pair → Bool
+alike p o = eqb (o .slot) (p .slot) && eqb (o .index) (p .index)
+
+self : (p : Pair) → alike p p ≡ true
+self p = rw (eq-eqb (p .slot) (p .slot) refl, eq-eqb (p .index) (p .index) refl)
+
 module _ (catalogue fit : List ℕ) (i j : ℕ) where
-  -- pair j sits where pair i does
-  abbrev alike : Bool
-  alike = eqb (pairAt catalogue fit j .slot) (pairAt catalogue fit i .slot) && eqb (pairAt catalogue fit j .index) (pairAt catalogue fit i .index)
+  abbrev pair : ℕ → Pair
+  pair = pairAt catalogue fit
 
-  self : j ≡ i → alike ≡ true
-  self e =
-      ap (λ (m : ℕ). eqb (pairAt catalogue fit m .slot) (pairAt catalogue fit i .slot) && eqb (pairAt catalogue fit m .index) (pairAt catalogue fit i .index)) e
-      ∙ rw (eq-eqb (pairAt catalogue fit i .slot) (pairAt catalogue fit i .slot) refl, eq-eqb (pairAt catalogue fit i .index) (pairAt catalogue fit i .index) refl)
+  -- whether another of the first n shares the slot of pair i
+  abbrev shared : ℕ → Bool
+  shared n = anyOf (sharesSlot (pair i)) (table n pair)
 
-  shares-is : not (eqb j i) && alike ≡ sharesSlot (pairAt catalogue fit i) (pairAt catalogue fit j)
+  shares-is : not (eqb j i) && alike (pair i) (pair j) ≡ sharesSlot (pair i) (pair j)
   unfolding sharesSlot isOther
   shares-is = refl
 
   -- one pair more
-  pub shares-next : {place a there k : ℕ} → Sits (pairAt catalogue fit i .slot) (pairAt catalogue fit i .index) place → Sits (pairAt catalogue fit j .slot) (pairAt catalogue fit j .index) a → k ≡ cond (eqb a place) 1 0
-      → Told i j there (anyOf (sharesSlot (pairAt catalogue fit i)) (table j (pairAt catalogue fit))) → Told i (j + 1) (there + k) (anyOf (sharesSlot (pairAt catalogue fit i)) (table (j + 1) (pairAt catalogue fit)))
+  pub shares-next : {place a there k : ℕ} → Sits (pair i .slot) (pair i .index) place → Sits (pair j .slot) (pair j .index) a
+      → k ≡ cond (eqb a place) 1 0 → Told i j there (shared j) → Told i (j + 1) (there + k) (shared (j + 1))
   shares-next {place} {a} {there} {k} s o e h =
-      let t = sharesSlot (pairAt catalogue fit i) in
       let b = sits-same o s in
-      let told = told-next {at = i} {j = j} (λ q. b ∙ self q) e h in
+      let told = told-next {at = i} {j = j} (λ q. b ∙ ap (λ (m : ℕ). alike (pair i) (pair m)) q ∙ self (pair i)) e h in
       record {
         own = told .own;
         other = told .other
-            ∙ ap (λ (y : Bool). anyOf t (table j (pairAt catalogue fit)) || (not (eqb j i) && y)) b
-            ∙ ap (λ (y : Bool). anyOf t (table j (pairAt catalogue fit)) || y) shares-is
-            ∙ sym (any-more t j (pairAt catalogue fit));
+            ∙ ap (λ (y : Bool). shared j || (not (eqb j i) && y)) b
+            ∙ ap (λ (y : Bool). shared j || y) shares-is
+            ∙ sym (any-more (sharesSlot (pair i)) j pair);
       }

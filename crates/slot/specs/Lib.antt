@@ -1,3 +1,2 @@
 pub mod Slot
-pub mod Tables
 pub mod AtPair

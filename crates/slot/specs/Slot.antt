@@ -1,50 +1,27 @@
--- validate/slot.rs.
+-- validate/slot.rs, the eight checks of an item. The racks and the hardpoints of the ship, which the Rust counts before, stand in `racks`.
 use Prim.Native.Nat.{ℕ}
-use mathlib.Core.Bool.{Bool, true, false, not, _&&_, _||_, cond}
-use mathlib.Core.List.{List, [], _∷_, _++_}
+use mathlib.Core.Bool.{Bool, false, not, _&&_, _||_, cond}
+use mathlib.Core.List.{List, _++_}
 use mathlib.Core.Option.{Option, none, some}
-use lib.IntN.{pos}
 use lib.Dec.{eqb}
-use lib.Ieee.{eq}
-use Rattle.words.specs.Words.{_>>=_, each, when, whenAny, whenAbove, countOf, given, same}
+use lib.Ieee.{Float, eq}
+use Rattle.words.specs.Words.{_>>=_, each, when, whenAny, given, same}
+use Rattle.numbers.specs.Names as Names
+use Rattle.numbers.specs.Slots as Slots
+use Rattle.numbers.specs.Categories as Categories
 use Rattle.floats.specs.Floats.{toU}
+use Rattle.catalogue.specs.Catalogue.{Id}
 use Rattle.catalogue.specs.Lookups.{nameId}
-use Rattle.fit.specs.Lookups.{value, amount}
-use Rattle.fit.specs.Refusals.{subsystem, fighterBay, implant, booster, droneBay, cargoHold}
+use Rattle.fit.specs.Lookups.{value}
 use Rattle.entry.specs.declared.Entry.{Entry}
-use Rattle.entry.specs.declared.Rule.the-variants.{Slots, WrongSlot, NotAModule, NotADrone, NotAFighter, NotAnImplant, SlotTaken, WrongSlotIndex, SubsystemTaken}
-use Rattle.entry.specs.Entries.{onShip}
-use Rattle.context.specs.Context.{Pair, Context, isFitted, isIn, isFighterSlot, isOther, on}
-use Rattle.context.specs.Context.{isModuleCategory}
+use Rattle.entry.specs.declared.Rule.the-variants.{WrongSlot, NotAModule, NotADrone, NotAFighter, NotAnImplant}
+use Rattle.entry.specs.declared.Rule.the-variants.{SlotTaken, WrongSlotIndex, SubsystemTaken}
+use Rattle.context.specs.Context.{Pair, Context, isFitted, isIn, isFighterSlot, isOther, isModuleCategory, on}
 
--- a slot, the name of the ship's number of them
-abbrev pub RACKS : List (ℕ × ℕ)
-RACKS = (0, 22) ∷ (1, 23) ∷ (2, 24) ∷ (3, 25) ∷ (4, 26) ∷ (5, 27) ∷ []
-
-abbrev pub HARDPOINTS : List (ℕ × ℕ)
-HARDPOINTS = (6, 28) ∷ (7, 29) ∷ []
-
-unfoldable pub takesHardpoint : ℕ → Pair → Bool
-takesHardpoint slot p = isFitted p && given (p .hardpoint) false (λ h. eqb h slot)
-
-module _ (x : Context) where
-  -- `report`: more items in a rack than the ship has slots
-  unfoldable pub slots : ℕ → ℕ → ℕ → List Entry
-  slots slot name used = do
-    id ← nameId (x .names) name
-    let available = toU 32 (amount (x .shipResult) id) in
-        whenAbove true available used λ n. onShip (Slots slot n available)
-
-  unfoldable pub racks : List Pair → List Entry
-  racks ps = each RACKS λ r. slots (r .0) (r .1) (countOf (isIn (r .0)) ps)
-
-  unfoldable pub hardpoints : List Pair → List Entry
-  hardpoints ps = each HARDPOINTS λ h. slots (h .0) (h .1) (countOf (takesHardpoint (h .0)) ps)
-
--- ---- the eight checks of a pair: those that look at no other
+-- ---- checks that look at one item
 -- the name of an implant's or a booster's own slot number
 unfoldable pub slotNumberName : Pair → Option ℕ
-slotNumberName p = cond (isIn implant p) (some 30) (cond (isIn booster p) (some 31) none)
+slotNumberName p = cond (isIn Slots.implant p) (some Names.implantness) (cond (isIn Slots.booster p) (some Names.boosterness) none)
 
 module _ (x : Context) (p : Pair) where
   unfoldable pub wrongSlot : List Entry
@@ -56,13 +33,14 @@ module _ (x : Context) (p : Pair) where
   notAModule = when (isFitted p && not (isModuleCategory (p .category))) (on p NotAModule)
 
   unfoldable pub notADrone : List Entry
-  notADrone = when (isIn droneBay p && not (same (p .category) (pos 18))) (on p NotADrone)
+  notADrone = when (isIn Slots.droneBay p && not (same (p .category) Categories.drone)) (on p NotADrone)
 
   unfoldable pub notAFighter : List Entry
-  notAFighter = when (isFighterSlot p && not (same (p .category) (pos 87))) (on p NotAFighter)
+  notAFighter = when (isFighterSlot p && not (same (p .category) Categories.fighter)) (on p NotAFighter)
 
   unfoldable pub notAnImplant : List Entry
-  notAnImplant = when ((isIn implant p || isIn booster p) && not (same (p .category) (pos 20))) (on p NotAnImplant)
+  notAnImplant =
+      when ((isIn Slots.implant p || isIn Slots.booster p) && not (same (p .category) Categories.implant)) (on p NotAnImplant)
 
   unfoldable pub wrongSlotIndex : List Entry
   wrongSlotIndex = do
@@ -71,24 +49,34 @@ module _ (x : Context) (p : Pair) where
     v ← value (p .result) id
     when (not (eqb (toU 16 v) (p .index))) (on p (WrongSlotIndex (toU 16 v)))
 
--- and those that do
+-- ---- checks that look at the others too
 -- `holds_one`: a bay holds as many as fit in it
 unfoldable pub holdsOne : Pair → Bool
-holdsOne p = not (isIn droneBay p || isIn fighterBay p || isIn cargoHold p)
+holdsOne p = not (isIn Slots.droneBay p || isIn Slots.fighterBay p || isIn Slots.cargo p)
+
+-- `shares_slot`: another item, in the same slot
+unfoldable pub sharesSlot : Pair → Pair → Bool
+sharesSlot p o = isOther p o && (eqb (o .slot) (p .slot) && eqb (o .index) (p .index))
+
+-- `subsystem_taken`: another subsystem, for the same part of the ship
+unfoldable pub sharesPart : Id → Float → Pair → Pair → Bool
+sharesPart id part p o = isOther p o && (isIn Slots.subsystem o && given (value (o .result) id) false (λ v. eq v part))
 
 module _ (x : Context) (ps : List Pair) (p : Pair) where
   unfoldable pub slotTaken : List Entry
-  slotTaken = whenAny (holdsOne p) (λ o. isOther p o && (eqb (o .slot) (p .slot) && eqb (o .index) (p .index))) ps (on p SlotTaken)
+  slotTaken = whenAny (holdsOne p) (sharesSlot p) ps (on p SlotTaken)
 
   unfoldable pub subsystemTaken : List Entry
   subsystemTaken = do
-    id ← nameId (x .names) 32
+    id ← nameId (x .names) Names.subSystemSlot
     part ← value (p .result) id
-    whenAny (isIn subsystem p)
-        (λ o. isOther p o && (isIn subsystem o && given (value (o .result) id) false (λ v. eq v part)))
-        ps (on p SubsystemTaken)
+    whenAny (isIn Slots.subsystem p) (sharesPart id part p) ps (on p SubsystemTaken)
 
   unfoldable pub slotChecks : List Entry
   slotChecks =
       wrongSlot x p ++ notAModule x p ++ notADrone x p ++ notAFighter x p ++ notAnImplant x p
       ++ slotTaken ++ wrongSlotIndex x p ++ subsystemTaken
+
+-- `validate`, as far as it looks at the items one by one
+abbrev pub slotRules : Context → List Pair → List Entry
+slotRules x ps = each ps (slotChecks x ps)

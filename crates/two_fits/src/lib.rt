@@ -1,6 +1,8 @@
 // Demand 3 of the two calls as they are exported: an old and a new call, each with its own buffer, and what their contracts say of both.
 // Document 01, "Two fits compared".
-ghost use Prim.Native.Nat.{_<_};
+ghost use mathlib.Core.Path.{_≡_};
+ghost use Rattle.fitcheck.specs.Calls.{listCall, skillCall};
+ghost use Rattle.promises.specs.Answers.{outcome};
 ghost use Rattle.promises.specs.Compare.{Bytes};
 ghost use Rattle.two_fits.specs.Kept.{left, ListsKept, SkillsKept};
 
@@ -22,9 +24,15 @@ fn bytes(b: &[u8]) -> usize
     i
 }
 
-// Two list calls. Where both are answered, no entry of the old list vanishes.
+// Two list calls: their words and their buffers are the call's. Where both are answered, no entry of the old list vanishes.
 pub fn lists(catalogue: &[u8], old: &[u8], new: &[u8], before: &mut [u8], after: &mut [u8]) -> Words
-    ensures { λ r. ⌜ ListsKept (now (catalogue .entry)) (now (old .entry)) (now (new .entry)) (left (r .old) (now (before .exit))) (left (r .new) (now (after .exit))) ⌝ }
+    ensures { λ r.
+        let c = now (catalogue .entry) in
+        let o = left (r .old) (now (before .exit)) in
+        let o′ = left (r .new) (now (after .exit)) in
+        ⌜ (outcome (now (before .entry)) (listCall c (now (old .entry)) (now (before .entry))) ≡ o)
+        × (outcome (now (after .entry)) (listCall c (now (new .entry)) (now (after .entry))) ≡ o′)
+        × ListsKept c (now (old .entry)) (now (new .entry)) o o′ ⌝ }
 {
     let _ = bytes(new);
     let a = fitcheck::fit_list(catalogue, old, before);
@@ -32,7 +40,7 @@ pub fn lists(catalogue: &[u8], old: &[u8], new: &[u8], before: &mut [u8], after:
     Words { old: a, new: b }
 }
 
-// Two skill calls for one result. Where both are answered, no entry of the old list vanishes.
+// Two skill calls for one result, likewise. Where both are answered, no entry of the old list vanishes.
 pub fn skills(
     catalogue: &[u8],
     old: &[u8],
@@ -41,7 +49,13 @@ pub fn skills(
     before: &mut [u8],
     after: &mut [u8],
 ) -> Words
-    ensures { λ r. ⌜ SkillsKept (now (old .entry)) (now (new .entry)) (left (r .old) (now (before .exit))) (left (r .new) (now (after .exit))) ⌝ }
+    ensures { λ r.
+        let c = now (catalogue .entry) in
+        let o = left (r .old) (now (before .exit)) in
+        let o′ = left (r .new) (now (after .exit)) in
+        ⌜ (outcome (now (before .entry)) (skillCall c (now (old .entry)) result (now (before .entry))) ≡ o)
+        × (outcome (now (after .entry)) (skillCall c (now (new .entry)) result (now (after .entry))) ≡ o′)
+        × SkillsKept (now (old .entry)) (now (new .entry)) o o′ ⌝ }
 {
     let a = fitcheck::fit_skill(catalogue, old, result, before);
     let b = fitcheck::fit_skill(catalogue, new, result, after);

@@ -1,3 +1,3 @@
--- Laws of the rules on a fit as a whole, and of the list.
+-- Laws of what kind a type is, of the rules on a fit as a whole, and of the list.
 pub mod Tests
-pub mod Lists
+pub mod Hull

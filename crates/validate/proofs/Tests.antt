@@ -32,31 +32,37 @@ pub contains-four : (a x y z w : Id) → (same a x || same a y) || (same a z || 
 unfolding contains anyOf
 contains-four a x y z w = or-four (same a x) (same a y) (same a z) (same a w)
 
--- a test of a type's category and group, by whether the type is there; z is the id as the lookup was told it
-module _ (c : Catalogue) {z id : Id} {answer : TypeAnswer} (test : Id → Id → Bool) (e : z ≡ id) (found : infoOf answer ≡ given (typeOf c z) none (λ x. some (infoOfType x))) where
-  pub test-known : {info : TypeInfo} → answer ≡ Known info → test (info .category) (info .group) ≡ given (typeOf c id) false (λ x. test (x .category) (x .group))
-  unfolding given
-  test-known {info} h =
-      go (typeOf c id) (sym (ap infoOf h) ∙ found ∙ ap (λ (y : Id). given (typeOf c y) none (λ x. some (infoOfType x))) e)
-    where
-      go : (o : Option TypeData) → some info ≡ given o none (λ x. some (infoOfType x)) → test (info .category) (info .group) ≡ given o false (λ x. test (x .category) (x .group))
-      go none q = absurd (clash q)
-        where
-          clash : some info ≡ none → ⊥
-          clash q = let y : _≡_ {A = ℕ} 0 1 = cc in omega arith
-      go (some x) q = let h : info ≡ infoOfType x = cc in rw h
+-- what a lookup of a type answers, and a test of its category and group, by whether it is there
+abbrev told : Option TypeData → Option TypeInfo
+told o = given o none (λ x. some (infoOfType x))
 
-  pub test-unknown : answer ≡ Unknown → false ≡ given (typeOf c id) false (λ x. test (x .category) (x .group))
+module _ (test : Id → Id → Bool) where
+  abbrev tested : Option TypeData → Bool
+  tested o = given o false (λ x. test (x .category) (x .group))
+
+  known : (info : TypeInfo) (o : Option TypeData) → some info ≡ told o → test (info .category) (info .group) ≡ tested o
   unfolding given
-  test-unknown h =
-      go (typeOf c id) (sym (ap infoOf h) ∙ found ∙ ap (λ (y : Id). given (typeOf c y) none (λ x. some (infoOfType x))) e)
+  known info none q = absurd (clash q)
     where
-      go : (o : Option TypeData) → none ≡ given o none (λ x. some (infoOfType x)) → false ≡ given o false (λ x. test (x .category) (x .group))
-      go none q = refl
-      go (some x) q = absurd (clash q)
-        where
-          clash : none ≡ some (infoOfType x) → ⊥
-          clash q = let y : _≡_ {A = ℕ} 0 1 = cc in omega arith
+      clash : some info ≡ none → ⊥
+      clash q = let y : _≡_ {A = ℕ} 0 1 = cc in omega arith
+  known info (some x) q = let h : info ≡ infoOfType x = cc in rw h
+
+  unknown : (o : Option TypeData) → none ≡ told o → false ≡ tested o
+  unfolding given
+  unknown none q = refl
+  unknown (some x) q = absurd (clash q)
+    where
+      clash : none ≡ some (infoOfType x) → ⊥
+      clash q = let y : _≡_ {A = ℕ} 0 1 = cc in omega arith
+
+  -- z is the id as the lookup was told it
+  module _ (c : Catalogue) {z id : Id} {answer : TypeAnswer} (e : z ≡ id) (found : infoOf answer ≡ told (typeOf c z)) where
+    pub test-known : {info : TypeInfo} → answer ≡ Known info → test (info .category) (info .group) ≡ tested (typeOf c id)
+    test-known {info} h = known info (typeOf c id) (sym (ap infoOf h) ∙ found ∙ ap (λ (y : Id). told (typeOf c y)) e)
+
+    pub test-unknown : answer ≡ Unknown → false ≡ tested (typeOf c id)
+    test-unknown h = unknown (typeOf c id) (sym (ap infoOf h) ∙ found ∙ ap (λ (y : Id). told (typeOf c y)) e)
 
 -- ---- the mode
 module _ (c : Catalogue) (mode : Option Id) where
@@ -64,7 +70,8 @@ module _ (c : Catalogue) (mode : Option Id) where
   unfolding notAMode
   mode-none e = wrote-bind-none _ e
 
-  pub mode-some : {b a : List ℕ} {n k : ℕ} (m : Id) (t : Bool) → mode ≡ some m → t ≡ isMode c m → Wrote b n a k (when (not t) (onShip NotAMode)) → Wrote b n a k (notAMode c mode)
+  pub mode-some : {b a : List ℕ} {n k : ℕ} (m : Id) (t : Bool) → mode ≡ some m → t ≡ isMode c m
+      → Wrote b n a k (when (not t) (onShip NotAMode)) → Wrote b n a k (notAMode c mode)
   unfolding notAMode
   mode-some m t e q w = wrote-bind _ e (wrote-same (ap (λ (s : Bool). when (not s) (onShip NotAMode)) q) w)
 

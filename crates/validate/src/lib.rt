@@ -4,71 +4,61 @@ use entry::Entry;
 use entry::Rule;
 use entry::Target;
 use fit::ModeAnswer;
+use numbers::categories;
+use numbers::groups;
+use numbers::sizes;
 ghost use mathlib.Core.Path.{_≡_};
-ghost use mathlib.Core.Bool.{true, not, _||_};
-ghost use mathlib.Core.List.{[], _∷_, _++_};
-ghost use Prim.Native.Nat.{_+_, _<_, _≤_};
-ghost use lib.IntN.{pos};
-ghost use Rattle.words.specs.Words.{when, same, contains};
+ghost use mathlib.Core.List.{_++_};
+ghost use Prim.Native.Nat.{_+_, _*_, _<_, _≤_};
+ghost use Rattle.words.specs.Words.{contains};
+ghost use Rattle.numbers.specs.Groups as Groups;
+ghost use Rattle.numbers.specs.Sizes.{mostSkills, mostPairs};
 ghost use Rattle.catalogue.specs.Catalogue.{catalogueOf};
 ghost use Rattle.catalogue.specs.Sound as Catalogue;
 ghost use Rattle.fit.specs.Fit.{skillCount, modeOf, fitOf};
 ghost use Rattle.fit.specs.Sound as Fit;
-ghost use Rattle.entry.specs.declared.Rule.the-variants.{NotASkill};
-ghost use Rattle.entry.specs.Entries.{onShip};
-ghost use Rattle.entry.specs.Wrote.{Wrote};
-ghost use Rattle.context.specs.Gathered.{pairsOf, contextOf, Ready, Groups, Categories, Racks, Hardpoints, Volumes};
-ghost use Rattle.validate.specs.Kind.{isHull, isMode, isSkill, notAMode, notASkill};
-ghost use Rattle.validate.specs.Validate.{hullRules, listOf};
+ghost use Rattle.entry.specs.Wrote.{Wrote, Room};
+ghost use Rattle.context.specs.Gathered.{pairsOf, contextOf, Gathered};
+ghost use Rattle.validate.specs.Kind.{isHullKind, isHull, isMode, isSkill, notAMode, notASkillAt, notASkill};
+ghost use Rattle.validate.specs.Validate.{hullRules, listOf, mostEntries};
 
-const CATEGORY_SHIP: i32 = 6;
-
-const CATEGORY_SKILL: i32 = 16;
-
-const CATEGORY_STRUCTURE: i32 = 65;
-
-const GROUP_CONTAINERS: [i32; 4] = [12, 340, 448, 649];
-
-const GROUP_SHIP_MODIFIERS: i32 = 1306;
+// No list has more entries: the mode, the skills, 12 resources, 6 racks, 2 hardpoints; and of each pair 8 by slot.rs, 8 by item.rs.
+pub const MOST_ENTRIES: usize = 1 + sizes::MOST_SKILLS + 12 + 8 + 16 * sizes::MOST_PAIRS;
 
 fn is_container(group: i32) -> bool
-    ensures { λ r. ⌜ r ≡ contains group (pos 12 ∷ pos 340 ∷ pos 448 ∷ pos 649 ∷ []) ⌝ }
+    ensures { λ r. ⌜ r ≡ contains group Groups.containers ⌝ }
 {
-    let a = words::same_id(group, GROUP_CONTAINERS[0]);
-    let b = words::same_id(group, GROUP_CONTAINERS[1]);
-    let c = words::same_id(group, GROUP_CONTAINERS[2]);
-    let d = words::same_id(group, GROUP_CONTAINERS[3]);
+    let a = words::same_id(group, groups::CONTAINERS[0]);
+    let b = words::same_id(group, groups::CONTAINERS[1]);
+    let c = words::same_id(group, groups::CONTAINERS[2]);
+    let d = words::same_id(group, groups::CONTAINERS[3]);
     words::either(words::either(a, b), words::either(c, d))
 }
 
-// A category of ships or structures, or a group of containers.
 fn is_hull_kind(category: i32, group: i32) -> bool
-    ensures { λ r. ⌜ r ≡ (same category (pos 6) || same category (pos 65) || contains group (pos 12 ∷ pos 340 ∷ pos 448 ∷ pos 649 ∷ [])) ⌝ }
+    ensures { λ r. ⌜ r ≡ isHullKind category group ⌝ }
 {
-    if words::same_id(category, CATEGORY_SHIP) {
+    if words::same_id(category, categories::SHIP) {
         return true;
     }
-    if words::same_id(category, CATEGORY_STRUCTURE) {
+    if words::same_id(category, categories::STRUCTURE) {
         return true;
     }
     is_container(group)
 }
 
-// Whether the type can be the hull of a fit: a ship, structure or container.
-pub fn is_hull(catalogue: &[u8], id: i32) -> bool
-    requires { ⌜ Catalogue.Sound (now catalogue) ⌝ }
-    ensures { λ r. ⌜ r ≡ isHull (catalogueOf (now (catalogue .entry))) id ⌝ }
+// Whether the ship is one: a ship, structure or container. A type that the catalogue lacks has category 0 and group 0, which are no hull's.
+pub fn is_hull(catalogue: &[u8], fit: &[u8], facts: &[u32; 1797]) -> bool
+    requires { ⌜ Gathered (now catalogue) (now fit) (now facts) ⌝ }
+    ensures { λ r. ⌜ r ≡ isHull (catalogueOf (now (catalogue .entry))) (fitOf (now (fit .entry)) .frame .ship) ⌝ }
 {
-    let mut none = [0u32; 0];
-    let answer = catalogue::type_of(catalogue, id, &mut none);
-    let TypeAnswer::Known(info) = answer else {
-        return false;
-    };
-    is_hull_kind(info.category, info.group)
+    let category = context::ship_category(catalogue, fit, facts);
+    let group = context::ship_group(catalogue, fit, facts);
+    is_hull_kind(category, group)
 }
 
 // Whether the type is a tactical mode.
-pub fn is_mode(catalogue: &[u8], id: i32) -> bool
+fn is_mode(catalogue: &[u8], id: i32) -> bool
     requires { ⌜ Catalogue.Sound (now catalogue) ⌝ }
     ensures { λ r. ⌜ r ≡ isMode (catalogueOf (now (catalogue .entry))) id ⌝ }
 {
@@ -77,11 +67,11 @@ pub fn is_mode(catalogue: &[u8], id: i32) -> bool
     let TypeAnswer::Known(info) = answer else {
         return false;
     };
-    words::same_id(info.group, GROUP_SHIP_MODIFIERS)
+    words::same_id(info.group, groups::SHIP_MODIFIERS)
 }
 
 // Whether the type is a skill. `hints` are those of `catalogue::type_of`.
-pub fn is_skill(catalogue: &[u8], id: i32, hints: &mut [u32]) -> bool
+fn is_skill(catalogue: &[u8], id: i32, hints: &mut [u32]) -> bool
     requires { ⌜ Catalogue.Sound (now catalogue) ⌝ }
     ensures { λ r. ⌜ r ≡ isSkill (catalogueOf (now (catalogue .entry))) id ⌝ }
 {
@@ -89,12 +79,14 @@ pub fn is_skill(catalogue: &[u8], id: i32, hints: &mut [u32]) -> bool
     let TypeAnswer::Known(info) = answer else {
         return false;
     };
-    words::same_id(info.category, CATEGORY_SKILL)
+    words::same_id(info.category, categories::SKILL)
 }
 
 fn not_a_mode(catalogue: &[u8], fit: &[u8], out: &mut [u8], n: usize) -> usize
-    requires { ⌜ Catalogue.Sound (now catalogue) × Fit.Sound (now fit) × (n ≤ 1000000) ⌝ }
-    ensures { λ r. ⌜ Wrote (now (out .entry)) n (now (out .exit)) r (notAMode (catalogueOf (now (catalogue .entry))) (modeOf (fitOf (now (fit .entry)) .frame))) × (r ≤ n + 1) ⌝ }
+    requires { ⌜ Catalogue.Sound (now catalogue) × Fit.Sound (now fit) × Room n 1 ⌝ }
+    ensures { λ r.
+        let mode = modeOf (fitOf (now (fit .entry)) .frame) in
+        ⌜ Wrote (now (out .entry)) n (now (out .exit)) r (notAMode (catalogueOf (now (catalogue .entry))) mode) × (r ≤ n + 1) ⌝ }
 {
     let answer = fit::mode(fit);
     let ModeAnswer::Mode(mode) = answer else {
@@ -112,8 +104,8 @@ fn not_a_mode(catalogue: &[u8], fit: &[u8], out: &mut [u8], n: usize) -> usize
 }
 
 fn not_a_skill_at(catalogue: &[u8], id: i32, hints: &mut [u32], out: &mut [u8], n: usize) -> usize
-    requires { ⌜ Catalogue.Sound (now catalogue) × (n < 4294967296) ⌝ }
-    ensures { λ r. ⌜ Wrote (now (out .entry)) n (now (out .exit)) r (when (not (isSkill (catalogueOf (now (catalogue .entry))) id)) (onShip (NotASkill id))) ⌝ }
+    requires { ⌜ Catalogue.Sound (now catalogue) × Room n 1 ⌝ }
+    ensures { λ r. ⌜ Wrote (now (out .entry)) n (now (out .exit)) r (notASkillAt (catalogueOf (now (catalogue .entry))) id) ⌝ }
 {
     entry::emit_when(
         out,
@@ -130,7 +122,7 @@ fn not_a_skill_at(catalogue: &[u8], id: i32, hints: &mut [u32], out: &mut [u8], 
 fn seek_skills(catalogue: &[u8], fit: &[u8], i: usize, hints: &mut [u32])
     requires { ⌜ Catalogue.Sound (now catalogue) × Fit.Sound (now fit) × (i < skillCount (now fit)) ⌝ }
 {
-    if 64 < hints.len() {
+    if context::LIST_HINTS < hints.len() {
         return;
     }
     if i % 4 != 0 {
@@ -150,8 +142,10 @@ fn seek_skills(catalogue: &[u8], fit: &[u8], i: usize, hints: &mut [u32])
 }
 
 fn not_a_skill(catalogue: &[u8], fit: &[u8], hints: &mut [u32], out: &mut [u8], n: usize) -> usize
-    requires { ⌜ Catalogue.Sound (now catalogue) × Fit.Sound (now fit) × (n ≤ 2000000) ⌝ }
-    ensures { λ r. ⌜ Wrote (now (out .entry)) n (now (out .exit)) r (notASkill (catalogueOf (now (catalogue .entry))) (fitOf (now (fit .entry)) .skills)) × (r ≤ n + 1024) ⌝ }
+    requires { ⌜ Catalogue.Sound (now catalogue) × Fit.Sound (now fit) × Room n mostSkills ⌝ }
+    ensures { λ r.
+        let ids = fitOf (now (fit .entry)) .skills in
+        ⌜ Wrote (now (out .entry)) n (now (out .exit)) r (notASkill (catalogueOf (now (catalogue .entry))) ids) × (r ≤ n + mostSkills) ⌝ }
 {
     let count = fit::skill_count(fit);
     let mut m = n;
@@ -165,64 +159,56 @@ fn not_a_skill(catalogue: &[u8], fit: &[u8], hints: &mut [u32], out: &mut [u8], 
 }
 
 // The mode and the skills that are none.
-pub fn kind(catalogue: &[u8], fit: &[u8], hints: &mut [u32], out: &mut [u8], n: usize) -> usize
-    requires { ⌜ Catalogue.Sound (now catalogue) × Fit.Sound (now fit) × (n ≤ 1000000) ⌝ }
-    ensures { λ r. ⌜ Wrote (now (out .entry)) n (now (out .exit)) r (notAMode (catalogueOf (now (catalogue .entry))) (modeOf (fitOf (now (fit .entry)) .frame)) ++ notASkill (catalogueOf (now (catalogue .entry))) (fitOf (now (fit .entry)) .skills)) × (r ≤ n + 1025) ⌝ }
+fn kind(catalogue: &[u8], fit: &[u8], hints: &mut [u32], out: &mut [u8], n: usize) -> usize
+    requires { ⌜ Catalogue.Sound (now catalogue) × Fit.Sound (now fit) × Room n (1 + mostSkills) ⌝ }
+    ensures { λ r.
+        let c = catalogueOf (now (catalogue .entry)) in
+        let f = fitOf (now (fit .entry)) in
+        let es = notAMode c (modeOf (f .frame)) ++ notASkill c (f .skills) in
+        ⌜ Wrote (now (out .entry)) n (now (out .exit)) r es × (r ≤ n + (1 + mostSkills)) ⌝ }
 {
     let m = not_a_mode(catalogue, fit, out, n);
     not_a_skill(catalogue, fit, hints, out, m)
 }
 
 // resource.rs, slot.rs and item.rs.
-fn hull_rules<'a>(
-    catalogue: &[u8],
-    fit: &[u8],
-    starts: &[u32; 259],
-    groups: &'a [i32; 256],
-    categories: &'a [i32; 256],
-    racks: &'a [u8; 256],
-    hardpoints: &'a [u8; 256],
-    volumes: &'a [f64; 256],
-    out: &mut [u8],
-    n: usize,
-) -> usize
-    requires { ⌜ Ready (now catalogue) (now fit) (now starts) × Groups (now catalogue) (now fit) (now groups) × Categories (now catalogue) (now fit) (now categories) × Racks (now catalogue) (now fit) (now racks) × Hardpoints (now catalogue) (now fit) (now hardpoints) × Volumes (now catalogue) (now fit) (now volumes) × (n ≤ 800000) ⌝ }
-    ensures { λ r. ⌜ (r ≤ n + 4116) × Wrote (now (out .entry)) n (now (out .exit)) r (hullRules (contextOf (now (catalogue .entry)) (now (fit .entry))) (pairsOf (now (catalogue .entry)) (now (fit .entry)))) ⌝ }
+fn hull_rules(catalogue: &[u8], fit: &[u8], facts: &[u32; 1797], out: &mut [u8], n: usize) -> usize
+    requires { ⌜ Gathered (now catalogue) (now fit) (now facts) × Room n (12 + 8 + 16 * mostPairs) ⌝ }
+    ensures { λ r.
+        let x = contextOf (now (catalogue .entry)) (now (fit .entry)) in
+        let ps = pairsOf (now (catalogue .entry)) (now (fit .entry)) in
+        ⌜ Wrote (now (out .entry)) n (now (out .exit)) r (hullRules x ps) × (r ≤ n + (12 + 8 + 16 * mostPairs)) ⌝ }
 {
-    let a = resource::validate(catalogue, fit, starts, volumes, out, n);
-    let b = racks::validate(catalogue, fit, starts, hardpoints, out, a);
-    let c = slot::validate(catalogue, fit, starts, categories, racks, out, b);
-    let d = item::validate(catalogue, fit, starts, categories, out, c);
-    limits::validate(catalogue, fit, starts, groups, out, d)
+    let a = resource::validate(catalogue, fit, facts, out, n);
+    let b = racks::validate(catalogue, fit, facts, out, a);
+    let c = slot::validate(catalogue, fit, facts, out, b);
+    let d = item::validate(catalogue, fit, facts, out, c);
+    limits::validate(catalogue, fit, facts, out, d)
 }
 
-// The list of a fit whose ship is a hull. `hints` are those of `catalogue::type_of`.
-pub fn validate<'a>(
+// The list of a fit. `hints` are those of `catalogue::type_of`.
+pub fn validate(
     catalogue: &[u8],
     fit: &[u8],
-    starts: &[u32; 259],
-    groups: &'a [i32; 256],
-    categories: &'a [i32; 256],
-    racks: &'a [u8; 256],
-    hardpoints: &'a [u8; 256],
-    volumes: &'a [f64; 256],
+    facts: &[u32; 1797],
     hints: &mut [u32],
     out: &mut [u8],
 ) -> usize
-    requires { ⌜ Ready (now catalogue) (now fit) (now starts) × Groups (now catalogue) (now fit) (now groups) × Categories (now catalogue) (now fit) (now categories) × Racks (now catalogue) (now fit) (now racks) × Hardpoints (now catalogue) (now fit) (now hardpoints) × Volumes (now catalogue) (now fit) (now volumes) × (isHull (catalogueOf (now catalogue)) (fitOf (now fit) .frame .ship) ≡ true) ⌝ }
-    ensures { λ r. ⌜ (r ≤ 5141) × Wrote (now (out .entry)) 0 (now (out .exit)) r (listOf (catalogueOf (now (catalogue .entry))) (fitOf (now (fit .entry)))) ⌝ }
+    requires { ⌜ Gathered (now catalogue) (now fit) (now facts) ⌝ }
+    ensures { λ r.
+        let es = listOf (catalogueOf (now (catalogue .entry))) (fitOf (now (fit .entry))) in
+        ⌜ Wrote (now (out .entry)) 0 (now (out .exit)) r es × (r ≤ mostEntries) ⌝ }
 {
+    if !is_hull(catalogue, fit, facts) {
+        return entry::emit(
+            out,
+            0,
+            Entry {
+                target: Target::Ship,
+                rule: Rule::NotAHull,
+            },
+        );
+    }
     let n = kind(catalogue, fit, hints, out, 0);
-    hull_rules(
-        catalogue,
-        fit,
-        starts,
-        groups,
-        categories,
-        racks,
-        hardpoints,
-        volumes,
-        out,
-        n,
-    )
+    hull_rules(catalogue, fit, facts, out, n)
 }

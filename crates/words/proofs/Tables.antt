@@ -80,7 +80,8 @@ module _ {A : Type 0} (t : A → Bool) where
   none-from i zero f h = refl
   none-from i (suc n) f h = rw (h i (omega arith) (omega arith)) (none-from (suc i) n f (λ j p q. h j (omega (arith, p)) (omega (arith, q))))
 
-  at-from : (i n : ℕ) (f : ℕ → A) (r : ℕ) → i ≤ r → r < i + n → ((j : ℕ) → i ≤ j → j < r → t (f j) ≡ false) → t (f r) ≡ true → find t (tableFrom i n f) ≡ some (f r)
+  at-from : (i n : ℕ) (f : ℕ → A) (r : ℕ) → i ≤ r → r < i + n → ((j : ℕ) → i ≤ j → j < r → t (f j) ≡ false) → t (f r) ≡ true
+      → find t (tableFrom i n f) ≡ some (f r)
   unfolding tableFrom find
   at-from i zero f r a b h e = absurd (bad a b)
     where
@@ -146,8 +147,10 @@ given-made none g z h = refl
 given-made (some x) g z h = refl
 
 -- what is made of the element that a search finds
-pub find-made : {A B : Type 0} (t : A → Bool) (g : A → B) (n : ℕ) (f : ℕ → A) → given (find t (table n f)) none (λ x. some (g x)) ≡ given (find (λ j. t (f j)) (from 0 n)) none (λ j. some (g (f j)))
-find-made {A} {B} t g n f = ap (λ (o : Option A). given o none (λ x. some (g x))) (find-table t n f) ∙ given-made (find (λ j. t (f j)) (from 0 n)) f none (λ x. some (g x))
+pub find-made : {A B : Type 0} (t : A → Bool) (g : A → B) (n : ℕ) (f : ℕ → A)
+    → given (find t (table n f)) none (λ x. some (g x)) ≡ given (find (λ j. t (f j)) (from 0 n)) none (λ j. some (g (f j)))
+find-made {A} {B} t g n f =
+    ap (λ (o : Option A). given o none (λ x. some (g x))) (find-table t n f) ∙ given-made (find (λ j. t (f j)) (from 0 n)) f none (λ x. some (g x))
 
 -- ---- searches for a number
 module _ (t s : ℕ → Bool) where
@@ -258,11 +261,15 @@ module _ {A : Type 0} (f : ℕ → A) where
 
   pub sum-more : (g : A → ℕ) (n : ℕ) → sumOf g (table (n + 1) f) ≡ sumOf g (table n f) + g (f n)
   unfolding sumOf
-  sum-more g n = ap (sumOf g) (table-more n f) ∙ sum-append g (table n f) (f n ∷ []) ∙ (let q : sumOf g (table n f) + (g (f n) + 0) ≡ sumOf g (table n f) + g (f n) = omega arith in q)
+  sum-more g n =
+      ap (sumOf g) (table-more n f) ∙ sum-append g (table n f) (f n ∷ []) ∙
+      (let q : sumOf g (table n f) + (g (f n) + 0) ≡ sumOf g (table n f) + g (f n) = omega arith in q)
 
   pub count-more : (t : A → Bool) (n : ℕ) → countOf t (table (n + 1) f) ≡ countOf t (table n f) + cond (t (f n)) 1 0
   unfolding countOf
-  count-more t n = ap length (only-more t n) ∙ length-append (only t (table n f)) (cond (t (f n)) (f n ∷ []) []) ∙ ap (λ (k : ℕ). length (only t (table n f)) + k) (go (t (f n)))
+  count-more t n =
+      ap length (only-more t n) ∙ length-append (only t (table n f)) (cond (t (f n)) (f n ∷ []) [])
+      ∙ ap (λ (k : ℕ). length (only t (table n f)) + k) (go (t (f n)))
     where
       go : (b : Bool) → length (cond b (f n ∷ []) []) ≡ cond b 1 0
       go true = refl

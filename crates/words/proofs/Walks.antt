@@ -35,7 +35,8 @@ module _ {A : Type 0} (f : ℕ → A) where
     only-skip i (suc n) h e =
         ⊎-elim
         (λ (q : i ≡ suc n). ap (λ (k : ℕ). only p (table k f)) (sym q))
-        (λ (q : i < suc n). rw (← add-one n) (only-less n (e n (le-of-suc-le-suc q) (omega arith)) ∙ only-skip i n (le-of-suc-le-suc q) (λ k a b. e k a (omega (arith, b)))))
+        (λ (q : i < suc n). rw (← add-one n) (only-less n (e n (le-of-suc-le-suc q) (omega arith)) ∙ only-skip i n (le-of-suc-le-suc q)
+        (λ k a b. e k a (omega (arith, b)))))
         (eq-or-lt-of-le h)
 
   -- ---- a search in what is left
@@ -55,23 +56,28 @@ module _ {A : Type 0} (f : ℕ → A) where
     none-in i zero h = refl
     none-in i (suc n) h = rw (h i (omega arith) (omega arith)) (none-in (suc i) n (λ k a b. h k (omega (arith, a)) (omega (arith, b))))
 
-    past : (i n m : ℕ) → ((k : ℕ) → i ≤ k → k < i + n → p (f k) ≡ false) → find (λ x. p x && q x) (tableFrom i (n + m) f) ≡ find (λ x. p x && q x) (tableFrom (i + n) m f)
+    past : (i n m : ℕ) → ((k : ℕ) → i ≤ k → k < i + n → p (f k) ≡ false)
+        → find (λ x. p x && q x) (tableFrom i (n + m) f) ≡ find (λ x. p x && q x) (tableFrom (i + n) m f)
     unfolding tableFrom find
     past i zero m h = rw (zero-add, add-zero)
     past i (suc n) m h =
         let e : suc n + m ≡ suc (n + m) = omega arith in
         let d : suc i + n ≡ i + suc n = omega arith in
-        rw (e, h i (omega arith) (omega arith)) (past (suc i) n m (λ k a b. h k (omega (arith, a)) (omega (arith, b))) ∙ ap (λ (j : ℕ). find (λ x. p x && q x) (tableFrom j m f)) d)
+        rw (e, h i (omega arith) (omega arith)) (past (suc i) n m (λ k a b. h k (omega (arith, a)) (omega (arith, b)))
+        ∙ ap (λ (j : ℕ). find (λ x. p x && q x) (tableFrom j m f)) d)
 
-    within : (i n m : ℕ) → ((k : ℕ) → i ≤ k → k < i + n → p (f k) ≡ true) → ((k : ℕ) → i + n ≤ k → k < i + n + m → p (f k) ≡ false) → find (λ x. p x && q x) (tableFrom i (n + m) f) ≡ find q (tableFrom i n f)
+    within : (i n m : ℕ) → ((k : ℕ) → i ≤ k → k < i + n → p (f k) ≡ true) → ((k : ℕ) → i + n ≤ k → k < i + n + m → p (f k) ≡ false)
+        → find (λ x. p x && q x) (tableFrom i (n + m) f) ≡ find q (tableFrom i n f)
     unfolding tableFrom find
     within i zero m h g = rw zero-add (none-in i m (λ k a b. g k (omega (arith, a)) (omega (arith, b))))
     within i (suc n) m h g =
         let e : suc n + m ≡ suc (n + m) = omega arith in
-        rw (e, h i (omega arith) (omega arith)) (ap (λ (o : Option A). cond (q (f i)) (some (f i)) o) (within (suc i) n m (λ k a b. h k (omega (arith, a)) (omega (arith, b))) (λ k a b. g k (omega (arith, a)) (omega (arith, b)))))
+        rw (e, h i (omega arith) (omega arith)) (ap (λ (o : Option A). cond (q (f i)) (some (f i)) o)
+        (within (suc i) n m (λ k a b. h k (omega (arith, a)) (omega (arith, b))) (λ k a b. g k (omega (arith, a)) (omega (arith, b)))))
 
     -- of n elements those from i to j pass p: a search for p and q is one for q among them
-    pub find-run : (i j n : ℕ) → i ≤ j → j ≤ n → ((k : ℕ) → k < i → p (f k) ≡ false) → ((k : ℕ) → i ≤ k → k < j → p (f k) ≡ true) → ((k : ℕ) → j ≤ k → k < n → p (f k) ≡ false) → find (λ x. p x && q x) (table n f) ≡ find q (tableFrom i (j - i) f)
+    pub find-run : (i j n : ℕ) → i ≤ j → j ≤ n → ((k : ℕ) → k < i → p (f k) ≡ false) → ((k : ℕ) → i ≤ k → k < j → p (f k) ≡ true)
+        → ((k : ℕ) → j ≤ k → k < n → p (f k) ≡ false) → find (λ x. p x && q x) (table n f) ≡ find q (tableFrom i (j - i) f)
     find-run i j n h g before inside after =
         let e : n ≡ i + (j - i + (n - j)) = omega arith in
         ap (λ (k : ℕ). find (λ x. p x && q x) (table k f)) e

@@ -18,17 +18,21 @@ use borrow.Author.Needs.{needs}
 use Rattle.catalogue.proofs.attribute_id.Statement.{statement}
 use Rattle.catalogue.proofs.attribute_id.Tie as tie
 
-found : (c : tie.After-find-key) → let a = c .before .before .before .before .before .args in foundOf (c .find-key .result) ≡ find (λ j. same (i32At (a .catalogue .now) (namesAt (a .catalogue .now) + 4 * j)) (pos (a .name))) (from 0 (nameCount (a .catalogue .now)))
+found : (c : tie.After-find-key) → let a = c .before .before .before .before .before .args in foundOf (c .find-key .result) ≡ find
+    (λ j. same (i32At (a .catalogue .now) (namesAt (a .catalogue .now) + 4 * j)) (pos (a .name))) (from 0 (nameCount (a .catalogue .now)))
 found c =
     let a = c .before .before .before .before .before in
     let e = c .before .before .names .ensures in
     c .find-key .ensures ∙ simp (e .0, e .1, toZ-pos w32 (a .args .name) (omega arith))
 
-answer : (c : tie.After-find-key) (o : Option ℕ) → foundOf (c .find-key .result) ≡ o → let a = c .before .before .before .before .before .args in given o none (λ j. some (nameAt (a .catalogue .now) j .id)) ≡ nameId (catalogueOf (a .catalogue .now) .names) (a .name)
+answer : (c : tie.After-find-key) (o : Option ℕ) → foundOf
+    (c .find-key .result) ≡ o → let a = c .before .before .before .before .before .args in given o none
+    (λ j. some (nameAt (a .catalogue .now) j .id)) ≡ nameId (catalogueOf (a .catalogue .now) .names) (a .name)
 answer c o e =
     let s = c .before .before .before .before .before in
     let a = s .args in
-    sym (name-search (a .catalogue .now) (s .pre) (a .name) ∙ ap (λ (x : Option ℕ). given x none (λ j. some (nameAt (a .catalogue .now) j .id))) (sym (found c) ∙ e))
+    sym (name-search (a .catalogue .now) (s .pre) (a .name) ∙ ap (λ (x : Option ℕ). given x none (λ j. some (nameAt (a .catalogue .now) j .id)))
+    (sym (found c) ∙ e))
 
 returns : tie.Need-returns
 returns c = let s = c .before .before in sym (name-none (s .args .catalogue .now) (s .pre) (s .args .name) (c .if1 .taken))
@@ -48,7 +52,8 @@ returns-2 : tie.Need-returns-2
 unfolding given
 returns-2 c =
     let f = c .before .before .before .before .before in
-    ap (λ (z : Id). some z) (toZ-ofZ w32 (c .id-at .result) (record { sfits = c .id-at .ok }) ∙ c .id-at .ensures) ∙ answer f _ (ap foundOf (c .before .before .found .given .1))
+    ap (λ (z : Id). some z) (toZ-ofZ w32 (c .id-at .result) (record { sfits = c .id-at .ok }) ∙ c .id-at .ensures) ∙ answer f _
+    (ap foundOf (c .before .before .found .given .1))
 
 returns-3 : tie.Need-returns-3
 unfolding given

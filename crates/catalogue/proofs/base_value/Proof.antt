@@ -73,8 +73,12 @@ loop-again : tie.Need-loop-again Inv-loop μ-loop
 loop-again c =
     let f = c .before in
     let l = f .before .before .loop in
-    let s = f .before .before .before .before .before .before .before in
-    (omega arith, omega arith, l .inv .2 ∙ span-next (s .args .catalogue .now) (l .i) (s .args .span .to) _ (f .before .loop-test .taken) (sym (matches f) ∙ c .if1 .left))
+    let s = f .before .before .before .before .before .before .before in (
+      omega arith,
+      omega arith,
+      l .inv .2 ∙ span-next (s .args .catalogue .now) (l .i) (s .args .span .to) _ (f .before .loop-test .taken)
+          (sym (matches f) ∙ c .if1 .left),
+    )
 
 returns-2 : tie.Need-returns-2 Inv-loop μ-loop
 returns-2 c =

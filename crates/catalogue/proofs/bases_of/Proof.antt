@@ -20,7 +20,8 @@ returns c =
     let b = s .args .catalogue .now in
     let e = c .before .before .before .before .bases .ensures in
     let z = toZ-ofZ w32 (s .args .id) (s .fits .id) in
-    run-of b (basesAt b) (baseCount b) (s .args .id) (s .fits .id .sfits) (c .before .before .first-key .result) (rw (e .0, e .1, z) at (c .before .before .first-key .ensures)) (bases-sorted b (s .pre))
+    run-of b (basesAt b) (baseCount b) (s .args .id) (s .fits .id .sfits) (c .before .before .first-key .result)
+    (rw (e .0, e .1, z) at (c .before .before .first-key .ensures)) (bases-sorted b (s .pre))
     (c .run-end .result) (rw (e .0, e .1, z) at (c .run-end .ensures))
 
 pub bases-of-spec : {M : Type 1} → statement M

@@ -15,7 +15,8 @@ use borrow.Author.Needs.{needs}
 use Rattle.catalogue.proofs.effect_mark.Statement.{statement}
 use Rattle.catalogue.proofs.effect_mark.Tie as tie
 
-found : (c : tie.After-find-key) → let a = c .before .before .before .before .before .args in foundOf (c .find-key .result) ≡ find (λ j. same (effectAt (a .catalogue .now) j .id) (a .id)) (from 0 (effectCount (a .catalogue .now)))
+found : (c : tie.After-find-key) → let a = c .before .before .before .before .before .args in foundOf (c .find-key .result) ≡ find
+    (λ j. same (effectAt (a .catalogue .now) j .id) (a .id)) (from 0 (effectCount (a .catalogue .now)))
 found c =
     let a = c .before .before .before .before .before in
     let e = c .before .before .effects .ensures in
@@ -33,7 +34,9 @@ mark-at-requires c κs =
     (f .before .before .before .before .before .pre, find-below _ _ _ (sym (found f) ∙ ap foundOf (c .before .found .given .1)))
 
 -- what is made of the answer of the search
-answer : (c : tie.After-find-key) (o : Option ℕ) → foundOf (c .find-key .result) ≡ o → let a = c .before .before .before .before .before .args in given o none (λ j. some (effectAt (a .catalogue .now) j .mark)) ≡ effectMark (catalogueOf (a .catalogue .now)) (a .id)
+answer : (c : tie.After-find-key) (o : Option ℕ) → foundOf
+    (c .find-key .result) ≡ o → let a = c .before .before .before .before .before .args in given o none
+    (λ j. some (effectAt (a .catalogue .now) j .mark)) ≡ effectMark (catalogueOf (a .catalogue .now)) (a .id)
 answer c o e =
     let a = c .before .before .before .before .before .args in
     sym (effect-search (a .catalogue .now) (a .id) ∙ ap (λ (x : Option ℕ). given x none (λ j. some (effectAt (a .catalogue .now) j .mark))) (sym (found c) ∙ e))

@@ -19,7 +19,8 @@ place-at-requires c κs =
     let e = sym (c .keys-of .ensures .0) in (
       omega (arith, c .keys-of .ensures .1),
       subst (λ (l : List ℕ). Sorted l (a .args .b .n)) e (a .pre .1),
-      subst (λ (l : List ℕ). Parts l (a .args .b .n) (toZ w32 (ofZ w32 (a .args .id))) (c .before .before .before .first-key .result)) e (c .before .before .before .first-key .ensures),
+      subst (λ (l : List ℕ). Parts l (a .args .b .n) (toZ w32 (ofZ w32 (a .args .id))) (c .before .before .before .first-key .result)) e
+          (c .before .before .before .first-key .ensures),
     )
 
 returns : tie.Need-returns

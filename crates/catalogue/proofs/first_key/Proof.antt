@@ -18,7 +18,9 @@ first-from-requires : tie.Need-first-from-requires
 first-from-requires c κs = (omega (arith, c .before .before .keys-of .ensures .1), sorted (c .before .before))
 
 returns : tie.Need-returns
-returns c = let a = c .before .before .before .before .before .before in rw (c .before .before .before .keys-of .ensures .0, toZ-ofZ w32 (a .args .id) (a .fits .id)) at (c .first-from .ensures)
+returns c =
+    let a = c .before .before .before .before .before .before in
+    rw (c .before .before .before .keys-of .ensures .0, toZ-ofZ w32 (a .args .id) (a .fits .id)) at (c .first-from .ensures)
 
 cast-first-near : tie.Need-cast-first-near
 cast-first-near c = search (needs, c .slice-known2 .given (c .before .before .hint-of .result))

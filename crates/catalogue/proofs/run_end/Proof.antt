@@ -50,7 +50,8 @@ loop-less : tie.Need-loop-less Inv-loop μ-loop
 loop-less c = omega arith
 
 loop-again : tie.Need-loop-again Inv-loop μ-loop
-loop-again c = (omega arith, omega arith, below-more _ _ (c .before .before .before .loop .inv .2) (λ h. sym (c .before .is-id .ensures) ∙ not-false _ (c .if1 .left)))
+loop-again c =
+    (omega arith, omega arith, below-more _ _ (c .before .before .before .loop .inv .2) (λ h. sym (c .before .is-id .ensures) ∙ not-false _ (c .if1 .left)))
 
 returns-2 : tie.Need-returns-2 Inv-loop μ-loop
 returns-2 c =

@@ -24,7 +24,8 @@ use Rattle.catalogue.proofs.slots_of.Tie as tie
 
 abbrev Inv-loop : tie.InvT-loop
 Inv-loop catalogue id hints₀ at n found₀ i₀ hints found i =
-    (i₀ ≤ i) × (i ≤ n) × (slotOf (found .rack) ≡ lastTo catalogue (toZ w32 id) 1 6 i) × (slotOf (found .hardpoint) ≡ lastTo catalogue (toZ w32 id) 7 8 i) × (length hints ≡ length hints₀)
+    (i₀ ≤ i) × (i ≤ n) × (slotOf (found .rack) ≡ lastTo catalogue (toZ w32 id) 1 6 i) ×
+    (slotOf (found .hardpoint) ≡ lastTo catalogue (toZ w32 id) 7 8 i) × (length hints ≡ length hints₀)
 
 abbrev μ-loop : tie.MeasureT-loop
 μ-loop catalogue id hints₀ at n found₀ i₀ hints found i = n - i
@@ -36,17 +37,21 @@ first-key-requires c κs =
     (search needs, rw (e .0, e .1) (links-sorted (a .args .catalogue .now) (a .pre)))
 
 -- what the search says, of the links and the id themselves
-id-is : (c : tie.After-first-key Inv-loop μ-loop) → toZ w32 (ofZ w32 (c .before .before .before .before .before .args .id)) ≡ c .before .before .before .before .before .args .id
+id-is : (c : tie.After-first-key Inv-loop μ-loop)
+    → toZ w32 (ofZ w32 (c .before .before .before .before .before .args .id)) ≡ c .before .before .before .before .before .args .id
 id-is c = toZ-ofZ w32 (c .before .before .before .before .before .args .id) (c .before .before .before .before .before .fits .id)
 
-parts : (c : tie.After-first-key Inv-loop μ-loop) → let s = c .before .before .before .before .before .args in let b = s .catalogue .now in Parts (take (4 * linkCount b) (drop (linksAt b) b)) (linkCount b) (s .id) (c .first-key .result)
+parts : (c : tie.After-first-key Inv-loop μ-loop) → let s = c .before .before .before .before .before .args in let b = s .catalogue .now in
+    Parts (take (4 * linkCount b) (drop (linksAt b) b)) (linkCount b) (s .id) (c .first-key .result)
 parts c = let e = c .before .before .links .ensures in rw (e .0, e .1, id-is c) at (c .first-key .ensures)
 
-nothing : (c : tie.After-first-key Inv-loop μ-loop) (low high : ℕ) → let s = c .before .before .before .before .before .args in none ≡ lastTo (s .catalogue .now) (toZ w32 (ofZ w32 (s .id))) low high (c .first-key .result)
+nothing : (c : tie.After-first-key Inv-loop μ-loop) (low high : ℕ) → let s = c .before .before .before .before .before .args in
+    none ≡ lastTo (s .catalogue .now) (toZ w32 (ofZ w32 (s .id))) low high (c .first-key .result)
 nothing c low high =
     let s = c .before .before .before .before .before in
     let b = s .args .catalogue .now in
-    rw (id-is c) (last-none b (s .args .id) low high (c .first-key .result) (none-before b (linksAt b) (linkCount b) (s .args .id) (s .fits .id .sfits) (c .first-key .result) (parts c)))
+    rw (id-is c) (last-none b (s .args .id) low high (c .first-key .result)
+    (none-before b (linksAt b) (linkCount b) (s .args .id) (s .fits .id .sfits) (c .first-key .result) (parts c)))
 
 loop-holds : tie.Need-loop-holds Inv-loop μ-loop
 loop-holds c = let f = c .before .before in (omega arith, omega (arith, f .first-key .ensures .within), nothing f 1 6, nothing f 7 8, refl)
@@ -75,7 +80,8 @@ ended c e low high =
     let b = s .args .catalogue .now in
     let l = c .loop in
     rw (id-is f) (last-all b (s .args .id) low high (l .i) (omega (arith, f .before .before .links .ensures .1))
-    (none-after b (linksAt b) (linkCount b) (s .args .id) (s .fits .id .sfits) (f .first-key .result) (parts f) (links-sorted b (s .pre)) (l .i) (l .inv .0) (rw (id-is f) at e)))
+    (none-after b (linksAt b) (linkCount b) (s .args .id) (s .fits .id .sfits) (f .first-key .result) (parts f) (links-sorted b (s .pre)) (l .i)
+    (l .inv .0) (rw (id-is f) at e)))
 
 same-length : tie.Need-same-length Inv-loop μ-loop
 same-length c = let l = c .before .before .before in l .loop .inv .4 ∙ l .before .before .hints .given
@@ -88,7 +94,10 @@ returns c =
     (h .loop .inv .2 ∙ e 1 6, h .loop .inv .3 ∙ e 7 8)
 
 with-link-requires : tie.Need-with-link-requires Inv-loop μ-loop
-with-link-requires c κs = (c .before .before .before .before .before .before .before .before .before .before .before .before .pre, omega (arith, c .before .before .before .before .before .before .before .before .before .links .ensures .1))
+with-link-requires c κs = (
+  c .before .before .before .before .before .before .before .before .before .before .before .before .pre,
+  omega (arith, c .before .before .before .before .before .before .before .before .before .links .ensures .1),
+)
 
 add-i : tie.Need-add-i Inv-loop μ-loop
 add-i c = omega arith
@@ -107,8 +116,10 @@ loop-again c =
     let e = sym (linked f) ∙ not-false _ (c .before .before .before .before .if1 .left) in (
       omega arith,
       omega arith,
-      w .with-link .ensures .0 ∙ ap (λ (o : Option ℕ). foldl (marked 1 6) o (linkMarks (catalogueOf b) (linkAt b (l .i)))) (l .inv .2) ∙ sym (last-more b z 1 6 (l .i) e),
-      w .with-link .ensures .1 ∙ ap (λ (o : Option ℕ). foldl (marked 7 8) o (linkMarks (catalogueOf b) (linkAt b (l .i)))) (l .inv .3) ∙ sym (last-more b z 7 8 (l .i) e),
+      w .with-link .ensures .0 ∙ ap (λ (o : Option ℕ). foldl (marked 1 6) o (linkMarks (catalogueOf b) (linkAt b (l .i)))) (l .inv .2)
+          ∙ sym (last-more b z 1 6 (l .i) e),
+      w .with-link .ensures .1 ∙ ap (λ (o : Option ℕ). foldl (marked 7 8) o (linkMarks (catalogueOf b) (linkAt b (l .i)))) (l .inv .3)
+          ∙ sym (last-more b z 7 8 (l .i) e),
       c .before .hints2 .given ∙ l .inv .4,
     )
 

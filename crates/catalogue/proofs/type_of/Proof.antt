@@ -16,7 +16,8 @@ use borrow.Author.Needs.{needs}
 use Rattle.catalogue.proofs.type_of.Statement.{statement}
 use Rattle.catalogue.proofs.type_of.Tie as tie
 
-found : (c : tie.After-find-key) → let a = c .before .before .before .before .before .args in foundOf (c .find-key .result) ≡ find (λ j. same (typeAt (a .catalogue .now) j .id) (a .id)) (from 0 (typeCount (a .catalogue .now)))
+found : (c : tie.After-find-key) → let a = c .before .before .before .before .before .args in foundOf (c .find-key .result) ≡ find
+    (λ j. same (typeAt (a .catalogue .now) j .id) (a .id)) (from 0 (typeCount (a .catalogue .now)))
 found c =
     let a = c .before .before .before .before .before in
     let e = c .before .before .types .ensures in
@@ -34,10 +35,13 @@ type-at-requires c κs =
     (f .before .before .before .before .before .pre .size, find-below _ _ _ (sym (found f) ∙ ap foundOf (c .before .found .given .1)))
 
 -- what is made of the answer of the search
-answer : (c : tie.After-find-key) (o : Option ℕ) → foundOf (c .find-key .result) ≡ o → let a = c .before .before .before .before .before .args in given o none (λ j. some (infoOfType (typeAt (a .catalogue .now) j))) ≡ given (typeOf (catalogueOf (a .catalogue .now)) (a .id)) none (λ x. some (infoOfType x))
+answer : (c : tie.After-find-key) (o : Option ℕ) → foundOf
+    (c .find-key .result) ≡ o → let a = c .before .before .before .before .before .args in given o none
+    (λ j. some (infoOfType (typeAt (a .catalogue .now) j))) ≡ given (typeOf (catalogueOf (a .catalogue .now)) (a .id)) none (λ x. some (infoOfType x))
 answer c o e =
     let a = c .before .before .before .before .before .args in
-    sym (type-search (a .catalogue .now) (a .id) ∙ ap (λ (x : Option ℕ). given x none (λ j. some (infoOfType (typeAt (a .catalogue .now) j)))) (sym (found c) ∙ e))
+    sym (type-search (a .catalogue .now) (a .id) ∙ ap (λ (x : Option ℕ). given x none (λ j. some (infoOfType (typeAt (a .catalogue .now) j))))
+    (sym (found c) ∙ e))
 
 returns : tie.Need-returns
 unfolding given

@@ -11,11 +11,15 @@ use Rattle.catalogue.proofs.with_link.Statement.{statement}
 use Rattle.catalogue.proofs.with_link.Tie as tie
 
 -- what the lookup of the link's effect says
-told : (c : tie.After-effect-mark) → let a = c .before .before .before .before .before .args in markOf (c .effect-mark .result) ≡ effectMark (catalogueOf (a .catalogue .now)) (linkAt (a .catalogue .now) (a .i) .effect)
+told : (c : tie.After-effect-mark) → let a = c .before .before .before .before .before .args in markOf (c .effect-mark .result) ≡ effectMark
+    (catalogueOf (a .catalogue .now)) (linkAt (a .catalogue .now) (a .i) .effect)
 told c =
     let a = c .before .before .before .before .before .args in
     c .effect-mark .ensures
-    ∙ ap (effectMark (catalogueOf (a .catalogue .now))) (toZ-ofZ w32 (c .before .before .effect-at .result) (record { sfits = c .before .before .effect-at .ok }) ∙ c .before .before .effect-at .ensures)
+    ∙ ap (effectMark (catalogueOf (a .catalogue .now))) (toZ-ofZ w32 (c .before .before .effect-at .result) (record {
+      sfits =
+          c .before .before .effect-at .ok;
+    }) ∙ c .before .before .effect-at .ensures)
 
 returns : tie.Need-returns
 unfolding _>>=_

@@ -1,6 +1,6 @@
 -- `context::gather` meets its contract: starts, the ship's words, then the pairs.
 use native.Mathlib.Omega.{arith}
-use mathlib.Core.Path.{_≡_, refl, ap, _∙_}
+use mathlib.Core.Path.{_≡_, ap, _∙_}
 use lib.ListN.{length-set}
 use mir.Syntax.{w32}
 use mir.Val.{toZ, ofZ}

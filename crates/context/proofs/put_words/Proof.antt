@@ -2,7 +2,6 @@
 use native.Mathlib.Omega.{arith}
 use mathlib.Core.Path.{refl}
 use lib.ListN.{length-set}
-use borrow.Author.Needs.{needs}
 use Rattle.context.proofs.put_words.Statement.{statement}
 use Rattle.context.proofs.put_words.Tie as tie
 

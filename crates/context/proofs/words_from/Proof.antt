@@ -1,11 +1,10 @@
 -- `context::words_from` meets its contract: bits of ids, codes of slots, halves of the volume's bits.
-use Prim.Native.Nat.{ℕ, _+_, _*_, _^_}
+use Prim.Native.Nat.{_+_, _*_, _^_}
 use native.Mathlib.Omega.{arith}
 use mathlib.Core.Path.{_≡_, ap, _∙_}
-use lib.Ieee.{Float, binary64, ofBits}
+use lib.Ieee.{binary64, ofBits}
 use borrow.Author.Needs.{needs}
 use Rattle.image.proofs.Signs.{signed-kept}
-use Rattle.floats.specs.Floats.{f64Bits}
 use Rattle.floats.proofs.Bits.{f64Bits-back}
 use Rattle.context.proofs.words_from.Statement.{statement}
 use Rattle.context.proofs.words_from.Tie as tie

@@ -50,7 +50,9 @@ returns-10 c = c .plain6 .ensures ∙ sym (ap fields (c .before .enum-told6 .giv
 
 returns-11 : tie.Need-returns-11
 unfolding fields
-returns-11 c = rw (toZ-ofZ w32 (c .before .before .rule5 .given .0 .0) (record { sfits = c .before .known-told5 .given .0 .1 })) at (c .of-id .ensures) ∙ sym (ap fields (c .before .before .rule5 .given .1))
+returns-11 c =
+    rw (toZ-ofZ w32 (c .before .before .rule5 .given .0 .0) (record { sfits = c .before .known-told5 .given .0 .1 })) at (c .of-id .ensures)
+    ∙ sym (ap fields (c .before .before .rule5 .given .1))
 
 returns-12 : tie.Need-returns-12
 unfolding fields
@@ -74,11 +76,15 @@ returns-16 c = c .plain10 .ensures ∙ sym (ap fields (c .before .enum-told10 .g
 
 returns-17 : tie.Need-returns-17
 unfolding fields
-returns-17 c = rw (toZ-ofZ w32 (c .before .before .rule7 .given .0 .0) (record { sfits = c .before .known-told7 .given .0 .1 })) at (c .of-id2 .ensures) ∙ sym (ap fields (c .before .before .rule7 .given .1))
+returns-17 c =
+    rw (toZ-ofZ w32 (c .before .before .rule7 .given .0 .0) (record { sfits = c .before .known-told7 .given .0 .1 })) at (c .of-id2 .ensures)
+    ∙ sym (ap fields (c .before .before .rule7 .given .1))
 
 returns-18 : tie.Need-returns-18
 unfolding fields
-returns-18 c = rw (toZ-ofZ w32 (c .before .before .rule8 .given .0 .0) (record { sfits = c .before .known-told8 .given .0 .1 })) at (c .of-id3 .ensures) ∙ sym (ap fields (c .before .before .rule8 .given .1))
+returns-18 c =
+    rw (toZ-ofZ w32 (c .before .before .rule8 .given .0 .0) (record { sfits = c .before .known-told8 .given .0 .1 })) at (c .of-id3 .ensures)
+    ∙ sym (ap fields (c .before .before .rule8 .given .1))
 
 returns-19 : tie.Need-returns-19
 unfolding fields
@@ -90,7 +96,9 @@ returns-20 c = c .plain12 .ensures ∙ sym (ap fields (c .before .enum-told12 .g
 
 returns-21 : tie.Need-returns-21
 unfolding fields
-returns-21 c = rw (toZ-ofZ w32 (c .before .before .rule9 .given .0 .0) (record { sfits = c .before .known-told9 .given .0 .1 })) at (c .of-id4 .ensures) ∙ sym (ap fields (c .before .before .rule9 .given .1))
+returns-21 c =
+    rw (toZ-ofZ w32 (c .before .before .rule9 .given .0 .0) (record { sfits = c .before .known-told9 .given .0 .1 })) at (c .of-id4 .ensures)
+    ∙ sym (ap fields (c .before .before .rule9 .given .1))
 
 pub pack-spec : {M : Type 1} → statement M
 pack-spec =

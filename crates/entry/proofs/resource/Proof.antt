@@ -7,7 +7,9 @@ returns : tie.Need-returns
 returns c =
     let a = c .before .before in
     let u = a .before .before in
-    rw (u .low32 .ensures, a .before .high32 .ensures, a .low322 .ensures, c .before .high322 .ensures, u .before .f64-bits2 .ensures, u .before .before .f64-bits .ensures) at (c .words .ensures)
+    let used = u .before .before .f64-bits .ensures in
+    let available = u .before .f64-bits2 .ensures in
+    rw (u .low32 .ensures, a .before .high32 .ensures, a .low322 .ensures, c .before .high322 .ensures, available, used) at (c .words .ensures)
 
 pub resource-spec : {M : Type 1} → statement M
 resource-spec =

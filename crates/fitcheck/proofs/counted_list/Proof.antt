@@ -11,37 +11,38 @@ use Rattle.fitcheck.proofs.counted_list.Tie as tie
 
 returns : tie.Need-returns
 returns c =
-    let v = c .before .before .before in
-    let a = v .before .before .before .before .before .before .args in
-    gave-none (listOf (catalogueOf (a .catalogue .now)) (fitOf (a .fit .now))) (omega (arith, wrote-count (v .validate .ensures .1), c .if1 .taken))
+    let v = c .before .before .before .before in
+    let a = v .before .before .before .before .before .before .before .args in
+    gave-none (listOf (catalogueOf (a .catalogue .now)) (fitOf (a .fit .now))) (omega (arith, wrote-count (v .validate .ensures .0), c .if1 .taken))
 
 returns-2 : tie.Need-returns-2
 returns-2 c =
-    let v = c .before .before .before .before in
-    let a = v .before .before .before .before .before .before .args in
-    gave-short (listOf (catalogueOf (a .catalogue .now)) (fitOf (a .fit .now))) (omega (arith, wrote-count (v .validate .ensures .1), c .if2 .taken))
-
-validate-requires-2 : tie.Need-validate-requires-2
-validate-requires-2 c κs = search (needs, c .before .before .before .before .before .before .before .before .before .before .before .before .pre)
+    let i = c .before in
+    let v = i .before .before .before .before .before in
+    let a = v .before .before .before .before .before .before .before .args in
+    gave-short (listOf (catalogueOf (a .catalogue .now)) (fitOf (a .fit .now)))
+    (omega (arith, wrote-count (v .validate .ensures .0), i .if2 .taken)) (c .refused .ensures)
 
 returns-3 : tie.Need-returns-3
 returns-3 c =
-    let w = c .before .before .before .validate2 .ensures in
-    let i = c .before .before .before .before .before .before in
-    let v = i .before .before .before .before in
-    let a = v .before .before .before .before .before .before .args in
-    gave-list (listOf (catalogueOf (a .catalogue .now)) (fitOf (a .fit .now))) (omega (arith, wrote-count (v .validate .ensures .1), i .if2 .left)) (w .1)
+    let w = c .before .before .before .before .validate2 .ensures .0 in
+    let i = c .before .before .before .before .before .before .before in
+    let v = i .before .before .before .before .before in
+    let a = v .before .before .before .before .before .before .before .args in
+    gave-list (listOf (catalogueOf (a .catalogue .now)) (fitOf (a .fit .now))) (omega (arith, wrote-count (v .validate .ensures .0), i .if2 .left)) w
 
 pub counted-list-spec : {M : Type 1} → statement M
 counted-list-spec =
     tie.close
     (tie.spec
     (λ c. search needs)
-    (λ c. search needs)
     (λ c κs. search needs)
-    returns
-    returns-2
     (λ c. search needs)
-    validate-requires-2
+    returns
+    (λ c κs. search needs)
+    (λ c. search needs)
+    returns-2
+    (λ c κs. search needs)
+    (λ c. search needs)
     (λ c. search needs)
     returns-3)

@@ -8,15 +8,15 @@ use Rattle.fitcheck.proofs.image_refusal.Tie as tie
 
 returns : tie.Need-returns
 returns c =
-    let k = c .before .catalogue-refusal .ensures in
+    let k = c .before .number .ensures in
     let a = c .before .before .before .before .args in
     k ∙ catalogue-first (a .catalogue .now) (a .fit .now) (omega (arith, k, c .if1 .taken))
 
 returns-2 : tie.Need-returns-2
 returns-2 c =
-    let k = c .before .before .catalogue-refusal .ensures in
+    let k = c .before .before .number .ensures in
     let a = c .before .before .before .before .before .args in
-    c .fit-refusal .ensures ∙ fit-first (a .catalogue .now) (a .fit .now) (omega (arith, k, c .before .if1 .left))
+    c .number2 .ensures ∙ fit-first (a .catalogue .now) (a .fit .now) (omega (arith, k, c .before .if1 .left))
 
 pub image-refusal-spec : {M : Type 1} → statement M
 image-refusal-spec =

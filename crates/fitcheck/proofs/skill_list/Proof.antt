@@ -2,7 +2,7 @@
 use native.Mathlib.Omega.{arith}
 use Rattle.entry.proofs.Wrote.{wrote-count}
 use Rattle.fit.specs.Fit.{fitOf}
-use Rattle.skill.specs.Steps.{reported}
+use Rattle.skill.specs.Skill.{reported}
 use Rattle.skill.specs.Held.{walkOf}
 use Rattle.fitcheck.proofs.Giving.{gave-short, gave-list}
 use borrow.Author.Needs.{needs}
@@ -18,9 +18,10 @@ returns c =
 
 returns-2 : tie.Need-returns-2
 returns-2 c =
-    let w = c .before .before .report2 .ensures in
-    let a = c .before .before .before .before .before .before .before .args in
-    gave-short (reported (fitOf (a .fit .now)) (a .result) (walkOf (a .walk))) (omega (arith, wrote-count (w .0), c .if2 .taken))
+    let i = c .before in
+    let w = i .before .before .report2 .ensures in
+    let a = i .before .before .before .before .before .before .before .args in
+    gave-short (reported (fitOf (a .fit .now)) (a .result) (walkOf (a .walk))) (omega (arith, wrote-count (w .0), i .if2 .taken)) (c .refused .ensures)
 
 returns-3 : tie.Need-returns-3
 returns-3 c =
@@ -33,4 +34,14 @@ returns-3 c =
 pub skill-list-spec : {M : Type 1} → statement M
 skill-list-spec =
     tie.close
-    (tie.spec (λ c κs. search needs) (λ c. search needs) returns (λ c. search needs) (λ c κs. search needs) returns-2 (λ c κs. search needs) (λ c. search needs) returns-3)
+    (tie.spec
+    (λ c κs. search needs)
+    (λ c. search needs)
+    returns
+    (λ c. search needs)
+    (λ c κs. search needs)
+    (λ c κs. search needs)
+    returns-2
+    (λ c κs. search needs)
+    (λ c. search needs)
+    returns-3)

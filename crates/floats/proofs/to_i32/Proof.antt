@@ -17,7 +17,8 @@ returns-2 : tie.Need-returns-2
 returns-2 c =
     toZ-ofZ w32 (c .signed2 .result) (record { sfits = c .signed2 .ok })
     ∙ c .signed2 .ensures
-    ∙ i32-above (c .before .before .before .before .args .x) (c .before .before .before .at-most .result) (c .before .before .before .at-most .ensures) (c .before .at-most2 .result) (c .before .at-most2 .ensures) (c .before .before .if1 .left)
+    ∙ i32-above (c .before .before .before .before .args .x) (c .before .before .before .at-most .result)
+    (c .before .before .before .at-most .ensures) (c .before .at-most2 .result) (c .before .at-most2 .ensures) (c .before .before .if1 .left)
 
 pub to-i32-spec : {M : Type 1} → statement M
 to-i32-spec =

@@ -35,8 +35,11 @@ loop-less c = omega arith
 loop-again : tie.Need-loop-again Inv-loop μ-loop
 loop-again c =
     let l = c .before .before .before in
-    let a = l .before .before .args in
-    (omega arith, any-turn (flagOf (a .flags .now)) (keyAt (a .ids .now)) (l .loop .k) (l .loop .found) (c .either .result) (c .before .flag-at .result) (l .loop .inv .1) (c .before .flag-at .ensures) (c .either .ensures))
+    let a = l .before .before .args in (
+      omega arith,
+      any-turn (flagOf (a .flags .now)) (keyAt (a .ids .now)) (l .loop .k) (l .loop .found) (c .either .result)
+          (c .before .flag-at .result) (l .loop .inv .1) (c .before .flag-at .ensures) (c .either .ensures),
+    )
 
 returns : tie.Need-returns Inv-loop μ-loop
 returns c =

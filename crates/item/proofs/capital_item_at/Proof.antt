@@ -4,20 +4,20 @@ use lib.IntN.{ℤ}
 use mir.Syntax.{w32}
 use mir.ValLaws.{toZ-ofZ}
 use Rattle.context.specs.Gathered.{pairAt}
-use Rattle.item.specs.AtPair.{isCapitalItem}
+use Rattle.item.specs.Item.{isCapitalItem}
 use Rattle.item.proofs.Rules.{capital-test}
 use borrow.Author.Needs.{needs}
 use Rattle.item.proofs.capital_item_at.Statement.{statement}
 use Rattle.item.proofs.capital_item_at.Tie as tie
 
 returns : tie.Need-returns
-returns c =
+returns c = λ catalogue.
     let w = c .before .before in
     let t = w .before in
-    let s = t .before .before .before .before .before in
-    let p = pairAt (s .args .catalogue .now) (s .args .fit .now) (s .args .i) in
+    let s = t .before .before .before .before in
+    let p = pairAt catalogue (s .args .fit .now) (s .args .i) in
     capital-test (s .args .volume) p
-    (t .is-capital-item .ensures (s .args .catalogue .now) ∙ ap (λ (z : ℤ). isCapitalItem z p) (toZ-ofZ w32 (s .args .volume) (s .fits .volume)))
+    (t .is-capital-item .ensures catalogue ∙ ap (λ (z : ℤ). isCapitalItem z p) (toZ-ofZ w32 (s .args .volume) (s .fits .volume)))
     (w .emit-when .ensures)
 
 pub capital-item-at-spec : {M : Type 1} → statement M

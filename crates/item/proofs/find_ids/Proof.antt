@@ -7,7 +7,7 @@ use lib.ListN.{length, take, length-set}
 use borrow.Author.Needs.{needs}
 use Rattle.catalogue.specs.Catalogue.{catalogueOf}
 use Rattle.catalogue.specs.Lookups.{nameId}
-use Rattle.item.specs.AtPair.{idIn}
+use Rattle.item.specs.Ids.{idIn}
 use Rattle.item.proofs.Codes.{codes-more, codes-all}
 use Rattle.item.proofs.find_ids.Statement.{statement}
 use Rattle.item.proofs.find_ids.Tie as tie
@@ -28,7 +28,8 @@ loop-again c =
     let a = c .before .before .before .before .before .before .before .args in (
       omega arith,
       simp length-set (l .inv .1),
-      codes-more idIn (nameId (catalogueOf (a .catalogue .now) .names)) (l .codes) (a .rows .now) (l .k) (c .code-at .result) 0 (omega arith) (c .before .before .loop-test .taken) (l .inv .2) (c .code-at .ensures),
+      codes-more idIn (nameId (catalogueOf (a .catalogue .now) .names)) (l .codes) (a .rows .now) (l .k) (c .code-at .result) 0
+          (omega arith) (c .before .before .loop-test .taken) (l .inv .2) (c .code-at .ensures),
     )
 
 same-length : tie.Need-same-length Inv-loop μ-loop

@@ -9,7 +9,9 @@ use Rattle.item.proofs.id_in.Statement.{statement}
 use Rattle.item.proofs.id_in.Tie as tie
 
 returns : tie.Need-returns
-returns c = ap some (toZ-ofZ w32 (c .signed .result) (record { sfits = c .signed .ok }) ∙ c .signed .ensures) ∙ sym (code-some (c .before .before .args .code) (c .before .if1 .taken))
+returns c =
+    ap some (toZ-ofZ w32 (c .signed .result) (record { sfits = c .signed .ok }) ∙ c .signed .ensures) ∙ sym
+    (code-some (c .before .before .args .code) (c .before .if1 .taken))
 
 returns-2 : tie.Need-returns-2
 returns-2 c = sym (code-none (c .before .args .code) (c .if1 .left))

@@ -12,17 +12,17 @@ use borrow.Author.Needs.{needs}
 use Rattle.words.specs.Words.{each}
 use Rattle.catalogue.specs.Catalogue.{Id}
 use Rattle.fit.specs.Fit.{resultOf}
-use Rattle.item.specs.AtPair.{idIn, listedUnder, listedIn, ListingOf}
+use Rattle.item.specs.Ids.{idIn, listedUnder, listedIn, ListingOf}
 use Rattle.item.proofs.Listings.{listing-none, listing-more, listing-all}
 use Rattle.item.proofs.listed.Statement.{statement}
 use Rattle.item.proofs.listed.Tie as tie
 
 abbrev Inv-loop : tie.InvT-loop
-Inv-loop fit starts j codes id any₀ has₀ k₀ any has k =
+Inv-loop fit facts j codes id any₀ has₀ k₀ any has k =
     (k ≤ length codes) × ListingOf (toZ w32 id) (listedIn (resultOf fit j) (take k codes)) (record { any = any; has = has })
 
 abbrev μ-loop : tie.MeasureT-loop
-μ-loop fit starts j codes id any₀ has₀ k₀ any has k = length codes - k
+μ-loop fit facts j codes id any₀ has₀ k₀ any has k = length codes - k
 
 loop-holds : tie.Need-loop-holds Inv-loop μ-loop
 unfolding each
@@ -37,8 +37,12 @@ either-requires-2 c κs = tt
 loop-again : tie.Need-loop-again Inv-loop μ-loop
 loop-again c =
     let l = c .before .before .before .before .before in
-    let a = l .before .before .before .args in
-    (omega arith, listing-more _ (λ code. listedUnder (resultOf (a .fit .now) (a .j)) (idIn code)) (a .codes .now) (l .loop .k) _ _ (c .before .either .result) (c .either2 .result) (c .before .before .before .before .loop-test .taken) (l .loop .inv .1) (c .before .before .listed-under .ensures) (c .before .either .ensures) (c .either2 .ensures))
+    let a = l .before .before .before .args in (
+      omega arith,
+      listing-more _ (λ code. listedUnder (resultOf (a .fit .now) (a .j)) (idIn code)) (a .codes .now) (l .loop .k) _ _
+          (c .before .either .result) (c .either2 .result) (c .before .before .before .before .loop-test .taken) (l .loop .inv .1)
+          (c .before .before .listed-under .ensures) (c .before .either .ensures) (c .either2 .ensures),
+    )
 
 returns : tie.Need-returns Inv-loop μ-loop
 returns c =

@@ -7,7 +7,7 @@ use mir.ValLaws.{toZ-ofZ}
 use Rattle.floats.specs.Floats.{zeroF}
 use Rattle.catalogue.specs.Answers.{idOf}
 use Rattle.fit.specs.Fit.{resultOf}
-use Rattle.item.specs.AtPair.{idIn}
+use Rattle.item.specs.Ids.{idIn}
 use Rattle.item.proofs.Marks.{mark-unknown, mark-known}
 use borrow.Author.Needs.{needs}
 use Rattle.item.proofs.marked_under.Statement.{statement}
@@ -22,11 +22,12 @@ returns c =
 returns-2 : tie.Need-returns-2
 unfolding ofBits
 returns-2 c =
-    let k = c .before .before in
+    let k = c .before .before .before in
     let i = k .before .before in
     let a = i .before .before .args in
     mark-known (resultOf (a .fit .now) (a .j)) (idIn (a .code)) _ _
-    (sym (i .id-in .ensures) ∙ ap idOf (k .known .given .1) ∙ ap some (sym (toZ-ofZ w32 (k .known .given .0 .0) (record { sfits = c .before .known-told .given .0 .1 }))))
+    (sym (i .id-in .ensures) ∙ ap idOf (k .known .given .1) ∙ ap some
+    (sym (toZ-ofZ w32 (k .known .given .0 .0) (record { sfits = c .before .before .known-told .given .0 .1 }))))
     (ap (λ (v : Float). ne v zeroF) (c .amount .ensures))
 
 pub marked-under-spec : {M : Type 1} → statement M

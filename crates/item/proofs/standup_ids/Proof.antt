@@ -1,11 +1,9 @@
 -- `item::standup_ids` meets its contract: the rows of STANDUP_FIGHTERS are those of the definition.
-use Rattle.words.specs.Words.{tableFrom}
 use borrow.Author.Needs.{needs}
 use Rattle.item.proofs.standup_ids.Statement.{statement}
 use Rattle.item.proofs.standup_ids.Tie as tie
 
 returns : tie.Need-returns
-unfolding tableFrom
 returns c = c .before .find-ids .ensures
 
 pub standup-ids-spec : {M : Type 1} → statement M

@@ -1,29 +1,18 @@
 -- `item::validate` meets its contract: the four lists, one after another.
 use native.Mathlib.Omega.{arith}
-use mathlib.Core.Path.{_∙_}
-use mir.Syntax.{w32}
-use mir.ValLaws.{toZ-ofZ}
 use Rattle.entry.proofs.Wrote.{wrote-append, wrote-length}
 use borrow.Author.Needs.{needs}
 use Rattle.item.proofs.validate.Statement.{statement}
 use Rattle.item.proofs.validate.Tie as tie
 
-standup-requires : tie.Need-standup-requires
-standup-requires c κs =
-    let k = c .before .before .before .before in
-    let r = k .before .before .before .before .before in
-    let z = r .before .before .before .before .before in
-    let f = z .before .before in
-    let s = f .before .before .before .before in
-    (s .pre .0, omega (arith, k .capital-item .ensures .1, r .ship-restricted .ensures .1, z .rig-size .ensures .1, s .pre .1), s .pre .2, toZ-ofZ w32 (f .ship-facts .result .category) (record { sfits = c .struct-told3 .given .1 .0 .1 }) ∙ f .ship-facts .ensures .category)
-
 returns : tie.Need-returns
 returns c =
     let u = c .before .before in
-    let k = u .before .before .before .before .before in
-    let r = k .before .before .before .before .before in
-    let z = r .before .before .before .before .before in (
-      wrote-append (wrote-append (wrote-append (z .rig-size .ensures .0) (r .ship-restricted .ensures .0)) (k .capital-item .ensures .0)) (u .standup .ensures .0),
+    let k = u .before .before .before .before in
+    let r = k .before .before .before .before in
+    let z = r .before .before .before .before in (
+      wrote-append (wrote-append (wrote-append (z .rig-size .ensures .0) (r .ship-restricted .ensures .0)) (k .capital-item .ensures .0))
+          (u .standup .ensures .0),
       omega (arith, u .standup .ensures .1, k .capital-item .ensures .1, r .ship-restricted .ensures .1, z .rig-size .ensures .1),
     )
 
@@ -33,11 +22,4 @@ same-length c = wrote-length (returns c .0)
 pub validate-spec : {M : Type 1} → statement M
 validate-spec =
     tie.close
-    (tie.spec
-    (λ c κs. search needs)
-    (λ c κs. search needs)
-    (λ c κs. search needs)
-    (λ c κs. search needs)
-    standup-requires
-    same-length
-    returns)
+    (tie.spec (λ c κs. search needs) (λ c κs. search needs) (λ c κs. search needs) (λ c κs. search needs) same-length returns)

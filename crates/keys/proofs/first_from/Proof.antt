@@ -24,7 +24,7 @@ loop-holds c = record {
   within = omega arith;
   ordered = omega arith;
   under = λ k h. absurd (omega (arith, h));
-  over = λ k h g. absurd (omega (arith, h, g));
+  beyond = λ k h g. absurd (omega (arith, h, g));
 }
 
 skip-requires : tie.Need-skip-requires Inv-loop μ-loop
@@ -43,13 +43,15 @@ loop-again c =
     let t = c .before in
     let l = t .before .loop in
     let s = t .before .before .before .before in
-    skipped (s .args .keys .now) (s .args .n) _ (l .base) (l .left) (l .left / 2) (s .pre .1) (l .inv) (omega (arith, t .loop-test .taken)) (omega arith) (omega arith) (c .skip .ensures)
+    skipped (s .args .keys .now) (s .args .n) _ (l .base) (l .left) (l .left / 2) (s .pre .1) (l .inv) (omega (arith, t .loop-test .taken))
+    (omega arith) (omega arith) (c .skip .ensures)
 
 returns : tie.Need-returns Inv-loop μ-loop
 returns c =
     let l = c .before .before .loop in
     let z = c .before .before .before .before .before in
-    parted (z .args .keys .now) (z .args .n) (z .args .id) (c .before .before .before .rank .ensures ∙ ap rankOf (toZ-ofZ w32 (z .args .id) (z .fits .id))) (l .inv) (omega (arith, c .if1 .taken))
+    parted (z .args .keys .now) (z .args .n) (z .args .id)
+    (c .before .before .before .rank .ensures ∙ ap rankOf (toZ-ofZ w32 (z .args .id) (z .fits .id))) (l .inv) (omega (arith, c .if1 .taken))
 
 skip-requires-2 : tie.Need-skip-requires-2 Inv-loop μ-loop
 skip-requires-2 c κs =
@@ -61,8 +63,10 @@ returns-2 c =
     let l = c .before .before .before in
     let z = l .before .before .before in
     let one : l .loop .left ≡ 1 = omega (arith, c .before .if1 .left, c .before .before .loop-test .left) in
-    let s = skipped (z .args .keys .now) (z .args .n) _ (l .loop .base) (l .loop .left) 1 (z .pre .1) (l .loop .inv) (omega arith) (omega (arith, one)) (omega (arith, one)) (c .skip2 .ensures) in
-    parted (z .args .keys .now) (z .args .n) (z .args .id) (l .before .rank .ensures ∙ ap rankOf (toZ-ofZ w32 (z .args .id) (z .fits .id))) s (omega (arith, one))
+    let s = skipped (z .args .keys .now) (z .args .n) _ (l .loop .base) (l .loop .left) 1 (z .pre .1) (l .loop .inv) (omega arith)
+    (omega (arith, one)) (omega (arith, one)) (c .skip2 .ensures) in
+    parted (z .args .keys .now) (z .args .n) (z .args .id) (l .before .rank .ensures ∙ ap rankOf (toZ-ofZ w32 (z .args .id) (z .fits .id))) s
+    (omega (arith, one))
 
 pub first-from-spec : {M : Type 1} → statement M
 first-from-spec =

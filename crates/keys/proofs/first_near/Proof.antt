@@ -21,12 +21,19 @@ returns c =
     let within = c .before .before .before .before .if1 .taken in
     record {
       within = within;
-      under = λ k h. omega (arith, guess-under keys n (a .rank .result) guess (s .pre .1) within (sym (c .before .before .before .all-under .ensures) ∙ c .before .before .if2 .taken) k h, e);
-      over = λ k h g. omega (arith, guess-over keys n (a .rank .result) guess (s .pre .1) (sym (c .before .none-under .ensures) ∙ c .if3 .taken) k h g, e);
+      under = λ k h. omega (
+        arith,
+        guess-under keys n (a .rank .result) guess (s .pre .1) within
+            (sym (c .before .before .before .all-under .ensures) ∙ c .before .before .if2 .taken) k h,
+        e,
+      );
+      beyond = λ k h g. omega (arith, guess-over keys n (a .rank .result) guess (s .pre .1) (sym (c .before .none-under .ensures) ∙ c .if3 .taken) k h g, e);
     }
 
 returns-2 : tie.Need-returns-2
-returns-2 c = let s = c .before .before .before .before in subst (λ (z : ℤ). Parts (s .args .keys .now) (s .args .n) z (c .first-from .result)) (toZ-ofZ w32 (s .args .id) (s .fits .id)) (c .first-from .ensures)
+returns-2 c =
+    let s = c .before .before .before .before in
+    subst (λ (z : ℤ). Parts (s .args .keys .now) (s .args .n) z (c .first-from .result)) (toZ-ofZ w32 (s .args .id) (s .fits .id)) (c .first-from .ensures)
 
 pub first-near-spec : {M : Type 1} → statement M
 first-near-spec =

@@ -26,20 +26,34 @@ loop-holds c = (all, all, all, all)
       within = omega arith;
       ordered = omega arith;
       under = λ k h. absurd (omega (arith, h));
-      over = λ k h g. absurd (omega (arith, h, g));
+      beyond = λ k h g. absurd (omega (arith, h, g));
     }
 
 skip-requires : tie.Need-skip-requires Inv-loop μ-loop
-skip-requires c κs = let l = c .before in (omega (arith, c .loop-test .taken), omega (arith, c .loop-test .taken, l .loop .inv .0 .within, l .before .before .before .before .before .before .pre .0))
+skip-requires c κs =
+    let l = c .before in
+    (omega (arith, c .loop-test .taken), omega (arith, c .loop-test .taken, l .loop .inv .0 .within, l .before .before .before .before .before .before .pre .0))
 
 skip-requires-2 : tie.Need-skip-requires-2 Inv-loop μ-loop
-skip-requires-2 c κs = let l = c .before .before in (omega (arith, c .before .loop-test .taken), omega (arith, c .before .loop-test .taken, l .loop .inv .1 .within, l .before .before .before .before .before .before .pre .0))
+skip-requires-2 c κs =
+    let l = c .before .before in (
+      omega (arith, c .before .loop-test .taken),
+      omega (arith, c .before .loop-test .taken, l .loop .inv .1 .within, l .before .before .before .before .before .before .pre .0),
+    )
 
 skip-requires-3 : tie.Need-skip-requires-3 Inv-loop μ-loop
-skip-requires-3 c κs = let l = c .before .before .before in (omega (arith, c .before .before .loop-test .taken), omega (arith, c .before .before .loop-test .taken, l .loop .inv .2 .within, l .before .before .before .before .before .before .pre .0))
+skip-requires-3 c κs =
+    let l = c .before .before .before in (
+      omega (arith, c .before .before .loop-test .taken),
+      omega (arith, c .before .before .loop-test .taken, l .loop .inv .2 .within, l .before .before .before .before .before .before .pre .0),
+    )
 
 skip-requires-4 : tie.Need-skip-requires-4 Inv-loop μ-loop
-skip-requires-4 c κs = let l = c .before .before .before .before in (omega (arith, c .before .before .before .loop-test .taken), omega (arith, c .before .before .before .loop-test .taken, l .loop .inv .3 .within, l .before .before .before .before .before .before .pre .0))
+skip-requires-4 c κs =
+    let l = c .before .before .before .before in (
+      omega (arith, c .before .before .before .loop-test .taken),
+      omega (arith, c .before .before .before .loop-test .taken, l .loop .inv .3 .within, l .before .before .before .before .before .before .pre .0),
+    )
 
 sub-left : tie.Need-sub-left Inv-loop μ-loop
 sub-left c = omega arith
@@ -70,23 +84,33 @@ returns c =
     let keys = s .args .keys .now in
     let n = s .args .n in
     let none = c .if1 .taken in (
-      parted keys n (s .args .i) (l .before .before .before .before .rank .ensures ∙ ap rankOf (toZ-ofZ w32 (s .args .i) (s .fits .i))) (l .loop .inv .0) (omega (arith, none)),
-      parted keys n (s .args .j) (l .before .before .before .rank2 .ensures ∙ ap rankOf (toZ-ofZ w32 (s .args .j) (s .fits .j))) (l .loop .inv .1) (omega (arith, none)),
-      parted keys n (s .args .k) (l .before .before .rank3 .ensures ∙ ap rankOf (toZ-ofZ w32 (s .args .k) (s .fits .k))) (l .loop .inv .2) (omega (arith, none)),
+      parted keys n (s .args .i) (l .before .before .before .before .rank .ensures ∙ ap rankOf (toZ-ofZ w32 (s .args .i) (s .fits .i)))
+          (l .loop .inv .0) (omega (arith, none)),
+      parted keys n (s .args .j) (l .before .before .before .rank2 .ensures ∙ ap rankOf (toZ-ofZ w32 (s .args .j) (s .fits .j))) (l .loop .inv .1)
+          (omega (arith, none)),
+      parted keys n (s .args .k) (l .before .before .rank3 .ensures ∙ ap rankOf (toZ-ofZ w32 (s .args .k) (s .fits .k))) (l .loop .inv .2)
+          (omega (arith, none)),
       parted keys n (s .args .l) (l .before .rank4 .ensures ∙ ap rankOf (toZ-ofZ w32 (s .args .l) (s .fits .l))) (l .loop .inv .3) (omega (arith, none)),
     )
 
 skip-requires-5 : tie.Need-skip-requires-5 Inv-loop μ-loop
-skip-requires-5 c κs = let l = c .before .before in (omega arith, omega (arith, c .if1 .left, l .loop .inv .0 .within, l .before .before .before .before .before .before .pre .0))
+skip-requires-5 c κs =
+    let l = c .before .before in (omega arith, omega (arith, c .if1 .left, l .loop .inv .0 .within, l .before .before .before .before .before .before .pre .0))
 
 skip-requires-6 : tie.Need-skip-requires-6 Inv-loop μ-loop
-skip-requires-6 c κs = let l = c .before .before .before in (omega arith, omega (arith, c .before .if1 .left, l .loop .inv .1 .within, l .before .before .before .before .before .before .pre .0))
+skip-requires-6 c κs =
+    let l = c .before .before .before in
+    (omega arith, omega (arith, c .before .if1 .left, l .loop .inv .1 .within, l .before .before .before .before .before .before .pre .0))
 
 skip-requires-7 : tie.Need-skip-requires-7 Inv-loop μ-loop
-skip-requires-7 c κs = let l = c .before .before .before .before in (omega arith, omega (arith, c .before .before .if1 .left, l .loop .inv .2 .within, l .before .before .before .before .before .before .pre .0))
+skip-requires-7 c κs =
+    let l = c .before .before .before .before in
+    (omega arith, omega (arith, c .before .before .if1 .left, l .loop .inv .2 .within, l .before .before .before .before .before .before .pre .0))
 
 skip-requires-8 : tie.Need-skip-requires-8 Inv-loop μ-loop
-skip-requires-8 c κs = let l = c .before .before .before .before .before in (omega arith, omega (arith, c .before .before .before .if1 .left, l .loop .inv .3 .within, l .before .before .before .before .before .before .pre .0))
+skip-requires-8 c κs =
+    let l = c .before .before .before .before .before in
+    (omega arith, omega (arith, c .before .before .before .if1 .left, l .loop .inv .3 .within, l .before .before .before .before .before .before .pre .0))
 
 returns-2 : tie.Need-returns-2 Inv-loop μ-loop
 returns-2 c =
@@ -98,10 +122,16 @@ returns-2 c =
     let one : l .loop .left ≡ 1 = omega (arith, f .if1 .left, f .before .loop-test .left) in
     let h : 1 ≤ l .loop .left = omega (arith, one) in
     let g : 1 + 1 ≤ l .loop .left + 1 = omega (arith, one) in (
-      parted keys n (s .args .i) (l .before .before .before .before .rank .ensures ∙ ap rankOf (toZ-ofZ w32 (s .args .i) (s .fits .i))) (skipped keys n _ (l .loop .a) (l .loop .left) 1 (s .pre .1) (l .loop .inv .0) (omega arith) h g (c .before .before .before .skip5 .ensures)) (omega (arith, one)),
-      parted keys n (s .args .j) (l .before .before .before .rank2 .ensures ∙ ap rankOf (toZ-ofZ w32 (s .args .j) (s .fits .j))) (skipped keys n _ (l .loop .b) (l .loop .left) 1 (s .pre .1) (l .loop .inv .1) (omega arith) h g (c .before .before .skip6 .ensures)) (omega (arith, one)),
-      parted keys n (s .args .k) (l .before .before .rank3 .ensures ∙ ap rankOf (toZ-ofZ w32 (s .args .k) (s .fits .k))) (skipped keys n _ (l .loop .c) (l .loop .left) 1 (s .pre .1) (l .loop .inv .2) (omega arith) h g (c .before .skip7 .ensures)) (omega (arith, one)),
-      parted keys n (s .args .l) (l .before .rank4 .ensures ∙ ap rankOf (toZ-ofZ w32 (s .args .l) (s .fits .l))) (skipped keys n _ (l .loop .d) (l .loop .left) 1 (s .pre .1) (l .loop .inv .3) (omega arith) h g (c .skip8 .ensures)) (omega (arith, one)),
+      parted keys n (s .args .i) (l .before .before .before .before .rank .ensures ∙ ap rankOf (toZ-ofZ w32 (s .args .i) (s .fits .i)))
+          (skipped keys n _ (l .loop .a) (l .loop .left) 1 (s .pre .1) (l .loop .inv .0) (omega arith) h g
+          (c .before .before .before .skip5 .ensures)) (omega (arith, one)),
+      parted keys n (s .args .j) (l .before .before .before .rank2 .ensures ∙ ap rankOf (toZ-ofZ w32 (s .args .j) (s .fits .j)))
+          (skipped keys n _ (l .loop .b) (l .loop .left) 1 (s .pre .1) (l .loop .inv .1) (omega arith) h g (c .before .before .skip6 .ensures))
+          (omega (arith, one)),
+      parted keys n (s .args .k) (l .before .before .rank3 .ensures ∙ ap rankOf (toZ-ofZ w32 (s .args .k) (s .fits .k)))
+          (skipped keys n _ (l .loop .c) (l .loop .left) 1 (s .pre .1) (l .loop .inv .2) (omega arith) h g (c .before .skip7 .ensures)) (omega (arith, one)),
+      parted keys n (s .args .l) (l .before .rank4 .ensures ∙ ap rankOf (toZ-ofZ w32 (s .args .l) (s .fits .l)))
+          (skipped keys n _ (l .loop .d) (l .loop .left) 1 (s .pre .1) (l .loop .inv .3) (omega arith) h g (c .skip8 .ensures)) (omega (arith, one)),
     )
 
 pub four-from-spec : {M : Type 1} → statement M

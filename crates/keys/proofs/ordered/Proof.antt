@@ -45,8 +45,12 @@ loop-again c =
     let l = c .before .before .before .before .before .loop in
     let a = c .before .before .before .before .before .before .before .args in
     let f : ℕ → ℕ = λ j. biased (a .bias) (u32At (a .keys .now) (4 * j)) in
-    let s = c .before .stand .ensures ∙ ap₂ (stands (a .strict)) (c .before .before .before .biased-at .ensures) (c .before .before .biased-at2 .ensures) in
-    (omega arith, omega arith, order-turn (stands (a .strict)) f (l .i) (l .ok) (c .both .result) (c .before .stand .result) (l .inv .0) (l .inv .2) s (c .both .ensures))
+    let s = c .before .stand .ensures ∙ ap₂ (stands (a .strict)) (c .before .before .before .biased-at .ensures) (c .before .before .biased-at2 .ensures) in (
+      omega arith,
+      omega arith,
+      order-turn (stands (a .strict)) f (l .i) (l .ok) (c .both .result) (c .before .stand .result) (l .inv .0)
+          (l .inv .2) s (c .both .ensures),
+    )
 
 returns : tie.Need-returns Inv-loop μ-loop
 returns c =

@@ -32,7 +32,7 @@ returns-3 c =
     let in-range = c .before .before .before .if1 .left in
     let e : c .before .rank .result ≡ rankOf (s .args .id) = c .before .rank .ensures ∙ ap rankOf (toZ-ofZ w32 (s .args .id) (s .fits .id)) in
     let x : c .before .before .rank-at .result ≡ rankOf (keyAt keys r) = c .before .before .rank-at .ensures in
-    let d : rankOf (s .args .id) < rankOf (keyAt keys r) = above _ _ _ _ e x (c .if2 .left) (p .over r (omega arith) in-range) in
+    let d : rankOf (s .args .id) < rankOf (keyAt keys r) = above _ _ _ _ e x (c .if2 .left) (p .beyond r (omega arith) in-range) in
     place-none keys (s .args .n) (s .args .id) (s .fits .id .sfits) r p
     (λ k h g. omega (arith, s .pre .1 r k h g, d))
   where

@@ -12,7 +12,8 @@ returns : tie.Need-returns
 unfolding i32At
 returns c =
     let a = c .before .before .before .args in
-    c .wrapping-add-u32 .ensures ∙ sym (rank-signed (c .before .u32-at .result) (c .before .u32-at .ok)) ∙ ap (λ (x : ℕ). rankOf (signed32 x)) (c .before .u32-at .ensures)
+    c .wrapping-add-u32 .ensures ∙ sym (rank-signed (c .before .u32-at .result) (c .before .u32-at .ok)) ∙ ap (λ (x : ℕ). rankOf (signed32 x))
+    (c .before .u32-at .ensures)
 
 pub rank-at-spec : {M : Type 1} → statement M
 rank-at-spec = tie.close (tie.spec (λ c. search needs) (λ c κs. search needs) (λ c κs. search needs) returns)

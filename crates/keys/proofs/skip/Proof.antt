@@ -36,4 +36,6 @@ returns c =
     e ∙ ap (λ (x : ℕ). a .base + cond (ltb x (a .key)) (a .half) 0) (c .before .rank-at .ensures)
 
 pub skip-spec : {M : Type 1} → statement M
-skip-spec = tie.close (tie.spec (λ c. search needs) (λ c. search needs) (λ c κs. search needs) (λ c κs. search needs) mul-result add-result (λ c. search needs) sub-result returns)
+skip-spec =
+    tie.close (tie.spec (λ c. search needs) (λ c. search needs) (λ c κs. search needs) (λ c κs. search needs) mul-result add-result
+    (λ c. search needs) sub-result returns)

@@ -10,19 +10,19 @@ use mir.ValLaws.{toZ-ofZ}
 use borrow.Author.Needs.{needs}
 use Rattle.words.specs.Words.{countOf}
 use Rattle.context.specs.Gathered.{pairsOf}
-use Rattle.item.specs.Item.{ofType}
-use Rattle.limits.proofs.Counts.{Counted, counted-none, counted-more, counted-all}
+use Rattle.limits.specs.Limits.{ofType}
+use Rattle.context.proofs.Counts.{Counted, counted-none, counted-more, counted-all}
 use Rattle.limits.proofs.count_of_type.Statement.{statement}
 use Rattle.limits.proofs.count_of_type.Tie as tie
 
 abbrev Inv-loop : tie.InvT-loop
-Inv-loop fit id count used₀ i₀ used i = (k : List ℕ) → Counted k fit (ofType (toZ w32 id)) used i
+Inv-loop fit id count used₀ i₀ used i = (catalogue : List ℕ) → Counted catalogue fit (ofType (toZ w32 id)) used i
 
 abbrev μ-loop : tie.MeasureT-loop
 μ-loop fit id count used₀ i₀ used i = count - i
 
 loop-holds : tie.Need-loop-holds Inv-loop μ-loop
-loop-holds c = λ k. counted-none _ _ _
+loop-holds c = λ catalogue. counted-none _ _ _
 
 one-if-requires : tie.Need-one-if-requires Inv-loop μ-loop
 one-if-requires c κs = tt
@@ -34,16 +34,17 @@ add-i : tie.Need-add-i Inv-loop μ-loop
 add-i c = omega (arith, c .before .before .before .loop .inv [])
 
 loop-again : tie.Need-loop-again Inv-loop μ-loop
-loop-again c = λ k.
+loop-again c = λ catalogue.
     let l = c .before .before .before in
-    counted-more _ _ _ (l .loop .used) (l .loop .i) (c .one-if .result) (c .before .of-type .result) (omega arith) (l .loop .inv k) (c .before .of-type .ensures k) (c .one-if .ensures)
+    counted-more _ _ _ (l .loop .used) (l .loop .i) (c .one-if .result) (c .before .of-type .result) (omega arith) (l .loop .inv catalogue)
+    (c .before .of-type .ensures catalogue) (c .one-if .ensures)
 
 returns : tie.Need-returns Inv-loop μ-loop
-returns c = λ k.
+returns c = λ catalogue.
     let l = c .before in
     let s = l .before .before .before in
-    counted-all _ _ _ (l .loop .used) (l .loop .i) (omega arith) (l .loop .inv k)
-    ∙ ap (λ (z : ℤ). countOf (ofType z) (pairsOf k (s .args .fit .now))) (toZ-ofZ w32 (s .args .id) (s .fits .id))
+    counted-all _ _ _ (l .loop .used) (l .loop .i) (omega arith) (l .loop .inv catalogue)
+    ∙ ap (λ (z : ℤ). countOf (ofType z) (pairsOf catalogue (s .args .fit .now))) (toZ-ofZ w32 (s .args .id) (s .fits .id))
 
 pub count-of-type-spec : {M : Type 1} → statement M
 count-of-type-spec =

@@ -11,38 +11,39 @@ use Rattle.floats.specs.Values.{valueOf}
 use Rattle.fit.specs.Fit.{resultOf}
 use Rattle.fit.specs.Lookups.{value}
 use Rattle.context.specs.Gathered.{pairAt, pairsOf}
-use Rattle.item.specs.Item.{inGroup}
-use Rattle.item.specs.AtPair.{groupLimitAt}
+use Rattle.limits.specs.Limits.{inGroup}
 use Rattle.limits.proofs.Limits.{group-missing, group-unfitted, group-fitted}
 use borrow.Author.Needs.{needs}
 use Rattle.limits.proofs.group_limit_at.Statement.{statement}
 use Rattle.limits.proofs.group_limit_at.Tie as tie
 
 -- the value that was looked up, under the id itself
-told : (c : tie.After-value) → let a = c .before .before .before .before .args in valueOf (c .value .result) ≡ value (resultOf (a .fit .now) (a .i + 2)) (a .id)
+told : (c : tie.After-value) → let a = c .before .before .before .before .before .before .args in
+    valueOf (c .value .result) ≡ value (resultOf (a .fit .now) (a .i + 2)) (a .limit .id)
 told c =
-    let s = c .before .before .before .before in
-    c .value .ensures ∙ ap (value (resultOf (s .args .fit .now) (s .args .i + 2))) (toZ-ofZ w32 (s .args .id) (s .fits .id))
+    let a = c .before .before .before .before .before .before .args in
+    c .value .ensures ∙ ap (value (resultOf (a .fit .now) (a .i + 2)))
+    (toZ-ofZ w32 (a .limit .id) (record { sfits = c .before .struct-told .given .1 .1 .0 .1 }))
 
 returns : tie.Need-returns
-unfolding groupLimitAt
 returns c =
     let v = c .before .before in
-    let a = v .before .before .before .before .args in
-    group-missing (a .limit) (a .id) (pairsOf (a .catalogue .now) (a .fit .now)) (pairAt (a .catalogue .now) (a .fit .now) (a .i)) (sym (told v) ∙ ap valueOf (c .enum-told .given .1))
+    let a = v .before .before .before .before .before .before .args in
+    group-missing (a .limit .limit) (a .limit .lowest) (a .limit .id) (pairsOf (a .catalogue .now) (a .fit .now))
+    (pairAt (a .catalogue .now) (a .fit .now) (a .i))
+    (sym (told v) ∙ ap valueOf (c .enum-told .given .1))
 
 returns-2 : tie.Need-returns-2
-unfolding groupLimitAt
 returns-2 c =
     let f = c .before in
     let m = f .before .before in
     let v = m .before .before in
-    let a = v .before .before .before .before .args in
-    group-unfitted (a .limit) (a .id) (pairsOf (a .catalogue .now) (a .fit .now)) (pairAt (a .catalogue .now) (a .fit .now) (a .i)) (sym (told v) ∙ ap valueOf (m .answer .given .1))
-    (sym (f .is-fitted .ensures (a .catalogue .now)) ∙ not-true _ (c .if1 .taken))
+    let a = v .before .before .before .before .before .before .args in
+    group-unfitted (a .limit .limit) (a .limit .lowest) (a .limit .id) (pairsOf (a .catalogue .now) (a .fit .now))
+    (pairAt (a .catalogue .now) (a .fit .now) (a .i))
+    (sym (told v) ∙ ap valueOf (m .answer .given .1)) (sym (f .is-fitted-at .ensures (a .catalogue .now)) ∙ not-true _ (c .if1 .taken))
 
 returns-3 : tie.Need-returns-3
-unfolding groupLimitAt
 returns-3 c =
     let w = c .before .before in
     let u = w .before .before in
@@ -50,15 +51,15 @@ returns-3 c =
     let f = g .before .before in
     let m = f .before .before in
     let v = m .before .before in
-    let s = v .before .before .before .before in
+    let s = v .before .before .before .before .before .before in
     let a = s .args in
     let ps = pairsOf (a .catalogue .now) (a .fit .now) in
     let p = pairAt (a .catalogue .now) (a .fit .now) (a .i) in
-    let z : toZ w32 (ofZ w32 (g .id-at .result)) ≡ p .group =
-    toZ-ofZ w32 (g .id-at .result) (record { sfits = g .id-at .ok }) ∙ g .id-at .ensures ∙ s .pre .3 (a .i) (s .pre .1) in
-    group-fitted (a .limit) (a .id) ps p (sym (told v) ∙ ap valueOf (m .answer .given .1))
-    (sym (f .is-fitted .ensures (a .catalogue .now)) ∙ not-false _ (g .before .if1 .left))
-    z (u .before .count-in-group .ensures ∙ ap (λ (y : ℤ). countOf (inGroup y (a .limit)) ps) z) (u .to-u32 .ensures) (w .emit-when .ensures)
+    let z : toZ w32 (ofZ w32 (g .group .result)) ≡ p .group =
+    toZ-ofZ w32 (g .group .result) (record { sfits = g .group .ok }) ∙ g .group .ensures in
+    group-fitted (a .limit .limit) (a .limit .lowest) (a .limit .id) ps p (sym (told v) ∙ ap valueOf (m .answer .given .1))
+    (sym (f .is-fitted-at .ensures (a .catalogue .now)) ∙ not-false _ (g .before .if1 .left))
+    z (u .before .count-in-group .ensures ∙ ap (λ (y : ℤ). countOf (inGroup y (a .limit .lowest)) ps) z) (u .to-u32 .ensures) (w .emit-when .ensures)
 
 pub group-limit-at-spec : {M : Type 1} → statement M
 group-limit-at-spec =

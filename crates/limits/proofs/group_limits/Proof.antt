@@ -5,39 +5,37 @@ use lib.ListN.{take}
 use borrow.Author.Needs.{needs}
 use Rattle.words.specs.Words.{each}
 use Rattle.entry.specs.Wrote.{Wrote}
-use Rattle.entry.proofs.Wrote.{wrote-length}
+use Rattle.entry.proofs.Wrote.{wrote-length, wrote-each-none, wrote-each-next, wrote-each-all}
 use Rattle.context.specs.Gathered.{contextOf, pairsOf}
-use Rattle.item.specs.Item.{GROUP-LIMITS, groupLimits}
-use Rattle.item.specs.AtPair.{groupLimit, groupLimitAt}
-use Rattle.limits.proofs.Limits.{limits-none, limits-next, limits-all}
+use Rattle.limits.specs.Limits.{GROUP-LIMITS, groupLimit, groupLimits}
 use Rattle.limits.proofs.group_limits.Statement.{statement}
 use Rattle.limits.proofs.group_limits.Tie as tie
 
 abbrev Inv-loop : tie.InvT-loop
-Inv-loop catalogue fit starts groups out₀ n m₀ k₀ out m k =
+Inv-loop catalogue fit facts out₀ n m₀ k₀ out m k =
     (k ≤ 3) × (m ≤ n + 256 * k) × Wrote out₀ n out m (each (take k GROUP-LIMITS) (groupLimit (contextOf catalogue fit) (pairsOf catalogue fit)))
 
 abbrev μ-loop : tie.MeasureT-loop
-μ-loop catalogue fit starts groups out₀ n m₀ k₀ out m k = 3 - k
+μ-loop catalogue fit facts out₀ n m₀ k₀ out m k = 3 - k
 
 loop-holds : tie.Need-loop-holds Inv-loop μ-loop
-loop-holds c = (omega arith, omega arith, limits-none _ _ _ _)
+loop-holds c = (omega arith, omega arith, wrote-each-none _ GROUP-LIMITS _ _)
 
 loop-again : tie.Need-loop-again Inv-loop μ-loop
 loop-again c =
     let l = c .before .before .before .before .before in
-    let w = c .before .before .group-limit .ensures in
-    (omega arith, omega (arith, w .1, l .loop .inv .1), limits-next _ _ (l .loop .k) (omega arith) (l .loop .inv .2) (w .0))
+    let w = c .before .before .group-limit .ensures in (
+      omega arith,
+      omega (arith, w .1, l .loop .inv .1),
+      wrote-each-next _ GROUP-LIMITS (l .loop .k) (0, 0, 0) (c .before .before .before .before .loop-test .taken) (l .loop .inv .2) (w .0),
+    )
 
 same-length : tie.Need-same-length Inv-loop μ-loop
 same-length c = wrote-length (c .before .loop .inv .2)
 
 returns : tie.Need-returns Inv-loop μ-loop
-unfolding groupLimits groupLimit groupLimitAt
-returns c =
-    let l = c .before .loop in
-    let a = c .before .before .before .before .before .args in
-    (limits-all (contextOf (a .catalogue .now) (a .fit .now)) (pairsOf (a .catalogue .now) (a .fit .now)) (c .loop-test .left) (l .inv .2), omega (arith, l .inv .0, l .inv .1))
+unfolding groupLimits
+returns c = let l = c .before .loop in (wrote-each-all _ GROUP-LIMITS (l .k) (omega arith) (l .inv .2), omega (arith, l .inv .0, l .inv .1))
 
 pub group-limits-spec : {M : Type 1} → statement M
 group-limits-spec =
@@ -46,11 +44,6 @@ group-limits-spec =
     Inv-loop
     μ-loop
     loop-holds
-    (λ c. search needs)
-    (λ c. search needs)
-    (λ c. search needs)
-    (λ c. search needs)
-    (λ c. search needs)
     (λ c κs. search needs)
     (λ c. search needs)
     (λ c. search needs)

@@ -6,7 +6,7 @@ use mir.Syntax.{w32}
 use mir.ValLaws.{toZ-ofZ}
 use Rattle.words.specs.Words.{same}
 use Rattle.context.specs.Gathered.{pairAt}
-use Rattle.item.specs.Item.{inGroup}
+use Rattle.limits.specs.Limits.{inGroup}
 use borrow.Author.Needs.{needs}
 use Rattle.limits.proofs.in_group.Statement.{statement}
 use Rattle.limits.proofs.in_group.Tie as tie
@@ -20,9 +20,11 @@ returns c =
     let p = pairAt (a .catalogue .now) (a .fit .now) (a .i) in
     let alike : t .same-id .result ≡ same (p .group) (a .group) =
     t .same-id .ensures
-    ∙ ap₂ same (toZ-ofZ w32 (t .before .id-at .result) (record { sfits = t .before .id-at .ok }) ∙ t .before .id-at .ensures ∙ s .pre .2 (a .i) (s .pre .1)) (toZ-ofZ w32 (a .group) (s .fits .group)) in
+    ∙ ap₂ same (toZ-ofZ w32 (t .before .group .result) (record { sfits = t .before .group .ok }) ∙ t .before .group .ensures)
+    (toZ-ofZ w32 (a .group) (s .fits .group)) in
     c .both2 .ensures
-    ∙ ap₂ _&&_ (c .before .both .ensures ∙ ap₂ _&&_ (t .before .before .is-fitted .ensures (a .catalogue .now)) alike) (ap (leb (a .limit)) (c .before .before .result-state .ensures))
+    ∙ ap₂ _&&_ (c .before .both .ensures ∙ ap₂ _&&_ (t .before .before .is-fitted-at .ensures (a .catalogue .now)) alike)
+    (ap (leb (a .lowest)) (c .before .before .result-state .ensures))
 
 pub in-group-spec : {M : Type 1} → statement M
 in-group-spec =

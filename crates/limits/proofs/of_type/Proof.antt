@@ -4,20 +4,21 @@ use mathlib.Core.Bool.{_&&_}
 use mir.Syntax.{w32}
 use mir.ValLaws.{toZ-ofZ}
 use Rattle.words.specs.Words.{same}
-use Rattle.item.specs.Item.{ofType}
+use Rattle.limits.specs.Limits.{ofType}
 use borrow.Author.Needs.{needs}
 use Rattle.limits.proofs.of_type.Statement.{statement}
 use Rattle.limits.proofs.of_type.Tie as tie
 
 returns : tie.Need-returns
 unfolding ofType
-returns c = λ k.
+returns c = λ catalogue.
     let t = c .before in
     let s = t .before .before .before .before in
     c .both .ensures
-    ∙ ap₂ _&&_ (t .before .before .is-fitted .ensures k)
+    ∙ ap₂ _&&_ (t .before .before .is-fitted-at .ensures catalogue)
     (t .same-id .ensures
-    ∙ ap₂ same (toZ-ofZ w32 (t .before .item-type .result) (record { sfits = t .before .item-type .ok }) ∙ t .before .item-type .ensures) (toZ-ofZ w32 (s .args .id) (s .fits .id)))
+    ∙ ap₂ same (toZ-ofZ w32 (t .before .item-type .result) (record { sfits = t .before .item-type .ok }) ∙ t .before .item-type .ensures)
+    (toZ-ofZ w32 (s .args .id) (s .fits .id)))
 
 pub of-type-spec : {M : Type 1} → statement M
 of-type-spec =

@@ -7,27 +7,29 @@ use mir.Syntax.{w32}
 use mir.Val.{toZ, ofZ}
 use mir.ValLaws.{toZ-ofZ}
 use borrow.Author.Needs.{needs}
+use Rattle.numbers.specs.Names as Names
 use Rattle.catalogue.specs.Catalogue.{catalogueOf}
 use Rattle.catalogue.specs.Lookups.{nameId}
 use Rattle.catalogue.specs.Answers.{idOf}
 use Rattle.entry.proofs.Wrote.{wrote-length}
 use Rattle.context.specs.Context.{context}
 use Rattle.context.specs.Gathered.{contextOf, pairsOf}
-use Rattle.item.proofs.Loops.{Passed, passed-none, passed-more, passed-all}
-use Rattle.item.specs.AtPair.{typeLimitAt}
+use Rattle.context.proofs.Loops.{Passed, passed-none, passed-more, passed-all}
+use Rattle.limits.specs.Limits.{typeLimitAt}
 use Rattle.limits.proofs.Limits.{type-few, type-no-name, type-each}
 use Rattle.limits.proofs.type_limit.Statement.{statement}
 use Rattle.limits.proofs.type_limit.Tie as tie
 
 abbrev Inv-loop : tie.InvT-loop
-Inv-loop catalogue fit starts out₀ n id count m₀ i₀ out m i =
+Inv-loop catalogue fit facts out₀ n id count m₀ i₀ out m i =
     Passed catalogue fit (typeLimitAt (toZ w32 id) (pairsOf catalogue fit)) out₀ n out m i
 
 abbrev μ-loop : tie.MeasureT-loop
-μ-loop catalogue fit starts out₀ n id count m₀ i₀ out m i = count - i
+μ-loop catalogue fit facts out₀ n id count m₀ i₀ out m i = count - i
 
 -- the id that was looked up, as the calls after it read it
-named : (h : tie.After-pair-count Inv-loop μ-loop) → let a = h .before .before .before .before .before .before .before .before .args in nameId (catalogueOf (a .catalogue .now) .names) 75 ≡ some (toZ w32 (ofZ w32 (h .before .before .answer .given .0 .0)))
+named : (h : tie.After-pair-count Inv-loop μ-loop) → let a = h .before .before .before .before .before .before .before .before .args in
+    nameId (catalogueOf (a .catalogue .now) .names) Names.maxTypeFitted ≡ some (toZ w32 (ofZ w32 (h .before .before .answer .given .0 .0)))
 named h =
     let m = h .before .before in
     sym (m .before .before .attribute-id .ensures) ∙ ap idOf (m .answer .given .1)
@@ -37,8 +39,11 @@ returns : tie.Need-returns Inv-loop μ-loop
 unfolding contextOf context
 returns c =
     let f = c .before .before in
-    let a = f .before .before .before .before .args in
-    (type-no-name (contextOf (a .catalogue .now) (a .fit .now)) (pairsOf (a .catalogue .now) (a .fit .now)) (sym (f .attribute-id .ensures) ∙ ap idOf (c .enum-told .given .1)), omega arith)
+    let a = f .before .before .before .before .args in (
+      type-no-name (contextOf (a .catalogue .now) (a .fit .now)) (pairsOf (a .catalogue .now) (a .fit .now))
+          (sym (f .attribute-id .ensures) ∙ ap idOf (c .enum-told .given .1)),
+      omega arith,
+    )
 
 loop-holds : tie.Need-loop-holds Inv-loop μ-loop
 loop-holds c = passed-none _ _ _ _ _
@@ -46,7 +51,7 @@ loop-holds c = passed-none _ _ _ _ _
 loop-again : tie.Need-loop-again Inv-loop μ-loop
 loop-again c =
     let l = c .before .before .before .before .before in
-    passed-more _ _ _ (type-few _ _) (omega arith) (l .loop .inv) (c .before .before .type-limit-at .ensures)
+    passed-more _ _ _ (type-few _ _) (omega arith) (l .loop .inv) (c .before .before .type-limit-at .ensures _)
 
 same-length : tie.Need-same-length Inv-loop μ-loop
 same-length c = wrote-length (c .before .loop .inv .wrote)
@@ -57,8 +62,11 @@ returns-2 c =
     let l = c .before in
     let h = l .before in
     let s = h .before .before .before .before .before .before .before .before in
-    let w = passed-all (s .args .catalogue .now) (s .args .fit .now) _ (s .pre .0 .fit-sound) (omega arith) (l .loop .inv) in
-    (type-each (contextOf (s .args .catalogue .now) (s .args .fit .now)) (pairsOf (s .args .catalogue .now) (s .args .fit .now)) _ (named h) (w .0), w .1)
+    let w = passed-all (s .args .catalogue .now) (s .args .fit .now) _ (s .pre .0 .fit-sound) (omega arith) (l .loop .inv) in (
+      type-each (contextOf (s .args .catalogue .now) (s .args .fit .now)) (pairsOf (s .args .catalogue .now) (s .args .fit .now)) _ (named h)
+          (w .0),
+      w .1,
+    )
 
 pub type-limit-spec : {M : Type 1} → statement M
 type-limit-spec =

@@ -11,35 +11,37 @@ use Rattle.floats.specs.Values.{valueOf}
 use Rattle.fit.specs.Fit.{resultOf}
 use Rattle.fit.specs.Lookups.{value}
 use Rattle.context.specs.Gathered.{pairAt, pairsOf}
-use Rattle.item.specs.Item.{ofType}
+use Rattle.limits.specs.Limits.{ofType}
 use Rattle.limits.proofs.Limits.{type-missing, type-unfitted, type-fitted}
 use borrow.Author.Needs.{needs}
 use Rattle.limits.proofs.type_limit_at.Statement.{statement}
 use Rattle.limits.proofs.type_limit_at.Tie as tie
 
 -- the value that was looked up, under the id itself
-told : (c : tie.After-value) → let a = c .before .before .before .before .args in valueOf (c .value .result) ≡ value (resultOf (a .fit .now) (a .i + 2)) (a .id)
+told : (c : tie.After-value) → let a = c .before .before .before .before .args in
+    valueOf (c .value .result) ≡ value (resultOf (a .fit .now) (a .i + 2)) (a .id)
 told c =
     let s = c .before .before .before .before in
     c .value .ensures ∙ ap (value (resultOf (s .args .fit .now) (s .args .i + 2))) (toZ-ofZ w32 (s .args .id) (s .fits .id))
 
 returns : tie.Need-returns
-returns c =
+returns c = λ catalogue.
     let v = c .before .before in
     let a = v .before .before .before .before .args in
-    type-missing (a .id) (pairsOf (a .catalogue .now) (a .fit .now)) (pairAt (a .catalogue .now) (a .fit .now) (a .i)) (sym (told v) ∙ ap valueOf (c .enum-told .given .1))
+    type-missing (a .id) (pairsOf catalogue (a .fit .now)) (pairAt catalogue (a .fit .now) (a .i))
+    (sym (told v) ∙ ap valueOf (c .enum-told .given .1))
 
 returns-2 : tie.Need-returns-2
-returns-2 c =
+returns-2 c = λ catalogue.
     let f = c .before in
     let m = f .before .before in
     let v = m .before .before in
     let a = v .before .before .before .before .args in
-    type-unfitted (a .id) (pairsOf (a .catalogue .now) (a .fit .now)) (pairAt (a .catalogue .now) (a .fit .now) (a .i)) (sym (told v) ∙ ap valueOf (m .answer .given .1))
-    (sym (f .is-fitted .ensures (a .catalogue .now)) ∙ not-true _ (c .if1 .taken))
+    type-unfitted (a .id) (pairsOf catalogue (a .fit .now)) (pairAt catalogue (a .fit .now) (a .i)) (sym (told v) ∙ ap valueOf (m .answer .given .1))
+    (sym (f .is-fitted-at .ensures catalogue) ∙ not-true _ (c .if1 .taken))
 
 returns-3 : tie.Need-returns-3
-returns-3 c =
+returns-3 c = λ catalogue.
     let w = c .before .before in
     let u = w .before .before in
     let t = u .before .before in
@@ -48,13 +50,13 @@ returns-3 c =
     let v = m .before .before in
     let s = v .before .before .before .before in
     let a = s .args in
-    let ps = pairsOf (a .catalogue .now) (a .fit .now) in
-    let p = pairAt (a .catalogue .now) (a .fit .now) (a .i) in
+    let ps = pairsOf catalogue (a .fit .now) in
+    let p = pairAt catalogue (a .fit .now) (a .i) in
     let z : toZ w32 (ofZ w32 (t .item-type .result)) ≡ p .type =
     toZ-ofZ w32 (t .item-type .result) (record { sfits = t .item-type .ok }) ∙ t .item-type .ensures in
     type-fitted (a .id) ps p (sym (told v) ∙ ap valueOf (m .answer .given .1))
-    (sym (f .is-fitted .ensures (a .catalogue .now)) ∙ not-false _ (t .before .if1 .left))
-    z (u .before .count-of-type .ensures (a .catalogue .now) ∙ ap (λ (y : ℤ). countOf (ofType y) ps) z) (u .to-u32 .ensures) (w .emit-when .ensures)
+    (sym (f .is-fitted-at .ensures catalogue) ∙ not-false _ (t .before .if1 .left))
+    z (u .before .count-of-type .ensures catalogue ∙ ap (λ (y : ℤ). countOf (ofType y) ps) z) (u .to-u32 .ensures) (w .emit-when .ensures)
 
 pub type-limit-at-spec : {M : Type 1} → statement M
 type-limit-at-spec =

@@ -1,30 +1,36 @@
 -- `racks::hardpoints` meets its contract. The invariant: what is written so far is said of the first i rows of the table.
 use Prim.Native.Nat.{ℕ, _+_, _-_, _≤_}
 use native.Mathlib.Omega.{arith}
-use mathlib.Core.Path.{_≡_, ap, _∙_}
-use Rattle.words.specs.Words.{each, table}
+use mathlib.Core.List.{List}
+use lib.ListN.{take}
+use Rattle.words.specs.Words.{each}
+use Rattle.entry.specs.declared.Entry.{Entry}
 use Rattle.entry.specs.Wrote.{Wrote}
-use Rattle.entry.proofs.Wrote.{wrote-same, wrote-length, wrote-table-none, wrote-table-next}
+use Rattle.entry.proofs.Wrote.{wrote-length, wrote-each-none, wrote-each-next, wrote-each-all}
 use Rattle.context.specs.Gathered.{contextOf, pairsOf}
-use Rattle.slot.specs.Tables.{hardpointNumbers, rowAt, onHardpoint}
-use Rattle.racks.proofs.Reports.{hardpoints-rows}
+use Rattle.racks.specs.Racks.{HARDPOINTS, onHardpoint, hardpoints}
 use Rattle.racks.proofs.hardpoints.Statement.{statement}
 use Rattle.racks.proofs.hardpoints.Tie as tie
 
+-- what is said of a row
+abbrev said : (catalogue fit : List ℕ) → ℕ × ℕ → List Entry
+said catalogue fit = onHardpoint (contextOf catalogue fit) (pairsOf catalogue fit)
+
 abbrev Inv-loop : tie.InvT-loop
-Inv-loop catalogue fit starts hardpoints out₀ n k₀ i₀ out k i =
-    (i ≤ 2) × ((k ≤ n + i) × Wrote out₀ n out k (each (table i (rowAt hardpointNumbers)) (onHardpoint (contextOf catalogue fit) (pairsOf catalogue fit))))
+Inv-loop catalogue fit facts out₀ n k₀ i₀ out k i =
+    (i ≤ 2) × (k ≤ n + i) × Wrote out₀ n out k (each (take i HARDPOINTS) (said catalogue fit))
 
 abbrev μ-loop : tie.MeasureT-loop
-μ-loop catalogue fit starts hardpoints out₀ n k₀ i₀ out k i = 2 - i
+μ-loop catalogue fit facts out₀ n k₀ i₀ out k i = 2 - i
 
 loop-holds : tie.Need-loop-holds Inv-loop μ-loop
-loop-holds c = (omega arith, (omega arith, wrote-table-none _ _ _ _))
+loop-holds c =
+    let a = c .before .before .before .args in
+    (omega arith, omega arith, wrote-each-none (said (a .catalogue .now) (a .fit .now)) HARDPOINTS _ _)
 
 hardpoint-at-requires : tie.Need-hardpoint-at-requires Inv-loop μ-loop
 hardpoint-at-requires c κs =
-    let l = c .before .before in
-    let s = l .before .before .before .before in (s .pre .0, s .pre .1, c .before .loop-test .taken, omega arith)
+    let s = c .before .before .before .before .before .before in (s .pre .0, c .before .loop-test .taken, omega arith)
 
 add-i : tie.Need-add-i Inv-loop μ-loop
 add-i c = omega arith
@@ -35,21 +41,18 @@ loop-less c = omega arith
 loop-again : tie.Need-loop-again Inv-loop μ-loop
 loop-again c =
     let w = c .before .before .hardpoint-at .ensures in
-    let l = c .before .before .before .before .before .loop in (omega arith, (omega (arith, w .0), wrote-table-next _ _ (l .i) (l .inv .1 .1) (w .1)))
+    let l = c .before .before .before .before .before .loop in (
+      omega arith,
+      omega (arith, w .1),
+      wrote-each-next _ HARDPOINTS (l .i) (0, 0) (c .before .before .before .before .loop-test .taken) (l .inv .2) (w .0),
+    )
 
 same-length : tie.Need-same-length Inv-loop μ-loop
-same-length c = wrote-length (c .before .loop .inv .1 .1)
+same-length c = wrote-length (c .before .loop .inv .2)
 
 returns : tie.Need-returns Inv-loop μ-loop
-returns c =
-    let l = c .before .loop in
-    let a = c .before .before .before .before .before .args in
-    let x = contextOf (a .catalogue .now) (a .fit .now) in
-    let ps = pairsOf (a .catalogue .now) (a .fit .now) in
-    let e : l .i ≡ 2 = omega arith in (
-      omega arith,
-      wrote-same (ap (λ (m : ℕ). each (table m (rowAt hardpointNumbers)) (onHardpoint x ps)) e ∙ hardpoints-rows x ps) (l .inv .1 .1),
-    )
+unfolding hardpoints
+returns c = let l = c .before .loop in (wrote-each-all _ HARDPOINTS (l .i) (omega arith) (l .inv .2), omega arith)
 
 pub hardpoints-spec : {M : Type 1} → statement M
 hardpoints-spec =

@@ -1,29 +1,28 @@
 -- `racks::on_hardpoint` meets its contract. The invariant: the count so far is that of the first i pairs.
-use Prim.Native.Nat.{ℕ, _-_, _≤_}
+use Prim.Native.Nat.{_-_, _≤_}
 use native.Mathlib.Omega.{arith}
 use mathlib.Core.Path.{_≡_, sym}
-use mathlib.Core.List.{List}
 use borrow.Author.Needs.{needs}
 use Rattle.words.specs.Words.{table, countOf}
 use Rattle.words.proofs.Tables.{count-none}
-use Rattle.context.specs.Gathered.{pairAt, Hardpoints}
-use Rattle.slot.specs.Slot.{takesHardpoint}
-use Rattle.racks.proofs.Counts.{count-turn, count-all}
+use Rattle.context.specs.Gathered.{pairAt}
+use Rattle.racks.specs.Racks.{takesHardpoint}
+use Rattle.context.proofs.Counts.{count-turn, count-all}
 use Rattle.racks.proofs.on_hardpoint.Statement.{statement}
 use Rattle.racks.proofs.on_hardpoint.Tie as tie
 
 abbrev Inv-loop : tie.InvT-loop
-Inv-loop fit hardpoints slot count used₀ i₀ used i =
-    (i ≤ count) × ((used ≤ i) × ((catalogue : List ℕ) → Hardpoints catalogue fit hardpoints → used ≡ countOf (takesHardpoint slot) (table i (pairAt catalogue fit))))
+Inv-loop catalogue fit facts slot count used₀ i₀ used i =
+    (i ≤ count) × (used ≤ i) × (used ≡ countOf (takesHardpoint slot) (table i (pairAt catalogue fit)))
 
 abbrev μ-loop : tie.MeasureT-loop
-μ-loop fit hardpoints slot count used₀ i₀ used i = count - i
+μ-loop catalogue fit facts slot count used₀ i₀ used i = count - i
 
 loop-holds : tie.Need-loop-holds Inv-loop μ-loop
-loop-holds c = (omega arith, (omega arith, λ catalogue h. sym (count-none _ _)))
+loop-holds c = (omega arith, omega arith, sym (count-none _ _))
 
 takes-hardpoint-requires : tie.Need-takes-hardpoint-requires Inv-loop μ-loop
-takes-hardpoint-requires c κs = let s = c .before .before .before .before in (s .pre .0, omega arith, s .pre .1)
+takes-hardpoint-requires c κs = let s = c .before .before .before .before .before in (s .pre .0, omega arith, s .pre .1)
 
 add-used : tie.Need-add-used Inv-loop μ-loop
 add-used c = omega arith
@@ -37,18 +36,17 @@ loop-less c = omega arith
 loop-again : tie.Need-loop-again Inv-loop μ-loop
 loop-again c =
     let l = c .before .before .before .loop in
-    let a = c .before .before .before .before .before .before .args in (
+    let a = c .before .before .before .before .before .before .before .args in (
       omega arith,
-      (
-        omega arith,
-        λ catalogue h. count-turn (takesHardpoint (a .slot)) catalogue (a .fit .now) (l .inv .1 .1 catalogue h) (c .before .takes-hardpoint .ensures catalogue h) (c .one-if .ensures .0),
-      ),
+      omega arith,
+      count-turn (takesHardpoint (a .slot)) (a .catalogue .now) (a .fit .now) (l .inv .2) (c .before .takes-hardpoint .ensures)
+          (c .one-if .ensures .0),
     )
 
 returns : tie.Need-returns Inv-loop μ-loop
 returns c =
-    let a = c .before .before .before .before .args in
-    λ catalogue h. count-all (takesHardpoint (a .slot)) catalogue (a .fit .now) (omega arith) (c .before .loop .inv .1 .1 catalogue h)
+    let a = c .before .before .before .before .before .args in
+    count-all (takesHardpoint (a .slot)) (a .catalogue .now) (a .fit .now) (omega arith) (c .before .loop .inv .2)
 
 pub on-hardpoint-spec : {M : Type 1} → statement M
 on-hardpoint-spec =

@@ -20,25 +20,28 @@ use Rattle.racks.proofs.report.Tie as tie
 returns : tie.Need-returns
 returns c =
     let w = c .before .before .emit-when .ensures in
-    let t = c .before .before .before .before in
-    let k = t .before .before in
+    let t = c .before .before .before .before .before in
+    let k = t .before .before .before in
     let m = k .before .id .given in
     let n = k .before .before .before in
     let a = n .before .before .before .before .args in
     let available = t .to-u32 .result in
     let e : available ≡ toU 32 (amount (resultOf (a .fit .now) 0) (m .0 .0)) =
     t .to-u32 .ensures
-    ∙ ap (toU 32) (t .before .amount .ensures ∙ ap (amount (resultOf (a .fit .now) 0)) (toZ-ofZ w32 (m .0 .0) (record { sfits = k .known-told .given .0 .1 }))) in (
-      omega (arith, w .count, few-when (ltb available (a .used)) (onShip (Slots (a .slot) (a .used) available))),
-      wrote-same (slots-is (a .catalogue .now) (a .fit .now) (a .slot) (a .name) (a .used) (m .0 .0) available (sym (n .attribute-id .ensures) ∙ ap idOf (m .1)) e) w,
+    ∙ ap (toU 32)
+    (t .before .amount .ensures ∙ ap (amount (resultOf (a .fit .now) 0)) (toZ-ofZ w32 (m .0 .0) (record { sfits = k .known-told .given .0 .1 }))) in
+    let id = sym (n .attribute-id .ensures) ∙ ap idOf (m .1) in (
+      wrote-same (slots-is (a .catalogue .now) (a .fit .now) (a .count) (m .0 .0) available id e) w,
+      omega (arith, w .count, few-when (ltb available (a .count .used)) (onShip (Slots (a .count .slot) (a .count .used) available))),
     )
 
 returns-2 : tie.Need-returns-2
 returns-2 c =
     let n = c .before .before in
-    let a = n .before .before .before .before .args in (
+    let a = n .before .before .before .before .args in
+    let unknown = sym (n .attribute-id .ensures) ∙ ap idOf (c .enum-told .given .1) in (
+      wrote-same (slots-none (a .catalogue .now) (a .fit .now) (a .count) unknown) (wrote-none _ _),
       omega arith,
-      wrote-same (slots-none (a .catalogue .now) (a .fit .now) (a .slot) (a .name) (a .used) (sym (n .attribute-id .ensures) ∙ ap idOf (c .enum-told .given .1))) (wrote-none _ _),
     )
 
 pub report-spec : {M : Type 1} → statement M

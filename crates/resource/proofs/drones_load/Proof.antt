@@ -11,11 +11,11 @@ use Rattle.resource.proofs.drones_load.Tie as tie
 
 returns : tie.Need-returns
 returns c =
-    let x = c .before in
+    let x = c .before .before in
     let l = x .before in
     let s = l .before .before in (
-      x .nearest-u64-to-f64 .ensures ∙ ap ofNat (l .launched .ensures),
-      c .amount .ensures ∙ ap (amount (resultOf (s .args .fit .now) 1)) (toZ-ofZ w32 (s .args .id) (s .fits .id)),
+      λ catalogue. x .nearest-u64-to-f64 .ensures ∙ ap ofNat (l .launched .ensures catalogue),
+      c .amount .ensures ∙ ap (amount (resultOf (s .args .fit .now) 1)) (toZ-ofZ w32 (s .args .limit) (s .fits .limit)),
     )
 
 pub drones-load-spec : {M : Type 1} → statement M

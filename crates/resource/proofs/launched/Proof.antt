@@ -1,24 +1,27 @@
 -- `resource::launched` meets its contract. The invariant: the sum of the first i pairs, each below 2 ^ 32.
 use Prim.Native.Nat.{ℕ, _*_, _-_, _≤_}
 use native.Mathlib.Omega.{arith}
-use mathlib.Core.Path.{_≡_, refl, ap, _∙_}
+use mathlib.Core.Path.{_≡_, sym, ap, _∙_}
+use mathlib.Core.List.{List}
 use borrow.Author.Needs.{needs}
-use Rattle.words.specs.Words.{sumOf, from, tableFrom}
-use Rattle.context.specs.Gathered.{pairCount}
-use Rattle.resource.specs.Rows.{launchedAt, launchedIn}
-use Rattle.resource.proofs.Sums.{launched-next}
+use Rattle.words.specs.Words.{table}
+use Rattle.context.specs.Gathered.{pairCount, pairAt}
+use Rattle.context.proofs.Pairs.{pairs-table}
+use Rattle.resource.specs.Resource.{launched}
+use Rattle.resource.proofs.Sums.{launched-none, launched-more}
 use Rattle.resource.proofs.launched.Statement.{statement}
 use Rattle.resource.proofs.launched.Tie as tie
 
 abbrev Inv-loop : tie.InvT-loop
-Inv-loop fit n sum₀ i₀ sum i = (i ≤ n) × (n ≡ pairCount fit) × (sum ≡ sumOf (launchedAt fit) (from 0 i)) × (sum ≤ 4294967296 * i)
+Inv-loop fit n sum₀ i₀ sum i = (i ≤ n) × (n ≡ pairCount fit) × ((catalogue : List ℕ) → sum ≡ launched (table i (pairAt catalogue fit))) × (sum ≤ 4294967296 * i)
 
 abbrev μ-loop : tie.MeasureT-loop
 μ-loop fit n sum₀ i₀ sum i = n - i
 
 loop-holds : tie.Need-loop-holds Inv-loop μ-loop
-unfolding sumOf tableFrom
-loop-holds c = (omega arith, c .pair-count .ensures, refl, omega arith)
+loop-holds c =
+    let fit = c .before .before .args .fit .now in
+    (omega arith, c .pair-count .ensures, λ catalogue. sym (launched-none (pairAt catalogue fit)), omega arith)
 
 launched-at-requires : tie.Need-launched-at-requires Inv-loop μ-loop
 launched-at-requires c κs = (c .before .before .before .before .pre, omega arith)
@@ -26,7 +29,7 @@ launched-at-requires c κs = (c .before .before .before .before .pre, omega arit
 add-sum : tie.Need-add-sum Inv-loop μ-loop
 add-sum c =
     let p = c .before .before .before .before .before .pre in
-    omega (arith, c .launched-at .ensures .1, p .items, c .before .before .loop .inv .1, c .before .loop-test .taken)
+    omega (arith, c .launched-at .ensures .1, p .sized .items, c .before .before .loop .inv .1, c .before .loop-test .taken)
 
 add-i : tie.Need-add-i Inv-loop μ-loop
 add-i c = omega arith
@@ -37,16 +40,19 @@ loop-less c = omega arith
 loop-again : tie.Need-loop-again Inv-loop μ-loop
 loop-again c =
     let l = c .before .before .loop in
-    let a = c .before .before .before .before .before .args in
-    (omega arith, l .inv .1, omega (arith, launched-next (a .fit .now) (l .i), c .launched-at .ensures .0, l .inv .2), omega (arith, c .launched-at .ensures .1, l .inv .3))
+    let fit = c .before .before .before .before .before .args .fit .now in (
+      omega arith,
+      l .inv .1,
+      λ catalogue. omega (arith, launched-more (pairAt catalogue fit) (l .i), c .launched-at .ensures .0 catalogue, l .inv .2 catalogue),
+      omega (arith, c .launched-at .ensures .1, l .inv .3),
+    )
 
 returns : tie.Need-returns Inv-loop μ-loop
-unfolding launchedIn
-returns c =
+returns c catalogue =
     let l = c .before .loop in
     let fit = c .before .before .before .before .args .fit .now in
     let e : l .i ≡ pairCount fit = omega (arith, l .inv .1, c .loop-test .left) in
-    l .inv .2 ∙ ap (λ (k : ℕ). sumOf (launchedAt fit) (from 0 k)) e
+    l .inv .2 catalogue ∙ ap (λ (k : ℕ). launched (table k (pairAt catalogue fit))) e ∙ ap launched (sym (pairs-table catalogue fit))
 
 pub launched-spec : {M : Type 1} → statement M
 launched-spec =

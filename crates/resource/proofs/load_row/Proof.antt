@@ -12,28 +12,38 @@ use Rattle.resource.proofs.load_row.Tie as tie
 
 returns : tie.Need-returns
 returns c =
-    let s = c .before .before .before .before .before .before .before .before .before .before .before .before .before .before .before .before in
-    let u = c .before .before .before .before .before .before .before .before .before .used .given in
-    let v = c .before .before .before .before .before .before .available .given in
-    let l = c .before .before .before .before .load-on-ship .ensures in
-    let fit = s .args .fit .now in
-    load-some (s .args .catalogue .now) fit (s .args .kind) (s .args .load) (s .args .output) (u .0 .0) (v .0 .0) _ _
-    (sym (c .before .before .before .before .before .before .before .before .before .before .before .before .attribute-id .ensures) ∙ ap idOf (u .1)) (sym (c .before .before .before .before .before .before .before .before .before .before .before .attribute-id2 .ensures) ∙ ap idOf (v .1))
-    (l .0 ∙ ap (amount (resultOf fit 0)) (toZ-ofZ w32 (u .0 .0) (search needs)))
-    (l .1 ∙ ap (amount (resultOf fit 0)) (toZ-ofZ w32 (v .0 .0) (search needs)))
-    (c .before .before .resource .ensures)
+    let r = c .before .before in
+    let o = r .before .before in
+    let b = o .before .before in
+    let a = b .before .before .before in
+    let t = a .before .before in
+    let s = t .before .before .before .before .before in
+    let row = s .args .row in
+    let u = a .used .given in
+    let v = b .available .given in
+    let ship = amount (resultOf (s .args .fit .now) 0) in
+    load-some (s .args .catalogue .now) (s .args .fit .now) (row .kind) (row .load) (row .output)
+    (sym (t .before .attribute-id .ensures) ∙ ap idOf (u .1)) (sym (t .attribute-id2 .ensures) ∙ ap idOf (v .1))
+    (o .load-on-ship .ensures .0 ∙ ap ship (toZ-ofZ w32 (u .0 .0) (search (needs, b .before .before .known-told .given))))
+    (o .load-on-ship .ensures .1 ∙ ap ship (toZ-ofZ w32 (v .0 .0) (search needs)))
+    (r .resource .ensures)
 
 returns-2 : tie.Need-returns-2
 returns-2 c =
-    let s = c .before .before .before .before .before .before .before .before .before .before in
-    let u = c .before .before .before .used .given in
-    load-half (s .args .catalogue .now) (s .args .fit .now) (s .args .kind) (s .args .load) (s .args .output) (u .0 .0)
-    (sym (c .before .before .before .before .before .before .attribute-id .ensures) ∙ ap idOf (u .1)) (sym (c .before .before .before .before .before .attribute-id2 .ensures) ∙ ap idOf (c .enum-told .given .1))
+    let a = c .before .before .before in
+    let t = a .before .before in
+    let s = t .before .before .before .before .before in
+    let row = s .args .row in
+    load-half (s .args .catalogue .now) (s .args .fit .now) (row .kind) (row .load) (row .output)
+    (sym (t .before .attribute-id .ensures) ∙ ap idOf (a .used .given .1)) (sym (t .attribute-id2 .ensures) ∙ ap idOf (c .enum-told .given .1))
 
 returns-3 : tie.Need-returns-3
 returns-3 c =
-    let s = c .before .before .before .before .before .before .before in
-    load-none (s .args .catalogue .now) (s .args .fit .now) (s .args .kind) (s .args .load) (s .args .output) (sym (c .before .before .before .attribute-id .ensures) ∙ ap idOf (c .enum-told2 .given .1))
+    let t = c .before .before in
+    let s = t .before .before .before .before .before in
+    let row = s .args .row in
+    load-none (s .args .catalogue .now) (s .args .fit .now) (row .kind) (row .load) (row .output)
+    (sym (t .before .attribute-id .ensures) ∙ ap idOf (c .enum-told2 .given .1))
 
 pub load-row-spec : {M : Type 1} → statement M
 load-row-spec =

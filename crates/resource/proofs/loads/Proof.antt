@@ -6,17 +6,16 @@ use Rattle.words.specs.Words.{each}
 use Rattle.entry.specs.Wrote.{Wrote}
 use Rattle.entry.proofs.Wrote.{wrote-each-none, wrote-each-next, wrote-each-all, wrote-length}
 use Rattle.context.specs.Gathered.{contextOf}
-use Rattle.resource.specs.Resource.{LOADS, loads}
-use Rattle.resource.specs.Rows.{loadOf}
-use Rattle.resource.proofs.Rows.{few-load}
+use Rattle.resource.specs.Resource.{LOADS, loadOf, loads}
+use Rattle.resource.proofs.Named.{few-load}
 use Rattle.resource.proofs.loads.Statement.{statement}
 use Rattle.resource.proofs.loads.Tie as tie
 
 abbrev Inv-loop : tie.InvT-loop
-Inv-loop catalogue fit starts out₀ n k₀ i₀ out k i = (i ≤ 10) × Wrote out₀ n out k (each (take i LOADS) (loadOf (contextOf catalogue fit))) × (k ≤ n + i)
+Inv-loop catalogue fit facts out₀ n k₀ i₀ out k i = (i ≤ 10) × Wrote out₀ n out k (each (take i LOADS) (loadOf (contextOf catalogue fit))) × (k ≤ n + i)
 
 abbrev μ-loop : tie.MeasureT-loop
-μ-loop catalogue fit starts out₀ n k₀ i₀ out k i = 10 - i
+μ-loop catalogue fit facts out₀ n k₀ i₀ out k i = 10 - i
 
 loop-holds : tie.Need-loop-holds Inv-loop μ-loop
 loop-holds c =
@@ -24,7 +23,9 @@ loop-holds c =
     (omega arith, wrote-each-none (loadOf (contextOf (a .catalogue .now) (a .fit .now))) LOADS _ _, omega arith)
 
 load-at-requires : tie.Need-load-at-requires Inv-loop μ-loop
-load-at-requires c κs = let s = c .before .before .before .before .before .before in (s .pre .0, omega arith, omega (arith, s .pre .1, c .before .before .loop .inv .2))
+load-at-requires c κs =
+    let s = c .before .before .before .before .before .before in
+    (s .pre .0, omega arith, omega (arith, s .pre .1, c .before .before .loop .inv .2))
 
 add-i : tie.Need-add-i Inv-loop μ-loop
 add-i c = omega arith
@@ -36,9 +37,12 @@ loop-again : tie.Need-loop-again Inv-loop μ-loop
 loop-again c =
     let l = c .before .before .before .before .before .loop in
     let a = c .before .before .before .before .before .before .before .before .before .args in
-    let f = loadOf (contextOf (a .catalogue .now) (a .fit .now)) in
-    let w = c .before .before .load-at .ensures in
-    (omega arith, wrote-each-next f LOADS (l .i) (0, 0, 0) (omega arith) (l .inv .1) w, omega (arith, w .count, few-load (contextOf (a .catalogue .now) (a .fit .now)) (getD LOADS (l .i) (0, 0, 0)), l .inv .2))
+    let x = contextOf (a .catalogue .now) (a .fit .now) in
+    let w = c .before .before .load-at .ensures in (
+      omega arith,
+      wrote-each-next (loadOf x) LOADS (l .i) (0, 0, 0) (omega arith) (l .inv .1) w,
+      omega (arith, w .count, few-load x (getD LOADS (l .i) (0, 0, 0)), l .inv .2),
+    )
 
 same-length : tie.Need-same-length Inv-loop μ-loop
 same-length c = wrote-length (c .before .loop .inv .1)

@@ -14,7 +14,8 @@ returns : tie.Need-returns
 unfolding resource
 returns c =
     let a = c .before .before .before .before .before .before .args in
-    wrote-same (ap (λ (b : Bool). when b (onShip (Resource (a .kind) (a .load .used) (a .load .available)))) (c .before .before .before .over .ensures)) (c .before .before .emit-when .ensures)
+    let e = onShip (Resource (a .kind) (a .load .used) (a .load .available)) in
+    wrote-same (ap (λ (b : Bool). when b e) (c .before .before .before .over .ensures)) (c .before .before .emit-when .ensures)
 
 pub resource-spec : {M : Type 1} → statement M
 resource-spec = tie.close (tie.spec (λ c κs. search needs) (λ c κs. search needs) (λ c. search needs) returns)

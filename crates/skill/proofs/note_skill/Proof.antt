@@ -1,64 +1,72 @@
--- `skill::note_skill` meets its contract. The invariant: what the first i pairs ask for is noted.
-use lib.IntN.{pos}
-use lib.ListN.{getD}
-use mir.ValLaws.{toZ-ofZ}
+-- `skill::note_skill` meets its contract. The invariant: what the first i requirements ask for is noted.
 use Prim.Native.Nat.{ℕ, _≤_, _-_}
 use native.Mathlib.Omega.{arith}
-use mathlib.Core.Path.{_≡_, refl, sym, ap, _∙_}
+use mathlib.Core.Path.{_≡_, refl, sym, ap, ap₂, _∙_}
+use mathlib.Core.List.{List}
+use lib.IntN.{pos}
+use lib.ListN.{getD}
 use mir.Syntax.{w32}
 use mir.Val.{toZ, ofZ}
+use mir.ValLaws.{toZ-ofZ}
 use Rattle.words.specs.Words.{each}
 use Rattle.catalogue.specs.Catalogue.{Id, catalogueOf}
 use Rattle.catalogue.specs.Lookups.{baseValue}
 use Rattle.catalogue.specs.Walks.{spanValue}
-use Rattle.skill.specs.Steps.{Pair, demandOf}
-use Rattle.skill.specs.Held.{Notes, pairsIn}
-use Rattle.skill.proofs.Required.{pair-eq, asked-none, asked-more, span-asks}
+use Rattle.skill.specs.Skill.{Demand, demandOf}
+use Rattle.skill.specs.Held.{zipAt, requirementsIn, Notes}
+use Rattle.skill.proofs.Zips.{each-zip-none, each-zip}
+use Rattle.skill.proofs.Requirements.{read, span-asks}
 use Rattle.skill.proofs.Notes.{notes-none, notes-same, notes-append}
 use borrow.Author.Needs.{needs}
 use Rattle.skill.proofs.note_skill.Statement.{statement}
 use Rattle.skill.proofs.note_skill.Tie as tie
 
 abbrev Inv-loop : tie.InvT-loop
-Inv-loop catalogue id ids₀ levels₀ len pairs span n k₀ i₀ ids levels k i = (i ≤ n) × (n ≡ pairs .len) × Notes ids₀ levels₀ len ids levels k (each (pairsIn (pairs .skills) (pairs .levels) i) (demandOf (baseValue (catalogueOf catalogue) (toZ w32 id))))
+Inv-loop catalogue id ids₀ levels₀ len required span n k₀ i₀ ids levels k i =
+    (i ≤ n) × (n ≡ required .len)
+    × Notes ids₀ levels₀ len ids levels k
+    (each (requirementsIn (required .skills) (required .levels) i) (demandOf (baseValue (catalogueOf catalogue) (toZ w32 id))))
 
 abbrev μ-loop : tie.MeasureT-loop
-μ-loop catalogue id ids₀ levels₀ len pairs span n k₀ i₀ ids levels k i = n - i
+μ-loop catalogue id ids₀ levels₀ len required span n k₀ i₀ ids levels k i = n - i
 
 loop-holds : tie.Need-loop-holds Inv-loop μ-loop
 loop-holds c =
     let s = c .before .before in
     let a = s .args in
-    (omega arith, refl, notes-same (sym (asked-none (a .t3 .skills) (a .t3 .levels) (baseValue (catalogueOf (a .catalogue .now)) (toZ w32 (ofZ w32 (a .id)))))) (notes-none (s .pre .3) (s .pre .4) (s .pre .2)))
+    let look = demandOf (baseValue (catalogueOf (a .catalogue .now)) (toZ w32 (ofZ w32 (a .id)))) in
+    (omega arith, refl, notes-same (sym (each-zip-none (pos 0) (pos 0) (a .t3 .skills) (a .t3 .levels) look)) (notes-none (s .pre .3) (s .pre .4) (s .pre .2)))
 
 loop-again : tie.Need-loop-again Inv-loop μ-loop
 loop-again c =
-    let l = c .before .before .before .before .before .before .loop in
-    let a = c .before .before .before .before .before .before .before .before .before .args in
+    let l = c .before .before .before .before .before .before .before in
+    let a = l .before .before .before .args in
     let p = a .t3 in
+    let i = l .loop .i in
     let cat = a .catalogue .now in
     let id = toZ w32 (ofZ w32 (a .id)) in
-    let span = c .before .before .before .before .before .before .before .bases-of in
-    let look = spanValue cat (span .result .from) (span .result .to) in
-    let e = pair-eq (toZ-ofZ w32 (getD (p .skills) (l .i) (pos 0)) (record { sfits = c .before .before .before .before .skill .given })) (toZ-ofZ w32 (getD (p .levels) (l .i) (pos 0)) (record { sfits = c .before .before .before .level .given })) in
-    let q : Pair = (getD (p .skills) (l .i) (pos 0), getD (p .levels) (l .i) (pos 0)) in (
+    let span = l .before .bases-of in
+    let look = demandOf (spanValue cat (span .result .from) (span .result .to)) in
+    let skill = c .before .before .before .before .before .skill .given in
+    let level = c .before .before .before .before .level .given in
+    let own = read (getD (p .skills) i (pos 0)) (getD (p .levels) i (pos 0)) (record { sfits = skill }) (record { sfits = level }) in
+    let asked = c .before .asked-by-skill .ensures
+    ∙ ap look own
+    ∙ span-asks cat id (span .result) (zipAt (pos 0) (pos 0) (p .skills) (p .levels) i) (span .ensures) in (
       omega arith,
       refl,
-      notes-same (asked-more (p .skills) (p .levels) (baseValue (catalogueOf cat) id) (l .i))
-          (notes-append (l .inv .2) (notes-same (ap (demandOf look) e ∙ span-asks cat id (span .result) q (span .ensures)) (c .note-base .ensures))),
+      notes-same (each-zip (pos 0) (pos 0) (p .skills) (p .levels) (demandOf (baseValue (catalogueOf cat) id)) i)
+          (notes-append (l .loop .inv .2) (notes-same asked (c .note-asked .ensures))),
     )
 
 returns : tie.Need-returns Inv-loop μ-loop
 returns c =
     let l = c .before .loop in
     let s = c .before .before .before .before in
-    let a = s .args in
-    let e : l .i ≡ a .t3 .len = omega (arith, l .inv .0, c .loop-test .left) in
-    let f = baseValue (catalogueOf (a .catalogue .now)) in
-    notes-same
-    (ap (λ (m : ℕ). each (pairsIn (a .t3 .skills) (a .t3 .levels) m) (demandOf (f (toZ w32 (ofZ w32 (a .id)))))) e
-    ∙ ap (λ (t : Id). each (pairsIn (a .t3 .skills) (a .t3 .levels) (a .t3 .len)) (demandOf (f t))) (toZ-ofZ w32 (a .id) (s .fits .id)))
-    (l .inv .2)
+    let p = s .args .t3 in
+    let asks : ℕ → Id → List Demand = λ m t. each (requirementsIn (p .skills) (p .levels) m) (demandOf (baseValue (catalogueOf (s .args .catalogue .now)) t)) in
+    let e : l .i ≡ p .len = omega (arith, l .inv .0, c .loop-test .left) in
+    notes-same (ap₂ asks e (toZ-ofZ w32 (s .args .id) (s .fits .id))) (l .inv .2)
 
 pub note-skill-spec : {M : Type 1} → statement M
 note-skill-spec =
@@ -72,6 +80,7 @@ note-skill-spec =
     (λ c. search needs)
     (λ c. search needs)
     (λ c. search needs)
+    (λ c κs. search needs)
     (λ c κs. search needs)
     (λ c. search needs)
     (λ c. search needs)

@@ -24,7 +24,8 @@ abbrev μ-loop : tie.MeasureT-loop
 returns : tie.Need-returns Inv-loop μ-loop
 returns c =
     let s = c .before .before in
-    let told = c .before .is-among .ensures ∙ ap (λ (z : ℤ). anyOf (λ (x : ℤ). same x z) (table (s .args .len) (λ (k : ℕ). getD (s .args .ids .now) k (pos 0)))) (toZ-ofZ w32 (s .args .id) (s .fits .id)) in
+    let held = table (s .args .len) (λ (k : ℕ). getD (s .args .ids .now) k (pos 0)) in
+    let told = c .before .is-among .ensures ∙ ap (λ (z : ℤ). anyOf (λ (x : ℤ). same x z) held) (toZ-ofZ w32 (s .args .id) (s .fits .id)) in
     record {
       within = omega arith;
       before = not-among (s .args .ids .now) (s .args .len) (s .args .id) (sym told ∙ not-true _ (c .if1 .taken));

@@ -8,56 +8,65 @@ use lib.ListN.{getD}
 use mir.Syntax.{w32}
 use mir.Val.{toZ, ofZ}
 use mir.ValLaws.{toZ-ofZ}
-use borrow.Author.Needs.{needs}
 use Rattle.catalogue.specs.Catalogue.{catalogueOf}
 use Rattle.fit.specs.Fit.{resultOf}
 use Rattle.skill.specs.Skill.{ofSkill, met}
-use Rattle.skill.specs.Held.{Notes, pairsOf}
+use Rattle.skill.specs.Held.{Notes, requirementsOf}
+use Rattle.skill.specs.declared.Walk.{Walk}
 use Rattle.skill.proofs.Walks.{met-first}
-use Rattle.skill.proofs.Required.{result-asks, skill-asks}
-use Rattle.skill.proofs.Notes.{notes-same, notes-begin, walk-step, walked-all, walked-over}
+use Rattle.skill.proofs.Requirements.{result-asks, skill-asks}
+use Rattle.skill.proofs.Notes.{notes-same, notes-begin, walk-step, walked-all, walked-full}
+use borrow.Author.Needs.{needs}
 use Rattle.skill.proofs.wanted_skills.Statement.{statement}
 use Rattle.skill.proofs.wanted_skills.Tie as tie
 
 abbrev Inv-loop : tie.InvT-loop
-Inv-loop catalogue fit starts result pairs ids₀ levels₀ len₀ next₀ ids levels len next = (next ≤ 512) × Notes [] [] 0 ids levels len (met (catalogueOf catalogue) (resultOf fit result) next)
+Inv-loop catalogue fit starts result required ids₀ levels₀ len₀ next₀ ids levels len next =
+    (next ≤ 512) × Notes [] [] 0 ids levels len (met (catalogueOf catalogue) (resultOf fit result) next)
 
 abbrev μ-loop : tie.MeasureT-loop
-μ-loop catalogue fit starts result pairs ids₀ levels₀ len₀ next₀ ids levels len next = 512 - next
+μ-loop catalogue fit starts result required ids₀ levels₀ len₀ next₀ ids levels len next = 512 - next
 
 loop-holds : tie.Need-loop-holds Inv-loop μ-loop
 loop-holds c =
-    let a = c .before .before .before .before .before .before .before .before .before .args in
+    let required = c .before .before .before in
+    let a = required .before .before .before .args in
     let cat = catalogueOf (a .catalogue .now) in
     let r = resultOf (a .fit .now) (a .result) in
-    let ps = c .before .before .before .before .before .before .required-of in
-    (omega arith, notes-begin (c .before .before .before .before .before .new .ensures .1) (notes-same (result-asks cat r (pairsOf (ps .result)) (ps .ensures .0) ∙ met-first cat r) (c .note-result .ensures)))
+    let rs = required .required-of in
+    (omega arith, notes-begin (notes-same (result-asks cat (requirementsOf (rs .result)) (rs .ensures .0) r ∙ met-first cat r) (c .note-result .ensures)))
 
 returns : tie.Need-returns Inv-loop μ-loop
 returns c =
     let l = c .before .before .loop in
-    let a = c .before .before .before .before .before .before .before .before .before .before .before .before .args in
-    walked-over (a .catalogue .now) (a .fit .now) (a .result) (l .next) (record { ids = l .ids; levels = l .levels; len = l .len }) (l .inv .1) (l .inv .0) (omega (arith, c .if1 .taken))
+    let a = c .before .before .before .before .before .before .before .before .before .args in
+    let walk : Walk = record { ids = l .ids; levels = l .levels; len = l .len } in
+    walked-full (a .catalogue .now) (a .fit .now) (a .result) (l .next) walk (l .inv .1) (l .inv .0) (omega (arith, c .if1 .taken))
 
 loop-again : tie.Need-loop-again Inv-loop μ-loop
 loop-again c =
-    let l = c .before .before .before .before .before .before .loop in
-    let a = c .before .before .before .before .before .before .before .before .before .before .before .before .before .before .before .before .args in
+    let i = c .before .before .before in
+    let t = i .before .before in
+    let l = t .before .loop in
+    let required = t .before .before .before .before .before in
+    let a = required .before .before .before .args in
     let cat = catalogueOf (a .catalogue .now) in
     let r = resultOf (a .fit .now) (a .result) in
-    let ps = c .before .before .before .before .before .before .before .before .before .before .before .before .before .required-of in
+    let rs = required .required-of in
     let id = getD (l .ids) (l .next) (pos 0) in
-    let e = toZ-ofZ w32 id (record { sfits = c .before .before .before .id .given }) in (
+    let read = toZ-ofZ w32 id (record { sfits = i .id .given }) in
+    let asks = skill-asks cat (requirementsOf (rs .result)) (rs .ensures .0) (toZ w32 (ofZ w32 id)) ∙ ap (ofSkill cat) read in (
       omega arith,
-      walk-step cat r (l .next) (l .inv .1) _ (omega arith) (omega (arith, c .before .before .before .before .before .loop-test .taken)) (omega (arith, c .before .before .before .before .if1 .left))
-          (notes-same (skill-asks cat (toZ w32 (ofZ w32 id)) (pairsOf (ps .result)) (ps .ensures .0) ∙ ap (ofSkill cat) e) (c .note-skill .ensures)),
+      walk-step cat r (l .next) (l .inv .1) _ (omega arith) (omega (arith, t .loop-test .taken)) (omega (arith, i .before .if1 .left))
+          (notes-same asks (c .note-skill .ensures)),
     )
 
 returns-2 : tie.Need-returns-2 Inv-loop μ-loop
 returns-2 c =
     let l = c .before .loop in
-    let a = c .before .before .before .before .before .before .before .before .before .before .before .args in
-    walked-all (a .catalogue .now) (a .fit .now) (a .result) (l .next) (record { ids = l .ids; levels = l .levels; len = l .len }) (l .inv .1) (l .inv .0) (omega (arith, c .loop-test .left))
+    let a = c .before .before .before .before .before .before .before .before .args in
+    let walk : Walk = record { ids = l .ids; levels = l .levels; len = l .len } in
+    walked-all (a .catalogue .now) (a .fit .now) (a .result) (l .next) walk (l .inv .1) (l .inv .0) (omega (arith, c .loop-test .left))
 
 pub wanted-skills-spec : {M : Type 1} → statement M
 wanted-skills-spec =
@@ -65,7 +74,6 @@ wanted-skills-spec =
     (tie.spec
     Inv-loop
     μ-loop
-    (λ c κs. search needs)
     (λ c κs. search needs)
     (λ c κs. search needs)
     loop-holds

@@ -2,23 +2,15 @@
 use Prim.Native.Nat.{ℕ, _-_, _<_, _≤_}
 use native.Mathlib.Omega.{arith}
 use mathlib.Core.Path.{_≡_, refl, _∙_}
-use mathlib.Core.List.{List}
-use lib.ListN.{length, getD, length-set}
+use lib.ListN.{length, length-set}
 use borrow.Author.Needs.{needs}
-use Rattle.fit.specs.Fit.{itemAt}
-use Rattle.context.proofs.Filled.{filled-more}
-use Rattle.slot.specs.AtPair.{Sits}
-use Rattle.slot.proofs.Sharing.{sits-as}
+use Rattle.slot.specs.AtPair.{Placed}
+use Rattle.slot.proofs.Sharing.{sits-as, placed-next}
 use Rattle.slot.proofs.places.Statement.{statement}
 use Rattle.slot.proofs.places.Tie as tie
 
--- item k of a fit sits there
-abbrev At : List ℕ → ℕ → ℕ → Type 0
-At fit k place = Sits (itemAt fit k .slot) (itemAt fit k .index) place
-
 abbrev Inv-loop : tie.InvT-loop
-Inv-loop fit count places₀ i₀ places i =
-    (i ≤ count) × (length places ≡ 256) × ((k : ℕ) → k < i → At fit k (getD places k 0))
+Inv-loop fit count places₀ i₀ places i = (i ≤ count) × (length places ≡ 256) × Placed i fit places
 
 abbrev μ-loop : tie.MeasureT-loop
 μ-loop fit count places₀ i₀ places i = count - i
@@ -33,7 +25,7 @@ mul-places : tie.Need-mul-places Inv-loop μ-loop
 mul-places c = omega arith
 
 array-write-places : tie.Need-array-write-places Inv-loop μ-loop
-array-write-places c = omega arith
+array-write-places c = omega (arith, c .before .before .before .before .before .before .before .pre .sized .items)
 
 add-i : tie.Need-add-i Inv-loop μ-loop
 add-i c = omega arith
@@ -45,10 +37,10 @@ loop-again : tie.Need-loop-again Inv-loop μ-loop
 loop-again c =
     let l = c .before .before .before .before .loop in
     let s = c .before .before .before .before .before .before .before in
-    let b : l .i < length (l .places) = omega (arith, l .inv .1, s .pre .items) in (
+    let b : l .i < length (l .places) = omega (arith, l .inv .1, s .pre .sized .items) in (
       omega arith,
       length-set (l .places) (l .i) _ ∙ l .inv .1,
-      filled-more (At (s .args .fit .now)) 0 (l .places) (l .i) (c .place-of .result) b (l .inv .2)
+      placed-next (s .args .fit .now) (l .places) (l .i) b (l .inv .2)
           (sits-as (c .before .before .item-slot .ensures) (c .before .item-index .ensures) (c .place-of .ensures)),
     )
 

@@ -15,12 +15,14 @@ returns c =
     let b = c .before .before .before .before in
     let s = b .before .before .before .before in
     let a = s .args in
-    let fits = b .before .before .struct-told .given .1 .1 .1 .0 .1 in
+    let fits = b .before .before .struct-told .given .1 .1 .0 .1 in
     let e : b .before .same-id .result ≡ same (a .item .category) (a .category) =
-    rw (toZ-ofZ w32 (a .item .category) (record { sfits = fits }), toZ-ofZ w32 (a .category) (s .fits .category)) at (b .before .same-id .ensures) in
-    let w = c .before .before .push-when .ensures in (
-      w .0,
-      wrote-same (ap (λ (t : Bool). when t (onItem (a .item .position) (a .rule))) (b .both .ensures ∙ ap (λ (t : Bool). a .there && not t) e)) (w .1),
+    rw (toZ-ofZ w32 (a .item .category) (record { sfits = fits }), toZ-ofZ w32 (a .category) (s .fits .category))
+    at (b .before .same-id .ensures) in
+    let w = c .before .before .push-when .ensures in
+    let test = b .both .ensures ∙ ap (λ (t : Bool). a .there && not t) e in (
+      wrote-same (ap (λ (t : Bool). when t (onItem (a .item .position) (a .rule))) test) (w .0),
+      w .1,
     )
 
 pub push-unless-spec : {M : Type 1} → statement M

@@ -9,7 +9,7 @@ use Rattle.slot.proofs.push_when.Tie as tie
 returns : tie.Need-returns
 returns c =
     let a = c .before .before .before .before .before .args in
-    let w = c .before .before .emit-when .ensures in (omega (arith, w .count, few-when (a .test) (onItem (a .item .position) (a .rule))), w)
+    let w = c .before .before .emit-when .ensures in (w, omega (arith, w .count, few-when (a .test) (onItem (a .item .position) (a .rule))))
 
 pub push-when-spec : {M : Type 1} → statement M
 push-when-spec = tie.close (tie.spec (λ c κs. search needs) (λ c. search needs) returns)

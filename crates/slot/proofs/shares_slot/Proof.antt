@@ -7,23 +7,22 @@ use borrow.Author.Needs.{needs}
 use Rattle.words.specs.Words.{table, anyOf}
 use Rattle.words.proofs.Tables.{any-none}
 use Rattle.context.specs.Gathered.{pairAt, pairCount}
-use Rattle.slot.specs.AtPair.{Sits, sharesSlot}
+use Rattle.slot.specs.Slot.{sharesSlot}
 use Rattle.slot.proofs.Checks.{any-all}
-use Rattle.slot.proofs.Sharing.{Told, told-none, told-all, sits-as, shares-next}
+use Rattle.slot.proofs.Sharing.{Told, told-none, told-all, shares-next}
 use Rattle.slot.proofs.shares_slot.Statement.{statement}
 use Rattle.slot.proofs.shares_slot.Tie as tie
 
 abbrev Inv-loop : tie.InvT-loop
-Inv-loop fit places pairs place there₀ j₀ there j =
+Inv-loop fit places i pairs place there₀ j₀ there j =
     (j ≤ pairs) × (there ≤ j)
-    × ((catalogue : List ℕ) (i : ℕ) → Sits (pairAt catalogue fit i .slot) (pairAt catalogue fit i .index) place
-    → Told i j there (anyOf (sharesSlot (pairAt catalogue fit i)) (table j (pairAt catalogue fit))))
+    × ((catalogue : List ℕ) → Told i j there (anyOf (sharesSlot (pairAt catalogue fit i)) (table j (pairAt catalogue fit))))
 
 abbrev μ-loop : tie.MeasureT-loop
-μ-loop fit places pairs place there₀ j₀ there j = pairs - j
+μ-loop fit places i pairs place there₀ j₀ there j = pairs - j
 
 loop-holds : tie.Need-loop-holds Inv-loop μ-loop
-loop-holds c = (omega arith, omega arith, λ catalogue i t. told-none i (any-none _ _))
+loop-holds c = (omega arith, omega arith, λ catalogue. told-none _ (any-none _ _))
 
 mul-one-if : tie.Need-mul-one-if Inv-loop μ-loop
 mul-one-if c = omega arith
@@ -46,7 +45,9 @@ loop-again c =
     let s = c .before .before .before .before .before .before .before in (
       omega arith,
       omega (arith, l .inv .1, c .one-if .ensures .1),
-      λ catalogue i t. shares-next catalogue (s .args .fit .now) i (l .j) t (s .pre .1 (l .j) (omega arith)) (c .one-if .ensures .0) (l .inv .2 catalogue i t),
+      λ catalogue.
+          shares-next catalogue (s .args .fit .now) (s .args .i) (l .j) (s .pre .1 (s .args .i) (s .pre .2)) (s .pre .1 (l .j) (omega arith))
+          (c .one-if .ensures .0) (l .inv .2 catalogue),
     )
 
 returns : tie.Need-returns Inv-loop μ-loop
@@ -55,7 +56,8 @@ returns c =
     let s = c .before .before .before .before .before in
     let fit = s .args .fit .now in
     let e : l .j ≡ pairCount fit = omega arith in
-    λ catalogue i h. any-all (sharesSlot (pairAt catalogue fit i)) catalogue fit e (told-all (omega (arith, e, h .position, s .pre .2)) (l .inv .2 catalogue i (sits-as (h .slot) (h .index) (c .before .before .place-of .ensures))))
+    λ catalogue.
+    any-all (sharesSlot (pairAt catalogue fit (s .args .i))) catalogue fit e (told-all (omega (arith, e, s .pre .2)) (l .inv .2 catalogue))
 
 pub shares-slot-spec : {M : Type 1} → statement M
 shares-slot-spec =
@@ -64,7 +66,8 @@ shares-slot-spec =
     Inv-loop
     μ-loop
     (λ c κs. search needs)
-    (λ c κs. search needs)
+    (λ c. search needs)
+    (λ c. search needs)
     loop-holds
     mul-one-if
     element-copy-out-one-if

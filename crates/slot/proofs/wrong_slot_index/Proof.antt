@@ -1,43 +1,74 @@
 -- `slot::wrong_slot_index` meets its contract: a slot with a number, a name that is known, and the value of its attribute.
-use native.Mathlib.Omega.{arith}
-use Prim.Native.Nat.{ℕ, _+_}
 use mathlib.Core.Path.{_≡_, sym, ap, _∙_}
+use mathlib.Core.Option.{none, some}
+use lib.IntN.{ℤ}
 use mir.Syntax.{w32}
 use mir.ValLaws.{toZ-ofZ}
-use Rattle.catalogue.specs.Answers.{idOf}
+use Rattle.words.specs.Words.{given}
 use Rattle.floats.specs.Values.{valueOf}
-use Rattle.fit.specs.Fit.{resultOf}
+use Rattle.catalogue.specs.Lookups.{nameId}
+use Rattle.catalogue.specs.Answers.{idOf}
 use Rattle.fit.specs.Lookups.{value}
-use Rattle.entry.proofs.Wrote.{wrote-same, wrote-none}
-use Rattle.slot.proofs.Numbers.{wrong-index-is, wrong-index-none}
+use Rattle.context.specs.Context.{Pair, Context}
+use Rattle.context.specs.Gathered.{pairAt, contextOf}
+use Rattle.slot.specs.Slot.{slotNumberName}
+use Rattle.slot.proofs.Numbers.{unnumbered, unnamed, right-index, wrong-index}
 use borrow.Author.Needs.{needs}
 use Rattle.slot.proofs.wrong_slot_index.Statement.{statement}
 use Rattle.slot.proofs.wrong_slot_index.Tie as tie
 
+-- the context and the pair
+abbrev context : tie.Start → Context
+context s = contextOf (s .args .catalogue .now) (s .args .fit .now)
+
+abbrev pair : tie.Start → Pair
+pair s = pairAt (s .args .catalogue .now) (s .args .fit .now) (s .args .i)
+
 returns : tie.Need-returns
 returns c =
-    let w = c .before .before .expect-index .ensures in
-    let v = c .before .before .before .before in
-    let k = v .before .before in
-    let m = k .before .number .given in
-    let s = k .before .before .before in
-    let a = s .before .before .before .args in
-    let e : valueOf (v .value .result) ≡ value (resultOf (a .fit .now) (a .item .position + 2)) (m .0 .0) =
-    v .value .ensures
-    ∙ ap (value (resultOf (a .fit .now) (v .before .position .result + 2))) (toZ-ofZ w32 (m .0 .0) (record { sfits = k .known-told .given .0 .1 }))
-    ∙ ap (λ (j : ℕ). value (resultOf (a .fit .now) (j + 2)) (m .0 .0)) (v .before .position .ensures) in (
-      w .0,
-      λ x p named h r. wrote-same
-          (wrong-index-is x h (m .0 .0) (sym (s .slot-number .ensures (x .names) p named (h .slot)) ∙ ap idOf (m .1)) (e ∙ ap (λ q. value q (m .0 .0)) (sym r)))
-          (w .1),
-    )
+    let n = c .before .before in
+    let s = n .before .before .before in
+    unnumbered (context s) (pair s) (sym (n .slot-number .ensures) ∙ ap idOf (c .enum-told .given .1))
+
+-- the attribute is known
+abbrev start : tie.After-value → tie.Start
+start c = c .before .before .before .before .before .before .before .before
+
+abbrev id-of : tie.After-value → ℤ
+id-of c = c .before .before .before .number .given .0 .0
+
+known : (c : tie.After-value) → given (slotNumberName (pair (start c))) none (nameId (context (start c) .names)) ≡ some (id-of c)
+known c = let m = c .before .before .before in sym (m .before .before .slot-number .ensures) ∙ ap idOf (m .number .given .1)
+
+-- its value
+read : (c : tie.After-value) → value (pair (start c) .result) (id-of c) ≡ valueOf (c .value .result)
+read c =
+    let e = toZ-ofZ w32 (id-of c) (record { sfits = c .before .before .known-told .given .0 .1 }) in
+    sym (c .value .ensures ∙ ap (value (pair (start c) .result)) e)
 
 returns-2 : tie.Need-returns-2
 returns-2 c =
-    let s = c .before .before in (
-      omega arith,
-      λ x p named h r. wrote-same (wrong-index-none x p (sym (s .slot-number .ensures (x .names) p named (h .slot)) ∙ ap idOf (c .enum-told .given .1))) (wrote-none _ _),
-    )
+    let v = c .before .before in
+    let s = start v in
+    unnamed (context s) (pair s) (id-of v) (known v) (read v ∙ ap valueOf (c .enum-told2 .given .1))
+
+returns-3 : tie.Need-returns-3
+returns-3 c =
+    let t = c .before .before in
+    let g = t .before .before .value2 .given in
+    let v = t .before .before .before .before in
+    let s = start v in
+    right-index (context s) (pair s) (id-of v) (known v) (g .0 .0) (read v ∙ ap valueOf (g .1)) (t .to-u16 .ensures)
+    (c .if1 .taken ∙ c .before .item-index .ensures)
+
+returns-4 : tie.Need-returns-4
+returns-4 c =
+    let t = c .before .before in
+    let g = t .before .before .value2 .given in
+    let v = t .before .before .before .before in
+    let s = start v in
+    wrong-index (context s) (pair s) (id-of v) (known v) (g .0 .0) (read v ∙ ap valueOf (g .1)) (t .to-u16 .ensures)
+    (λ e. c .if1 .left (e ∙ sym (c .before .item-index .ensures)))
 
 pub wrong-slot-index-spec : {M : Type 1} → statement M
 wrong-slot-index-spec =
@@ -45,11 +76,14 @@ wrong-slot-index-spec =
     (tie.spec
     (λ c κs. search needs)
     (λ c. search needs)
-    (λ c κs. search needs)
-    (λ c. search needs)
-    (λ c κs. search needs)
-    (λ c κs. search needs)
-    (λ c. search needs)
     (λ c. search needs)
     returns
-    returns-2)
+    (λ c. search needs)
+    (λ c κs. search needs)
+    (λ c. search needs)
+    (λ c. search needs)
+    returns-2
+    (λ c κs. search needs)
+    (λ c κs. search needs)
+    returns-3
+    returns-4)

@@ -16,10 +16,10 @@ returns c =
     let catalogue = a .catalogue .now in
     let old = a .old .now in
     let new = a .new .now in
-    of-both (ListsKept catalogue old new)
-    (left-is (a .before .now) (listCall catalogue old (a .before .now)) (o .fit-list .ensures))
-    (left-is (a .after .now) (listCall catalogue new (a .after .now)) (n .fit-list2 .ensures))
-    (list-kept catalogue old new (a .before .now) (a .after .now) (b .bytes .ensures))
+    let e = left-is (a .before .now) (listCall catalogue old (a .before .now)) (o .fit-list .ensures) in
+    let e′ = left-is (a .after .now) (listCall catalogue new (a .after .now)) (n .fit-list2 .ensures) in
+    let kept = list-kept catalogue old new (a .before .now) (a .after .now) (b .bytes .ensures) in
+    (e, e′, of-both (ListsKept catalogue old new) e e′ kept)
 
 pub lists-spec : {M : Type 1} → statement M
 lists-spec = tie.close (tie.spec (λ c κs. search needs) (λ c κs. search needs) (λ c κs. search needs) (λ c. search needs) (λ c. search needs) returns)

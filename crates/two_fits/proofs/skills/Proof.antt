@@ -15,10 +15,10 @@ returns c =
     let catalogue = a .catalogue .now in
     let old = a .old .now in
     let new = a .new .now in
-    of-both (SkillsKept old new)
-    (left-is (a .before .now) (skillCall catalogue old (a .result) (a .before .now)) (o .fit-skill .ensures))
-    (left-is (a .after .now) (skillCall catalogue new (a .result) (a .after .now)) (n .fit-skill2 .ensures))
-    (skills-kept catalogue old new (a .before .now) (a .after .now) (a .result))
+    let e = left-is (a .before .now) (skillCall catalogue old (a .result) (a .before .now)) (o .fit-skill .ensures) in
+    let e′ = left-is (a .after .now) (skillCall catalogue new (a .result) (a .after .now)) (n .fit-skill2 .ensures) in
+    let kept = skills-kept catalogue old new (a .before .now) (a .after .now) (a .result) in
+    (e, e′, of-both (SkillsKept old new) e e′ kept)
 
 pub skills-spec : {M : Type 1} → statement M
 skills-spec = tie.close (tie.spec (λ c κs. search needs) (λ c κs. search needs) (λ c. search needs) (λ c. search needs) returns)

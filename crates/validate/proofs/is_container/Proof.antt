@@ -20,8 +20,9 @@ returns c =
     let q : b .same-id2 .result ≡ same (s .args .group) (pos 340) = b .same-id2 .ensures ∙ at (pos 340) in
     let r : d .before .before .same-id3 .result ≡ same (s .args .group) (pos 448) = d .before .before .same-id3 .ensures ∙ at (pos 448) in
     let t : d .same-id4 .result ≡ same (s .args .group) (pos 649) = d .same-id4 .ensures ∙ at (pos 649) in
+    let or : (x y : Bool) → Bool = λ x y. x || y in
     c .either3 .ensures
-    ∙ ap₂ (λ (x y : Bool). x || y) (c .before .before .either .ensures ∙ ap₂ (λ (x y : Bool). x || y) p q) (c .before .either2 .ensures ∙ ap₂ (λ (x y : Bool). x || y) r t)
+    ∙ ap₂ or (c .before .before .either .ensures ∙ ap₂ or p q) (c .before .either2 .ensures ∙ ap₂ or r t)
     ∙ contains-four (s .args .group) (pos 12) (pos 340) (pos 448) (pos 649)
 
 pub is-container-spec : {M : Type 1} → statement M

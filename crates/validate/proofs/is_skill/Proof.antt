@@ -1,11 +1,12 @@
 -- `validate::is_skill` meets its contract, by whether the type is there.
 use mathlib.Core.Path.{ap, _∙_}
 use mathlib.Core.Bool.{Bool}
-use lib.IntN.{ℤ, pos}
+use lib.IntN.{ℤ}
 use mir.Syntax.{w32}
 use mir.ValLaws.{toZ-ofZ}
 use borrow.Author.Needs.{needs}
 use Rattle.words.specs.Words.{same}
+use Rattle.numbers.specs.Categories as Categories
 use Rattle.catalogue.specs.Catalogue.{Id, catalogueOf}
 use Rattle.validate.specs.Kind.{isSkill}
 use Rattle.validate.proofs.Tests.{test-known, test-unknown}
@@ -14,14 +15,14 @@ use Rattle.validate.proofs.is_skill.Tie as tie
 
 -- what is asked of a type
 test : Id → Id → Bool
-test category group = same category (pos 16)
+test category group = same category Categories.skill
 
 returns : tie.Need-returns
 unfolding isSkill test
 returns c =
     let t = c .before .before .before .before in
     let s = t .before .before .before .before in
-    test-unknown (catalogueOf (s .args .catalogue .now)) test (toZ-ofZ w32 (s .args .id) (s .fits .id)) (t .type-of .ensures) (c .enum-told .given .1)
+    test-unknown test (catalogueOf (s .args .catalogue .now)) (toZ-ofZ w32 (s .args .id) (s .fits .id)) (t .type-of .ensures) (c .enum-told .given .1)
 
 returns-2 : tie.Need-returns-2
 unfolding isSkill test
@@ -30,8 +31,8 @@ returns-2 c =
     let t = k .before .before .before .before in
     let s = t .before .before .before .before in
     let info = k .answer .given .0 .0 in
-    c .same-id .ensures ∙ ap (λ (z : ℤ). same z (pos 16)) (toZ-ofZ w32 (info .category) (search needs))
-    ∙ test-known (catalogueOf (s .args .catalogue .now)) test (toZ-ofZ w32 (s .args .id) (s .fits .id)) (t .type-of .ensures) (k .answer .given .1)
+    c .same-id .ensures ∙ ap (λ (z : ℤ). same z Categories.skill) (toZ-ofZ w32 (info .category) (search needs))
+    ∙ test-known test (catalogueOf (s .args .catalogue .now)) (toZ-ofZ w32 (s .args .id) (s .fits .id)) (t .type-of .ensures) (k .answer .given .1)
 
 pub is-skill-spec : {M : Type 1} → statement M
 is-skill-spec =

@@ -16,7 +16,8 @@ returns : tie.Need-returns
 returns c =
     let m = c .before .before in
     let a = m .before .before .before .before .args in
-    (mode-none (catalogueOf (a .catalogue .now)) (modeOf (fitOf (a .fit .now) .frame)) (sym (m .mode .ensures) ∙ ap chosenOf (c .enum-told .given .1)), omega arith)
+    let e = sym (m .mode .ensures) ∙ ap chosenOf (c .enum-told .given .1) in
+    (mode-none (catalogueOf (a .catalogue .now)) (modeOf (fitOf (a .fit .now) .frame)) e, omega arith)
 
 returns-2 : tie.Need-returns-2
 returns-2 c =
@@ -28,7 +29,8 @@ returns-2 c =
     let mode = modeOf (fitOf (a .fit .now) .frame) in
     let e = sym (m .mode .ensures) ∙ ap chosenOf (k .answer .given .1) in
     let q = w .before .is-mode .ensures ∙ ap (isMode cat) (toZ-ofZ w32 (k .answer .given .0 .0) (search needs)) in
-    (mode-some cat mode (k .answer .given .0 .0) _ e q (w .emit-when .ensures), omega (arith, mode-some cat mode (k .answer .given .0 .0) _ e q (w .emit-when .ensures) .count, mode-few cat mode))
+    let v = mode-some cat mode (k .answer .given .0 .0) _ e q (w .emit-when .ensures) in
+    (v, omega (arith, v .count, mode-few cat mode))
 
 pub not-a-mode-spec : {M : Type 1} → statement M
 not-a-mode-spec =

@@ -19,7 +19,8 @@ returns c =
     let k = w .before .before .before in
     let s = k .before .before .before .before .before .before in
     let id = toZ-ofZ w32 (s .args .id) (s .fits .id) in
-    wrote-same (ap₂ (λ (t : Bool) (i : Id). when (not t) (onShip (NotASkill i))) (k .is-skill .ensures ∙ ap (isSkill (catalogueOf (s .args .catalogue .now))) id) id) (w .emit-when .ensures)
+    let e = k .is-skill .ensures ∙ ap (isSkill (catalogueOf (s .args .catalogue .now))) id in
+    wrote-same (ap₂ (λ (t : Bool) (i : Id). when (not t) (onShip (NotASkill i))) e id) (w .emit-when .ensures)
 
 pub not-a-skill-at-spec : {M : Type 1} → statement M
 not-a-skill-at-spec = tie.close (tie.spec (λ c κs. search needs) (λ c κs. search needs) (λ c. search needs) (λ c. search needs) returns)

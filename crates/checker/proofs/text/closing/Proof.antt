@@ -27,8 +27,10 @@ returns c =
     let w = k .before .before .before .before in
     let i = w .before .before .before in
     let a = i .before .before .args in
-    let e = k .ended .ensures in
-    (put-same (refused-words (a .refusal) (a .count) (omega (arith, i .if1 .taken))) (put-append (w .copy .ensures) (e .0)), omega (arith, w .copy .ensures .end, e .1))
+    let e = k .ended .ensures in (
+      put-same (refused-words (a .refusal) (a .count) (omega (arith, i .if1 .taken))) (put-append (w .copy .ensures) (e .0)),
+      omega (arith, w .copy .ensures .end, e .1),
+    )
 
 returns-2 : tie.Need-returns-2
 unfolding countWord
@@ -37,8 +39,10 @@ returns-2 c =
     let w = k .before .before .before .before in
     let i = w .before .before .before in
     let a = i .before .before .args in
-    let e = k .ended2 .ensures in
-    (put-same (count-words (a .refusal) (a .count) (omega (arith, i .if1 .left))) (put-append (w .copy2 .ensures) (e .0)), omega (arith, w .copy2 .ensures .end, e .1))
+    let e = k .ended2 .ensures in (
+      put-same (count-words (a .refusal) (a .count) (omega (arith, i .if1 .left))) (put-append (w .copy2 .ensures) (e .0)),
+      omega (arith, w .copy2 .ensures .end, e .1),
+    )
 
 pub closing-spec : {M : Type 1} → statement M
 closing-spec =

@@ -17,8 +17,10 @@ returns c =
     let p1 = put-same (ap spaced (k1 .before .word-at .ensures)) (k1 .spaced .ensures .0) in
     let p2 = put-same (ap spaced (k2 .before .word-at2 .ensures)) (k2 .spaced2 .ensures .0) in
     let p3 = put-same (ap spaced (k3 .before .word-at3 .ensures)) (k3 .spaced3 .ensures .0) in
-    let p4 = put-same (ap ended (k4 .before .word-at4 .ensures)) (k4 .ended .ensures .0) in
-    (put-append p1 (put-append p2 (put-append p3 p4)), omega (arith, k1 .spaced .ensures .1, k2 .spaced2 .ensures .1, k3 .spaced3 .ensures .1, k4 .ended .ensures .1))
+    let p4 = put-same (ap ended (k4 .before .word-at4 .ensures)) (k4 .ended .ensures .0) in (
+      put-append p1 (put-append p2 (put-append p3 p4)),
+      omega (arith, k1 .spaced .ensures .1, k2 .spaced2 .ensures .1, k3 .spaced3 .ensures .1, k4 .ended .ensures .1),
+    )
 
 pub payload-spec : {M : Type 1} → statement M
 payload-spec =

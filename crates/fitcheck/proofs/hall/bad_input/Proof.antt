@@ -2,7 +2,7 @@
 use native.Mathlib.Omega.{arith}
 use mathlib.Core.Path.{sym}
 use borrow.Author.Needs.{needs}
-use Rattle.fitcheck.proofs.Halls.{laid-long, input-good, input-bad}
+use Rattle.fitcheck.proofs.HallLaws.{laid-long, input-good, input-bad}
 use Rattle.fitcheck.proofs.hall.bad_input.Statement.{statement}
 use Rattle.fitcheck.proofs.hall.bad_input.Tie as tie
 

@@ -3,7 +3,7 @@ use Prim.Native.Nat.{_+_, _*_, _-_, _≤_}
 use native.Mathlib.Omega.{arith}
 use mathlib.Core.Path.{_≡_, _∙_, ap}
 use Rattle.fitcheck.specs.Hall.{fitCount, fitStart}
-use Rattle.fitcheck.proofs.Halls.{start-none, start-next}
+use Rattle.fitcheck.proofs.HallLaws.{start-none, start-next}
 use Rattle.fitcheck.proofs.hall.fits_end.Statement.{statement}
 use Rattle.fitcheck.proofs.hall.fits_end.Tie as tie
 

@@ -1,6 +1,5 @@
 -- `refusals::drawing::run` is safe and ends: the number stays at most the last, and a store keeps the length.
-use Prim.Native.Nat.{_-_, _≤_}
-use native.Mathlib.Omega.{arith}
+use Prim.Native.Nat.{_-_}
 use mathlib.Core.Path.{_≡_, refl}
 use lib.ListN.{length}
 use borrow.Author.Needs.{needs}

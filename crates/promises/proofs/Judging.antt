@@ -1,0 +1,265 @@
+-- The hall number: three counts that part the fits, packed into one word; and each fit beside its own list call. By cases on the
+-- refusals.
+use Prim.Native.Nat.{ℕ, zero, suc, _+_, _*_, _/_, _%_, _≤_, _<_}
+use native.Mathlib.Decide.{decLe}
+use native.Mathlib.Omega.{arith}
+use mathlib.Core.Path.{_≡_, refl, sym, ap, ap₂, _∙_, subst}
+use mathlib.Core.Bool.{Bool, true, false, not, _||_, cond}
+use mathlib.Core.List.{List, [], _∷_, _++_}
+use mathlib.Core.Logic.{_⊎_, _↔_, inl, inr}
+use lib.Dec.{T, T-not, not-T, ltb, lt→ltb, nltb→le}
+use lib.ListN.{length, take, drop}
+use borrow.Author.Tests.{lt-ltb, le-ltb}
+use Rattle.words.specs.Words.{only, countOf, isEmpty, firstOf}
+use Rattle.words.proofs.Tables.{length-table}
+use Rattle.catalogue.specs.Catalogue.{Catalogue, catalogueOf}
+use Rattle.catalogue.specs.Refusals.{catalogueRefusals}
+use Rattle.fit.specs.Fit.{fitOf}
+use Rattle.fit.specs.Refusals.{fitRefusals}
+use Rattle.entry.specs.declared.Entry.{Entry}
+use Rattle.validate.specs.Validate.{listOf}
+use Rattle.fitcheck.specs.Calls.{listCall, tooManyDrones, tooShort}
+use Rattle.fitcheck.specs.Hall.{fitCount, lengthAt, fitStart, fits, badInput, fitRefused, isClear, isFaulted, HallAnswer, hallBy, hallCall, hallReturned}
+use Rattle.promises.specs.Answers.{Outcome, outcome, refusal, count, Conditions, catalogueConditions, listConditions, First, None, Answers}
+use Rattle.promises.specs.Halls.{hallConditions, clearIn, faultedIn, refusedIn, HallAnswers, Judged}
+use Rattle.promises.proofs.Conditions.{first-is, is-first, none-is, is-none, prefix-first, behind-first, none-join, first-between}
+use Rattle.promises.proofs.Lengths.{list-short}
+use Rattle.promises.proofs.Calls.{list-answers}
+
+-- ---- three tests of which one passes
+bit : Bool → ℕ
+bit true = 1
+bit false = 0
+
+count-cons : {A : Type 0} (t : A → Bool) (x : A) (l : List A) → countOf t (x ∷ l) ≡ bit (t x) + countOf t l
+unfolding countOf only bit
+count-cons t x l = go (t x)
+  where
+    go : (b : Bool) → length (cond b (x ∷ only t l) (only t l)) ≡ bit b + length (only t l)
+    go true = omega arith
+    go false = omega arith
+
+count-parts : {A : Type 0} (p q r : A → Bool) → ((x : A) → bit (p x) + bit (q x) + bit (r x) ≡ 1) → (l : List A)
+    → countOf p l + countOf q l + countOf r l ≡ length l
+count-parts p q r h [] = unfold countOf only in refl
+count-parts p q r h (x ∷ l) =
+    let a = count-cons p x l in
+    let b = count-cons q x l in
+    let c = count-cons r x l in
+    let k = h x in
+    let e = count-parts p q r h l in
+    omega arith
+
+parts : (c : Catalogue) (b : List ℕ) → bit (isClear c b) + bit (isFaulted c b) + bit (fitRefused c b) ≡ 1
+unfolding bit isClear isFaulted
+parts c b = go (fitRefused c b) (isEmpty (listOf c (fitOf b)))
+  where
+    go : (r e : Bool) → bit (cond r false e) + bit (not (cond r false e || r)) + bit r ≡ 1
+    go true e = refl
+    go false true = refl
+    go false false = refl
+
+last-of : (a b c : Bool) → T (not (a || b || c)) → T (not b)
+last-of true b c h = absurd h
+last-of false true c h = absurd h
+last-of false false c h = tt
+
+-- ---- three numbers below 256 in one word
+module _ (clear faulted refused : ℕ) (p : clear < 256) (q : faulted < 256) where
+  abbrev packed : ℕ
+  packed = clear + 256 * faulted + 65536 * refused
+
+  lowest : clearIn packed ≡ clear
+  lowest = omega arith
+
+  middle : faultedIn packed ≡ faulted
+  middle =
+      let h : packed / 256 ≡ faulted + 256 * refused = omega arith in
+      let k : (faulted + 256 * refused) % 256 ≡ faulted = omega arith in
+      ap (λ (n : ℕ). n % 256) h ∙ k
+
+  highest : refusedIn packed ≡ refused
+  highest = omega arith
+
+-- ---- the call
+module _ (catalogue input : List ℕ) where
+  abbrev c : Catalogue
+  c = catalogueOf catalogue
+
+  total : countOf (isClear c) (fits input) + countOf (isFaulted c) (fits input) + countOf (fitRefused c) (fits input) ≡ fitCount input
+  unfolding fits
+  total =
+      count-parts (isClear c) (isFaulted c) (fitRefused c) (parts c) (fits input)
+      ∙ length-table 0 (fitCount input) (λ i. take (lengthAt input i) (drop (fitStart input i) input))
+
+  few : T (not (badInput input)) → fitCount input ≤ 64
+  unfolding badInput
+  few h = nltb→le 64 (fitCount input) (last-of (ltb (length input) 4) (ltb 64 (fitCount input)) _ h)
+
+  go : (k : ℕ) → firstOf (hallConditions catalogue input) ≡ k
+      → HallAnswers catalogue input
+      (hallReturned (hallBy k
+      (HallAnswer.Numbers (countOf (isClear c) (fits input)) (countOf (isFaulted c) (fits input)) (countOf (fitRefused c) (fits input)))))
+  unfolding hallBy hallReturned
+  go zero e =
+      let n = is-none (hallConditions catalogue input) (omega arith) e in
+      let s = few (n .1 .1 .1 .0) in
+      let t = total in
+      let x = countOf (isClear c) (fits input) in
+      let y = countOf (isFaulted c) (fits input) in
+      let z = countOf (fitRefused c) (fits input) in
+      let p : x < 256 = omega arith in
+      let q : y < 256 = omega arith in
+      let l = lowest x y z p q in
+      let m = middle x y z p q in
+      let n′ = highest x y z p q in
+      record {
+        refused = λ m p. (λ h. absurd (omega arith), λ h. absurd (let q = first-is m (hallConditions catalogue input) h in omega arith));
+        answered = (λ h. n, λ h. omega arith);
+        nothing = λ p. absurd (omega arith);
+        clear = λ h. l;
+        faulted = λ h. m;
+        turned-away = λ h. n′;
+        total = λ h. ap₂ _+_ (ap₂ _+_ l m) n′ ∙ t;
+        few = λ h. s;
+      }
+  go (suc k) e =
+      record {
+        refused = λ m p. (
+          λ h. is-first m p (hallConditions catalogue input) (let q : suc k ≡ m = omega arith in e ∙ q),
+          λ h. (let q = first-is m (hallConditions catalogue input) h in omega arith),
+        );
+        answered = (λ h. absurd (omega arith), λ h. absurd (let q = none-is (hallConditions catalogue input) h in omega arith));
+        nothing = λ p. omega arith;
+        clear = λ h. absurd (omega arith);
+        faulted = λ h. absurd (omega arith);
+        turned-away = λ h. absurd (omega arith);
+        total = λ h. absurd (omega arith);
+        few = λ h. absurd (omega arith);
+      }
+
+  pub hall-answers : HallAnswers catalogue input (hallReturned (hallCall catalogue input))
+  unfolding hallCall catalogueRefusals
+  hall-answers = go (firstOf (hallConditions catalogue input)) refl
+
+empty-is : {A : Type 0} (l : List A) → T (isEmpty l) ↔ (length l ≡ 0)
+unfolding isEmpty
+empty-is [] = (λ _. refl, λ _. tt)
+empty-is (x ∷ l) = (λ h. absurd h, λ h. absurd (omega arith))
+
+or-left : (b : Bool) → T b → T (b || false)
+or-left true t = tt
+or-left false t = t
+
+or-false : (b : Bool) → T (b || false) → T b
+or-false true t = tt
+or-false false t = t
+
+-- ---- a fit and its list call
+module _ (catalogue fit buffer : List ℕ) (fine : None (catalogueConditions catalogue)) where
+  abbrev cat : Catalogue
+  cat = catalogueOf catalogue
+
+  abbrev es : List Entry
+  es = listOf cat (fitOf fit)
+
+  -- those of the fit itself: refusals 4 to 7
+  abbrev ownConditions : Conditions
+  ownConditions = fitRefusals fit ++ (7, tooManyDrones cat (fitOf fit)) ∷ []
+
+  abbrev A : Answers (listConditions catalogue fit buffer) es buffer (outcome buffer (listCall catalogue fit buffer))
+  A = list-answers catalogue fit buffer
+
+  -- none of them: what is left is the room
+  long-enough : 24 * length es ≤ length buffer → None ownConditions → None (listConditions catalogue fit buffer)
+  unfolding fitRefusals tooShort
+  long-enough h n =
+      none-join (catalogueConditions catalogue) (ownConditions ++ (10, tooShort buffer es) ∷ []) fine
+      (none-join ownConditions ((10, tooShort buffer es) ∷ []) n (subst (λ (b : Bool). T (not b)) (sym (le-ltb (length buffer) (24 * length es) h)) tt, tt))
+
+  too-short : length buffer < 24 * length es → None ownConditions → First 10 (listConditions catalogue fit buffer)
+  unfolding fitRefusals tooShort
+  too-short h n =
+      behind-first 10 (catalogueConditions catalogue) (ownConditions ++ (10, tooShort buffer es) ∷ []) fine
+      (behind-first 10 ownConditions ((10, tooShort buffer es) ∷ []) n (inl (refl, lt→ltb (length buffer) (24 * length es) h)))
+
+  abbrev o : Outcome
+  o = outcome buffer (listCall catalogue fit buffer)
+
+  answered : None ownConditions → 24 * length es ≤ length buffer → (refusal o ≡ 0) × (count o ≡ length es)
+  answered n h = let a = A .answered .1 (long-enough h n) in (a, A .counted a)
+
+  either : None ownConditions → ((refusal o ≡ 0) × (count o ≡ length es)) ⊎ (refusal o ≡ 10)
+  either n = go (decLe (24 * length es) (length buffer))
+    where
+      go : Dec (24 * length es ≤ length buffer) → ((refusal o ≡ 0) × (count o ≡ length es)) ⊎ (refusal o ≡ 10)
+      go (yes h) = inl (answered n h)
+      go (no h) = inr (A .refused 10 (omega arith) .1 (too-short (omega arith) n))
+
+  passed : None ownConditions → fitRefused cat fit ≡ false → Judged catalogue fit buffer o
+  unfolding isClear isFaulted
+  passed n r = record { clear = (to-clear, from-clear); turned-away = (λ t. absurd (subst T r t), away); faulted = λ b. (to-faulted b, from-faulted b) }
+    where
+      clear-is : isClear cat fit ≡ isEmpty es
+      clear-is = ap (λ (b : Bool). cond b false (isEmpty es)) r
+
+      faulted-is : isFaulted cat fit ≡ not (isEmpty es || false)
+      faulted-is = ap (λ (b : Bool). not (cond b false (isEmpty es) || b)) r
+
+      to-clear : T (isClear cat fit) → (refusal o ≡ 0) × (count o ≡ 0)
+      to-clear t =
+          let z = empty-is es .0 (subst T clear-is t) in
+          let a = answered n (omega arith) in
+          (a .0, a .1 ∙ z)
+
+      from-clear : (refusal o ≡ 0) × (count o ≡ 0) → T (isClear cat fit)
+      from-clear h = subst T (sym clear-is) (empty-is es .1 (elim (either n) [ inl a ↦ sym (a .1) ∙ h .1 | inr b ↦ absurd (let k = h .0 in omega arith) ]))
+
+      away : (4 ≤ refusal o) × (refusal o ≤ 7) → T (fitRefused cat fit)
+      away h = absurd (elim (either n) [ inl a ↦ (let k = h .0 in let l = a .0 in omega arith) | inr b ↦ (let k = h .1 in omega arith) ])
+
+      room : 123384 ≤ length buffer → 24 * length es ≤ length buffer
+      room b = let k = list-short fit (unfold fitRefusals in n .0) cat in omega arith
+
+      to-faulted : 123384 ≤ length buffer → T (isFaulted cat fit) → (refusal o ≡ 0) × (0 < count o)
+      to-faulted b t =
+          let a = answered n (room b) in
+          let z : length es ≡ 0 → ⊥ = λ e. T-not (isEmpty es || false) (subst T faulted-is t) (or-left (isEmpty es) (empty-is es .1 e)) in
+          (a .0, let e = a .1 in omega arith)
+
+      from-faulted : 123384 ≤ length buffer → (refusal o ≡ 0) × (0 < count o) → T (isFaulted cat fit)
+      from-faulted b h =
+          let a = answered n (room b) in
+          subst T (sym faulted-is)
+          (not-T (isEmpty es || false) (λ t. let z = empty-is es .0 (or-false (isEmpty es) t) in let p = h .1 in let e = a .1 in omega arith))
+
+  turned : (k : ℕ) → First k ownConditions → fitRefused cat fit ≡ true → Judged catalogue fit buffer o
+  unfolding isClear isFaulted fitRefusals
+  turned k f r = record {
+    clear = (λ t. absurd (subst T clear-is t), λ h. absurd (let a = h .0 in let b = among .0 in let e = is in omega arith));
+    turned-away = (λ _. (let b = among .0 in let e = is in omega arith, let b = among .1 in let e = is in omega arith), λ _. subst T (sym r) tt);
+    faulted = λ b. (λ t. absurd (subst T faulted-is t), λ h. absurd (let a = h .0 in let b = among .0 in let e = is in omega arith));
+  }
+    where
+      clear-is : isClear cat fit ≡ false
+      clear-is = ap (λ (b : Bool). cond b false (isEmpty es)) r
+
+      faulted-is : isFaulted cat fit ≡ false
+      faulted-is = ap (λ (b : Bool). not (cond b false (isEmpty es) || b)) r
+
+      among : (4 ≤ k) × (k ≤ 7)
+      among = first-between 4 7 k ownConditions (omega arith) f
+
+      is : refusal o ≡ k
+      is =
+          A .refused k (let b = among .0 in omega arith) .1
+          (behind-first k (catalogueConditions catalogue) (ownConditions ++ (10, tooShort buffer es) ∷ []) fine
+          (prefix-first k ownConditions ((10, tooShort buffer es) ∷ []) f))
+
+  pub judged : Judged catalogue fit buffer o
+  unfolding fitRefused fitRefusals
+  judged = go (firstOf ownConditions) refl
+    where
+      go : (k : ℕ) → firstOf ownConditions ≡ k → Judged catalogue fit buffer o
+      go zero e = passed (is-none ownConditions (omega arith) e) (ap (ltb 0) e)
+      go (suc k) e = turned (suc k) (is-first (suc k) (omega arith) ownConditions e) (ap (ltb 0) e ∙ lt-ltb 0 (suc k) (omega arith))
