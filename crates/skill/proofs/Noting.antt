@@ -1,9 +1,10 @@
--- What noting a skill does to the list that two arrays hold, by the skill's place.
+-- What noting a skill does to two arrays and to the list that they hold, by the skill's place.
 use mathlib.Core.Path.{_≡_, refl, ap, sym, _∙_, subst}
 use mathlib.Core.Logic.{_⊎_, inl, inr, ⊎-elim}
 use mathlib.Core.Bool.{Bool, true, false, cond}
 use mathlib.Core.List.{List, [], _∷_, _++_}
 use Prim.Native.Nat.{ℕ, zero, suc, _+_, _<_, _≤_, max}
+use native.Mathlib.Decide.{decLe}
 use native.Mathlib.Omega.{arith}
 use native.Mathlib.Nat.{le-of-suc-le-suc, not-suc-le-zero, max-eq-left, max-eq-right}
 use lib.ListN.{length, getD, set, length-append, length-set}
@@ -18,12 +19,24 @@ use Rattle.words.specs.Words.{same, table}
 use Rattle.words.proofs.Sames.{same-refl, same-not}
 use Rattle.words.proofs.Tables.{length-table, getD-table}
 use Rattle.skill.specs.Skill.{Demand, note}
-use Rattle.skill.specs.Held.{heldAt, zipTo, heldOf, Placed}
+use Rattle.skill.specs.Held.{heldAt, zipTo, heldOf, Placed, New, Noted}
 use Rattle.skill.proofs.Zips.{pair-eq, zip-put}
 
 -- a place found by an id's bits
 pub placed : {ids : List ℤ} {n j : ℕ} (i : ℤ) → SFits w32 i → Placed ids n (toZ w32 (ofZ w32 i)) j → Placed ids n i j
 placed {ids} {n} {j} i fits p = subst (λ (z : ℤ). Placed ids n z j) (toZ-ofZ w32 i fits) p
+
+-- behind all places, so at none of them
+pub new : {ids : List ℤ} {n : ℕ} {i : ℤ} {j : ℕ} → Placed ids n i j → n ≤ j → New ids n i
+new p h k a = p .before k (omega (arith, a, h))
+
+-- an id has one first place
+first-place : {ids : List ℤ} {n : ℕ} {i : ℤ} (j k : ℕ) → Placed ids n i j → Placed ids n i k → j < n → k < n → j ≡ k
+first-place j k p q a b =
+    elim (decLe (suc j) k) [
+      | yes h ↦ absurd (q .before j h (p .found a))
+      | no h ↦ elim (decLe (suc k) j) [ yes g ↦ absurd (p .before k g (q .found b)) | no g ↦ omega (arith, h, g) ]
+    ]
 
 abbrev nothing : Demand
 nothing = (pos 0, 0)
@@ -76,11 +89,11 @@ module _ (ids : List ℤ) (levels : List ℕ) (n : ℕ) (i : ℤ) (l j : ℕ) (p
       let r : k < n = omega (arith, q, length-table 0 n (heldAt ids levels)) in
       p .before k (omega (arith, r)) (sym (ap (λ (d : Demand). d .0) (at-held k r)) ∙ e))
 
-  pub found-length : j < n → n ≡ length (note (heldOf ids levels n) (i, l))
+  found-length : j < n → n ≡ length (note (heldOf ids levels n) (i, l))
   unfolding zipTo
   found-length h = sym (ap length (found h) ∙ length-set held j _ ∙ length-table 0 n (heldAt ids levels))
 
-  pub missing-length : n ≤ j → n + 1 ≡ length (note (heldOf ids levels n) (i, l))
+  missing-length : n ≤ j → n + 1 ≡ length (note (heldOf ids levels n) (i, l))
   unfolding zipTo
   missing-length h = sym (ap length (missing h) ∙ omega (arith, length-append held ((i, l) ∷ []), length-table 0 n (heldAt ids levels)))
 
@@ -98,7 +111,7 @@ module _ (ids : List ℤ) (levels : List ℕ) (n : ℕ) (i : ℤ) (l j : ℕ) (p
       (λ (s : k ≡ j → ⊥). o k s ∙ sym (getD-set-other held j k v nothing s ∙ at-held k r))
       (same-or-not k j))
 
-  pub raised : length levels ≡ 512 → n ≤ 512 → j < n → getD levels j 0 < l → heldOf ids (set levels j l) n ≡ note (heldOf ids levels n) (i, l)
+  raised : length levels ≡ 512 → n ≤ 512 → j < n → getD levels j 0 < l → heldOf ids (set levels j l) n ≡ note (heldOf ids levels n) (i, l)
   unfolding zipTo
   raised hl hn h g =
       changed (heldAt ids (set levels j l)) (i, max (getD levels j 0) l) h
@@ -106,12 +119,61 @@ module _ (ids : List ℤ) (levels : List ℕ) (n : ℕ) (i : ℤ) (l j : ℕ) (p
       (λ k s. pair-eq refl (getD-set-other levels j k l 0 s))
       ∙ sym (found h)
 
-  pub unraised : j < n → l ≤ getD levels j 0 → heldOf ids levels n ≡ note (heldOf ids levels n) (i, l)
+  unraised : j < n → l ≤ getD levels j 0 → heldOf ids levels n ≡ note (heldOf ids levels n) (i, l)
   unfolding zipTo
   unraised h g =
       changed (heldAt ids levels) (i, max (getD levels j 0) l) h (pair-eq (p .found h) (sym (max-eq-left g))) (λ k s. refl) ∙ sym (found h)
 
-  pub added : length ids ≡ 512 → length levels ≡ 512 → n < 512 → n ≤ j → heldOf (set ids n i) (set levels n l) (n + 1) ≡ note (heldOf ids levels n) (i, l)
+  added : length ids ≡ 512 → length levels ≡ 512 → n < 512 → n ≤ j → heldOf (set ids n i) (set levels n l) (n + 1) ≡ note (heldOf ids levels n) (i, l)
   unfolding zipTo
   added hi hl hn h =
       zip-put (pos 0) 0 ids levels n i l (omega (arith, hi)) (omega (arith, hl)) ∙ sym (missing h)
+
+-- ---- `Noted`, on each way that `note` goes
+module _ {ids : List ℤ} {levels : List ℕ} {n : ℕ} {i : ℤ} {l j : ℕ} (p : Placed ids n i j) (hi : length ids ≡ 512) (hl : length levels ≡ 512) where
+  -- known at a lower level: it rises
+  pub noted-raised : n ≤ 512 → j < n → getD levels j 0 < l → Noted ids levels n i l ids (set levels j l) n
+  noted-raised hn h g =
+      record {
+        ids-length = hi;
+        levels-length = length-set levels j l ∙ hl;
+        count = found-length ids levels n i l j p h;
+        holds = λ _. raised ids levels n i l j p hl hn h g;
+        untouched = λ k q a u.
+            let e : getD levels k 0 ≡ getD levels j 0 = ap (λ (m : ℕ). getD levels m 0) (first-place k j q p a h) in
+            absurd (omega (arith, e, g, u));
+      }
+
+  -- known at the same level or a higher one: all stays
+  pub noted-known : j < n → l ≤ getD levels j 0 → Noted ids levels n i l ids levels n
+  noted-known h g =
+      record {
+        ids-length = hi;
+        levels-length = hl;
+        count = found-length ids levels n i l j p h;
+        holds = λ _. unraised ids levels n i l j p h g;
+        untouched = λ k q a u. (refl, refl);
+      }
+
+  -- new: it goes last
+  pub noted-new : n < 512 → n ≤ j → Noted ids levels n i l (set ids n i) (set levels n l) (n + 1)
+  noted-new hn h =
+      record {
+        ids-length = length-set ids n i ∙ hi;
+        levels-length = length-set levels n l ∙ hl;
+        count = missing-length ids levels n i l j p h;
+        holds = λ _. added ids levels n i l j p hi hl hn h;
+        untouched = λ k q a u. absurd (new p h k a (q .found a));
+      }
+
+  -- new, where there is no room
+  pub noted-full : 512 ≤ n → n ≤ 512 → n ≤ j → Noted ids levels n i l ids levels 513
+  noted-full hn hm h =
+      let full : 513 ≡ n + 1 = omega (arith, hn, hm) in
+      record {
+        ids-length = hi;
+        levels-length = hl;
+        count = full ∙ missing-length ids levels n i l j p h;
+        holds = λ r. absurd (omega (arith, r));
+        untouched = λ k q a u. (refl, refl);
+      }

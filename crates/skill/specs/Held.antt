@@ -52,12 +52,22 @@ pub record Placed (ids : List ℤ) (len : ℕ) (id : ℤ) (r : ℕ) : Type 0 whe
   pub before : (k : ℕ) → k < r → getD ids k (pos 0) ≡ id → ⊥
   pub found : r < len → getD ids r (pos 0) ≡ id
 
+-- a skill that is not among the first len
+abbrev pub New : List ℤ → ℕ → ℤ → Type 0
+New ids len id = (k : ℕ) → k < len → getD ids k (pos 0) ≡ id → ⊥
+
+-- a skill that stands at a place, at a lower level
+abbrev pub LevelRises : List ℤ → List ℕ → ℕ → ℤ → ℕ → Type 0
+LevelRises ids levels at id level = (getD ids at (pos 0) ≡ id) × (getD levels at 0 < level)
+
 -- a demand noted: how many skills that makes, and the arrays where they hold that many
 pub record Noted (ids : List ℤ) (levels : List ℕ) (len : ℕ) (id : ℤ) (level : ℕ) (ids′ : List ℤ) (levels′ : List ℕ) (r : ℕ) : Type 0 where
   pub ids-length : length ids′ ≡ mostWanted
   pub levels-length : length levels′ ≡ mostWanted
   pub count : r ≡ length (note (heldOf ids levels len) (id, level))
   pub holds : r ≤ mostWanted → heldOf ids′ levels′ r ≡ note (heldOf ids levels len) (id, level)
+  -- a skill whose first place has the same level or a higher one: no place of the arrays changes, those behind the first len included
+  pub untouched : (k : ℕ) → Placed ids len id k → k < len → level ≤ getD levels k 0 → (ids′ ≡ ids) × (levels′ ≡ levels)
 
 -- some demands noted in their order: one more than the most stands for more skills than there is room for
 pub record Notes (ids : List ℤ) (levels : List ℕ) (len : ℕ) (ids′ : List ℤ) (levels′ : List ℕ) (r : ℕ) (ds : List Demand) : Type 0 where

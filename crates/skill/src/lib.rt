@@ -10,7 +10,7 @@ use numbers::sizes::MOST_WANTED;
 ghost use mathlib.Core.Path.{_≡_};
 ghost use mathlib.Core.List.{[], _∷_, _++_};
 ghost use Prim.Native.Nat.{_+_, _<_, _≤_};
-ghost use lib.ListN.{length, getD};
+ghost use lib.ListN.{length, getD, set};
 ghost use lib.IntN.{pos};
 ghost use Rattle.words.specs.Words.{each, table, anyOf, same};
 ghost use Rattle.numbers.specs.Sizes as Sizes;
@@ -28,7 +28,7 @@ ghost use Rattle.entry.specs.Wrote.{Wrote, Room};
 ghost use Rattle.skill.specs.Skill as Skill;
 ghost use Rattle.skill.specs.Skill.{requirement, required, demandOf, targetOf, entryOf, reported};
 ghost use Rattle.skill.specs.Held.{requirementsIn, requirementsOf, askedOf, walkOf};
-ghost use Rattle.skill.specs.Held.{Placed, Noted, Notes, HoldsWanted};
+ghost use Rattle.skill.specs.Held.{Placed, New, LevelRises, Noted, Notes, HoldsWanted};
 
 // The names of a skill and of the level it wants.
 struct Row {
@@ -199,6 +199,28 @@ fn place(ids: &[i32; MOST_WANTED], len: usize, id: i32) -> usize
     len
 }
 
+// `add` and `raise` are the only functions of this crate that store into the walk's arrays, their first zeros aside. No contract can tell a
+// store of the old value from none, so that tests/style holds this.
+
+// Puts a skill that is new behind the others.
+fn add(ids: &mut [i32; MOST_WANTED], levels: &mut [u8; MOST_WANTED], len: usize, id: i32, level: u8)
+    requires { ⌜ (len < mostWanted) × (length (now ids) ≡ mostWanted) × (length (now levels) ≡ mostWanted)
+        × New (now ids) len id ⌝ }
+    ensures { λ r. ⌜ (now (ids .exit) ≡ set (now (ids .entry)) len id)
+        × (now (levels .exit) ≡ set (now (levels .entry)) len level) ⌝ }
+{
+    ids[len] = id;
+    levels[len] = level;
+}
+
+// Raises the level of a skill that is known at a lower one. The ids are there for what is required.
+fn raise(ids: &[i32; MOST_WANTED], levels: &mut [u8; MOST_WANTED], at: usize, id: i32, level: u8)
+    requires { ⌜ (at < mostWanted) × (length (now levels) ≡ mostWanted) × LevelRises (now ids) (now levels) at id level ⌝ }
+    ensures { λ r. ⌜ now (levels .exit) ≡ set (now (levels .entry)) at level ⌝ }
+{
+    levels[at] = level;
+}
+
 // Keeps the highest level asked of a skill, in the order it was first met. How many skills there are then: one more than the most where
 // there is no room.
 fn note(
@@ -214,14 +236,14 @@ fn note(
     let at = place(ids, len, id);
     if at < len {
         if levels[at] < level {
-            levels[at] = level;
+            raise(ids, levels, at, id, level);
             return len;
         }
+        // known at this level or a higher one: both arrays go on as they came
         return len;
     }
     if len < MOST_WANTED {
-        ids[len] = id;
-        levels[len] = level;
+        add(ids, levels, len, id, level);
         return len + 1;
     }
     MOST_WANTED + 1
