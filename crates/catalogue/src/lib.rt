@@ -16,7 +16,7 @@ ghost use Rattle.keys.specs.Keys.{Sorted, Parts, foundOf};
 ghost use Rattle.floats.specs.Floats.{zeroF, f32At};
 ghost use Rattle.floats.specs.Values.{valueOf};
 ghost use Rattle.catalogue.specs.Catalogue.{catalogueOf, sizeOf, nameCount, effectCount, typeCount, linkCount, baseCount};
-ghost use Rattle.catalogue.specs.Catalogue.{namesAt, effectsAt, typesAt, linksAt, basesAt, nameAt, effectAt, typeAt, linkAt};
+ghost use Rattle.catalogue.specs.Catalogue.{namesAt, effectsAt, typesAt, linksAt, basesAt, effectAt, typeAt, linkAt};
 ghost use Rattle.catalogue.specs.Lookups.{nameId, typeOf, effectMark, rackOf, hardpointOf};
 ghost use Rattle.catalogue.specs.Sound.{Sound};
 ghost use Rattle.catalogue.specs.Answers.{idOf, markOf, infoOf, infoOfType, slotOf};
@@ -201,11 +201,11 @@ fn find_key(catalogue: &[u8], b: Block, id: i32, hints: &mut [u32]) -> Found
     keys::place_at(keys_of(catalogue, b), b.n, id, at)
 }
 
-fn id_at(catalogue: &[u8], i: usize) -> i32
-    requires { ⌜ (length (now catalogue) ≡ sizeOf (now catalogue)) × (i < nameCount (now catalogue)) ⌝ }
-    ensures { λ r. ⌜ r ≡ nameAt (now (catalogue .entry)) i .id ⌝ }
+// The id behind key i of a block: a name's attribute, a link's effect.
+fn id_at(catalogue: &[u8], b: Block, i: usize) -> i32
+    requires { ⌜ (b .at + 8 * b .n ≤ length (now catalogue)) × (i < b .n) ⌝ }
+    ensures { λ r. ⌜ r ≡ i32At (now (catalogue .entry)) (b .at + 4 * b .n + 4 * i) ⌝ }
 {
-    let b = names(catalogue);
     image::i32_at(catalogue, b.at + 4 * b.n + 4 * i)
 }
 
@@ -217,10 +217,11 @@ pub fn attribute_id(catalogue: &[u8], name: u32) -> AttributeId
     if names::REQUIRED_SKILL_6_LEVEL < name {
         return AttributeId::Unknown;
     }
+    let b = names(catalogue);
     let mut none = [0u32; 0];
-    let found = find_key(catalogue, names(catalogue), name as i32, &mut none);
+    let found = find_key(catalogue, b, name as i32, &mut none);
     match found {
-        Found::At(i) => AttributeId::Known(id_at(catalogue, i)),
+        Found::At(i) => AttributeId::Known(id_at(catalogue, b, i)),
         Found::Nothing => AttributeId::Unknown,
     }
 }
@@ -324,14 +325,6 @@ fn with_mark(found: SlotMarks, mark: u8) -> SlotMarks
     found
 }
 
-fn effect_at(catalogue: &[u8], i: usize) -> i32
-    requires { ⌜ (length (now catalogue) ≡ sizeOf (now catalogue)) × (i < linkCount (now catalogue)) ⌝ }
-    ensures { λ r. ⌜ r ≡ linkAt (now (catalogue .entry)) i .effect ⌝ }
-{
-    let b = links(catalogue);
-    image::i32_at(catalogue, b.at + 4 * b.n + 4 * i)
-}
-
 fn with_link(catalogue: &[u8], found: SlotMarks, i: usize, hints: &mut [u32]) -> SlotMarks
     requires { ⌜ Sound (now catalogue) × (i < linkCount (now catalogue)) ⌝ }
     ensures rack { λ r.
@@ -341,7 +334,8 @@ fn with_link(catalogue: &[u8], found: SlotMarks, i: usize, hints: &mut [u32]) ->
         let ms = linkMarks (catalogueOf (now (catalogue .entry))) (linkAt (now (catalogue .entry)) i) in
         ⌜ slotOf (r .hardpoint) ≡ foldl onHardpoint (slotOf (found .hardpoint)) ms ⌝ }
 {
-    let mark = effect_mark(catalogue, effect_at(catalogue, i), hints);
+    let effect = id_at(catalogue, links(catalogue), i);
+    let mark = effect_mark(catalogue, effect, hints);
     match mark {
         Mark::Known(m) => with_mark(found, m),
         Mark::Unknown => found,

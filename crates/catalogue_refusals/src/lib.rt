@@ -2,6 +2,7 @@
 use catalogue::Block;
 use catalogue::Verdict;
 use numbers::refusals;
+use numbers::sizes;
 ghost use mathlib.Core.Path.{_≡_};
 ghost use Prim.Native.Nat.{ℕ, _+_, _*_, _<_, _≤_};
 ghost use lib.ListN.{length};
@@ -30,7 +31,7 @@ fn size_of(catalogue: &[u8]) -> usize
 fn bad_length(catalogue: &[u8]) -> bool
     ensures { λ r. ⌜ r ≡ badLength (now (catalogue .entry)) ⌝ }
 {
-    if 16777216 < catalogue.len() {
+    if sizes::MOST_CATALOGUE_BYTES < catalogue.len() {
         return true;
     }
     if catalogue.len() < 20 {
@@ -101,7 +102,7 @@ fn bad_field(catalogue: &[u8]) -> bool
     ensures { λ r. ⌜ r ≡ badField (catalogueOf (now (catalogue .entry))) ⌝ }
 {
     let n = catalogue::names(catalogue);
-    if any_above(catalogue, n.at, n.n, 4, 87) {
+    if any_above(catalogue, n.at, n.n, 4, sizes::LAST_NAME) {
         return true;
     }
     let e = catalogue::effects(catalogue);
@@ -109,7 +110,13 @@ fn bad_field(catalogue: &[u8]) -> bool
         return true;
     }
     let t = catalogue::types(catalogue);
-    any_above(catalogue, t.at + 4 * t.n + 8, t.n, 16, 1)
+    any_above(
+        catalogue,
+        t.at + 4 * t.n + 8,
+        t.n,
+        16,
+        sizes::LAST_VOLUME_FLAG,
+    )
 }
 
 // The first refusal of 1 to 3 that holds.

@@ -7,7 +7,7 @@ use lib.Dec.{eqb}
 use lib.ListN.{length, getD, take, drop}
 use Rattle.numbers.specs.Slots as Slots
 use Rattle.numbers.specs.Sizes as Sizes
-use Rattle.fit.specs.Fit.{skillCount, itemCount, resultCount, attributeCount, sizeOf, idsAt, startAt, fitOf}
+use Rattle.fit.specs.Fit.{skillCount, itemCount, resultCount, attributeCount, sizeOf, idsAt, valuesAt, startAt, fitOf}
 use Rattle.fit.specs.Refusals.{badOrder, badField}
 
 -- slot kinds whose items have no index: the bays and Cargo
@@ -37,3 +37,7 @@ pub record Starts (b s : List ℕ) : Type 0 where
 -- the part of the image that holds the ids of the n attributes from number `start` on
 unfoldable pub idsPart : List ℕ → ℕ → ℕ → List ℕ
 idsPart b start n = take (4 * n) (drop (idsAt b + 4 * start) b)
+
+-- the part that holds their values
+unfoldable pub valuesPart : List ℕ → ℕ → ℕ → List ℕ
+valuesPart b start n = take (8 * n) (drop (valuesAt b + 8 * start) b)

@@ -4,14 +4,14 @@ pub mod layout;
 use floats::Value;
 use keys::Found;
 ghost use mathlib.Core.Path.{_≡_};
-ghost use Prim.Native.Nat.{_+_, _*_, _<_, min};
-ghost use lib.ListN.{length, getD};
+ghost use Prim.Native.Nat.{_+_, _*_, _<_, _≤_, min};
+ghost use lib.ListN.{length, getD, take, drop};
 ghost use Rattle.numbers.specs.Sizes.{mostResults};
 ghost use Rattle.image.specs.Bytes.{i32At};
 ghost use Rattle.floats.specs.Values.{valueOf};
-ghost use Rattle.fit.specs.Fit.{modeOf, fitOf, skillCount, itemCount, resultCount};
+ghost use Rattle.fit.specs.Fit.{modeOf, fitOf, skillCount, itemCount, resultCount, attributeCount};
 ghost use Rattle.fit.specs.Fit.{skillsAt, itemAt, countAt, startAt, resultOf};
-ghost use Rattle.fit.specs.Sound.{Sound, Starts, idsPart};
+ghost use Rattle.fit.specs.Sound.{Sound, Starts, idsPart, valuesPart};
 ghost use Rattle.fit.specs.Answers.{chosenOf};
 ghost use Rattle.fit.specs.Lookups.{value, amount, trained};
 
@@ -160,18 +160,36 @@ fn start_of(starts: &[u32], j: usize) -> usize
     wide(starts[j])
 }
 
-// The part of the caller's bytes that holds result j's attribute ids.
+// The part of the caller's bytes that holds what result j has in the block from `first` on, `width` bytes for each attribute.
+fn part_of<'a>(fit: &'a [u8], starts: &[u32], j: usize, first: usize, width: usize) -> &'a [u8]
+    requires { let f = now fit in
+        ⌜ Sound f × Starts f (now starts) × (j < resultCount f + 2) × (first + width * attributeCount f ≤ length f) ⌝ }
+    ensures { λ r.
+        let f = now (fit .entry) in
+        ⌜ now r ≡ take (width * countAt f j) (drop (first + width * startAt f j) f) ⌝ }
+{
+    let a = first + width * start_of(starts, j);
+    let b = first + width * start_of(starts, j + 1);
+    &fit[a..b]
+}
+
+// Result j's attribute ids.
 pub fn ids_of<'a>(fit: &'a [u8], starts: &[u32], j: usize) -> &'a [u8]
     requires { ⌜ Sound (now fit) × Starts (now fit) (now starts) × (j < resultCount (now fit) + 2) ⌝ }
     ensures { λ r. ⌜ now r ≡ idsPart (now (fit .entry)) (startAt (now (fit .entry)) j) (countAt (now (fit .entry)) j) ⌝ }
 {
-    let first = layout::ids_at(fit);
-    let a = first + 4 * start_of(starts, j);
-    let b = first + 4 * start_of(starts, j + 1);
-    &fit[a..b]
+    part_of(fit, starts, j, layout::ids_at(fit), 4)
 }
 
-// What an attribute of result j reached.
+// Result j's values, in the order of its ids.
+fn values_of<'a>(fit: &'a [u8], starts: &[u32], j: usize) -> &'a [u8]
+    requires { ⌜ Sound (now fit) × Starts (now fit) (now starts) × (j < resultCount (now fit) + 2) ⌝ }
+    ensures { λ r. ⌜ now r ≡ valuesPart (now (fit .entry)) (startAt (now (fit .entry)) j) (countAt (now (fit .entry)) j) ⌝ }
+{
+    part_of(fit, starts, j, layout::values_at(fit), 8)
+}
+
+// What an attribute of result j reached: its value stands among the result's values where its id stands among the ids.
 pub fn value(fit: &[u8], starts: &[u32], j: usize, id: i32) -> Value
     requires { ⌜ Sound (now fit) × Starts (now fit) (now starts) × (j < resultCount (now fit) + 2) ⌝ }
     ensures { λ r. ⌜ valueOf r ≡ value (resultOf (now (fit .entry)) j) id ⌝ }
@@ -179,10 +197,7 @@ pub fn value(fit: &[u8], starts: &[u32], j: usize, id: i32) -> Value
     let ids = ids_of(fit, starts, j);
     let found = keys::place_of(ids, ids.len() / 4, id);
     match found {
-        Found::At(i) => {
-            let at = start_of(starts, j) + i;
-            Value::Given(floats::f64_at(fit, layout::values_at(fit) + 8 * at))
-        }
+        Found::At(i) => Value::Given(floats::f64_at(values_of(fit, starts, j), 8 * i)),
         Found::Nothing => Value::Missing,
     }
 }

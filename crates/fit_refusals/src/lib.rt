@@ -2,6 +2,7 @@
 use fit::Verdict;
 use fit::layout;
 use numbers::refusals;
+use numbers::sizes;
 use numbers::slots;
 use numbers::states;
 ghost use mathlib.Core.Path.{_≡_};
@@ -12,6 +13,7 @@ ghost use lib.Dec.{eqb, ltb};
 ghost use lib.ListN.{length};
 ghost use lib.Signed.{ltZ};
 ghost use Rattle.words.specs.Words.{anyOf, inOrder, table};
+ghost use Rattle.numbers.specs.Sizes as Sizes;
 ghost use Rattle.image.specs.Bytes.{i32At};
 ghost use Rattle.fit.specs.Fit.{Item, resultsAt, itemsAt, idsAt, itemAt, resultOf, startAt, fitOf, allResults};
 ghost use Rattle.fit.specs.Refusals.{badSize, badOrder, badItem, badResult, badField, fitRefusal};
@@ -43,16 +45,16 @@ fn bad_size(fit: &[u8]) -> bool
     let f = layout::size_at(fit, 4);
     let r = layout::size_at(fit, 8);
     let a = layout::size_at(fit, 12);
-    if 1024 < s {
+    if sizes::MOST_SKILLS < s {
         return true;
     }
-    if 256 < f {
+    if sizes::MOST_ITEMS < f {
         return true;
     }
-    if 256 < r {
+    if sizes::MOST_RESULTS < r {
         return true;
     }
-    if 30000 < a {
+    if sizes::MOST_ATTRIBUTES < a {
         return true;
     }
     if fit.len() != 36 + 5 * s + 12 * f + 4 * r + 12 * a {
@@ -114,9 +116,9 @@ fn bad_order(fit: &[u8]) -> bool
 
 // The mode flag, and the bits of the mode.
 fn bad_mode(flag: u32, mode: u32) -> bool
-    ensures { λ r. ⌜ r ≡ (ltb 1 flag || (eqb flag 0 && not (eqb mode 0))) ⌝ }
+    ensures { λ r. ⌜ r ≡ (ltb Sizes.lastModeFlag flag || (eqb flag 0 && not (eqb mode 0))) ⌝ }
 {
-    if 1 < flag {
+    if sizes::LAST_MODE_FLAG < flag {
         return true;
     }
     if flag == 0 {
@@ -148,7 +150,7 @@ fn bad_place(slot: u8, reserved: u8, index: u16) -> bool
     if reserved != 0 {
         return true;
     }
-    if 255 < index {
+    if sizes::LAST_INDEX < index {
         if slot != slots::BOOSTER {
             return true;
         }

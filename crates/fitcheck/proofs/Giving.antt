@@ -1,17 +1,20 @@
 -- What a call answers, from its conditions, and that code which writes or refuses gives it.
-use Prim.Native.Nat.{ℕ, zero, suc, _*_, _≤_, _<_}
+use Prim.Native.Nat.{ℕ, zero, suc, _+_, _*_, _≤_, _<_}
 use native.Mathlib.Omega.{arith}
 use mathlib.Core.Path.{_≡_, refl, sym, ap, _∙_, subst}
 use mathlib.Core.Bool.{Bool, true, false}
 use mathlib.Core.List.{List, [], _∷_, _++_}
 use mathlib.Core.Option.{none, some}
-use lib.Dec.{ltb}
+use lib.Dec.{T}
+use lib.Ieee.{Float, lt, ofInt}
 use lib.ListN.{length}
 use borrow.Author.Tests.{lt-ltb, le-ltb}
 use Rattle.words.specs.Words.{firstOf, given}
 use Rattle.numbers.specs.Names as Names
 use Rattle.numbers.specs.Sizes as Sizes
 use Rattle.numbers.specs.Refusals as Refusals
+use Rattle.floats.specs.Floats.{ofNat}
+use Rattle.floats.proofs.Products.{ofNat-lt}
 use Rattle.catalogue.specs.Catalogue.{Id, catalogueOf}
 use Rattle.catalogue.specs.Lookups.{nameId}
 use Rattle.fit.specs.Fit.{fitOf}
@@ -83,6 +86,11 @@ module _ {b : List ℕ} (es : List Entry) where
       nil (x ∷ l) q = absurd (omega arith)
 
 -- ---- refusal 7
+-- one drone more is another float
+apart : T (lt (ofNat Sizes.mostDrones) (ofNat (Sizes.mostDrones + 1)))
+unfolding lt ofInt
+apart = tt
+
 module _ (catalogue fit : List ℕ) where
   pub drones-no-hull : isHull (catalogueOf catalogue) (fitOf fit .frame .ship) ≡ false → false ≡ tooManyDrones (catalogueOf catalogue) (fitOf fit)
   unfolding tooManyDrones
@@ -93,10 +101,10 @@ module _ (catalogue fit : List ℕ) where
     unfolding tooManyDrones given
     drones-unnamed n = rw (e, n)
 
-    pub drones-over : (id : Id) → nameId (catalogueOf catalogue .names) Names.maxActiveDrones ≡ some id
-        → ltb Sizes.mostDrones (launched (pairsOf catalogue fit)) ≡ tooManyDrones (catalogueOf catalogue) (fitOf fit)
+    pub drones-over : (id : Id) {used : Float} → nameId (catalogueOf catalogue .names) Names.maxActiveDrones ≡ some id
+        → used ≡ ofNat (launched (pairsOf catalogue fit)) → lt (ofNat Sizes.mostDrones) used ≡ tooManyDrones (catalogueOf catalogue) (fitOf fit)
     unfolding tooManyDrones given pairsOf
-    drones-over id n = rw (e, n)
+    drones-over id n u = ap (lt (ofNat Sizes.mostDrones)) u ∙ ofNat-lt Sizes.mostDrones (launched (pairsOf catalogue fit)) apart ∙ rw (e, n)
 
 -- ---- the list call, by the refusals of both images
 module _ (catalogue fit buffer : List ℕ) where

@@ -59,7 +59,10 @@ fn too_many_drones(catalogue: &[u8], fit: &[u8], facts: &[u32; 1797]) -> bool
     }
     let max_active = catalogue::attribute_id(catalogue, names::MAX_ACTIVE_DRONES);
     match max_active {
-        AttributeId::Known(_) => sizes::MOST_DRONES < resource::launched(fit),
+        AttributeId::Known(_) => {
+            let load = resource::drones_load(fit, sizes::MOST_DRONES);
+            load.available < load.used
+        }
         AttributeId::Unknown => false,
     }
 }

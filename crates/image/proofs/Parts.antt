@@ -6,7 +6,7 @@ use mathlib.Core.Path.{_≡_, ap, _∙_}
 use mathlib.Core.List.{List}
 use lib.ListN.{length, getD, take, drop, length-take, length-drop}
 use lib.Seq.{getD-take, getD-drop}
-use Rattle.image.specs.Bytes.{u32At, signed32, i32At}
+use Rattle.image.specs.Bytes.{u32At, u64At, signed32, i32At}
 
 pub part-length : (b : List ℕ) (at n : ℕ) → at + n ≤ length b → length (take n (drop at b)) ≡ n
 part-length b at n h = simp (length-take, length-drop) (omega arith)
@@ -28,6 +28,10 @@ module _ (b : List ℕ) (at n : ℕ) where
         add-assoc at i 2,
         add-assoc at i 3,
       )
+
+  pub part-u64 : (i : ℕ) → i + 8 ≤ n → u64At (take n (drop at b)) i ≡ u64At b (at + i)
+  unfolding u64At
+  part-u64 i h = rw (part-u32 i (omega arith), part-u32 (i + 4) (omega arith), add-assoc at i 4)
 
   pub part-i32 : (i : ℕ) → i + 4 ≤ n → i32At (take n (drop at b)) i ≡ i32At b (at + i)
   unfolding i32At

@@ -20,7 +20,7 @@ use Rattle.entry.specs.Wrote.{Wrote}
 use Rattle.entry.proofs.Wrote.{wrote-unless, wrote-bind, wrote-bind-none}
 use Rattle.context.specs.Context.{Pair, Context, isFitted, on}
 use Rattle.limits.specs.declared.Row.{Row}
-use Rattle.limits.specs.Limits.{GROUP-LIMITS, rowAt, inGroup, groupLimitAt, groupLimit, ofType, typeLimitAt, typeLimit}
+use Rattle.limits.specs.Limits.{GROUP-LIMITS, rowAt, inGroup, groupLimitAt, groupLimit, groupLimits, ofType, typeLimitAt, typeLimit}
 
 -- what both rules say of a pair
 limited : Option Float → Bool → ℕ → (ℕ → ℕ → Entry) → List Entry
@@ -80,6 +80,11 @@ module _ (x : Context) (ps : List Pair) (g : ℕ × ℕ × ℕ) where
       → Wrote b n a k (each ps (groupLimitAt (g .0) (g .1) id ps)) → Wrote b n a k (groupLimit x ps g)
   unfolding groupLimit
   group-each id e w = wrote-bind _ e w
+
+-- limit by limit, and for each the pairs in their order
+pub by-limit : (x : Context) (ps : List Pair) → each GROUP-LIMITS (groupLimit x ps) ≡ groupLimits x ps
+unfolding groupLimits
+by-limit x ps = refl
 
 -- ---- types
 module _ (id : Id) (ps : List Pair) (p : Pair) where

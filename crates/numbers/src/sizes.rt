@@ -1,8 +1,25 @@
 // Document 01, "Records", "Refusals in their order", "Hall number": the limits of the images and of the calls.
+pub const MOST_CATALOGUE_BYTES: usize = 16777216;
+
+pub const LAST_NAME: u32 = 87;
+
+pub const LAST_VOLUME_FLAG: u32 = 1;
+
 pub const MOST_SKILLS: usize = 1024;
+
+pub const MOST_ITEMS: usize = 256;
+
+pub const MOST_RESULTS: usize = 256;
 
 // A pair is an item that has a result.
 pub const MOST_PAIRS: usize = 256;
+
+pub const MOST_ATTRIBUTES: usize = 30000;
+
+pub const LAST_MODE_FLAG: u32 = 1;
+
+// Of an item that is no booster.
+pub const LAST_INDEX: u16 = 255;
 
 // Bytes of an entry.
 pub const ENTRY_SIZE: usize = 24;
@@ -13,8 +30,8 @@ pub const MOST_WANTED: usize = 512;
 // Fits of a hall.
 pub const MOST_FITS: usize = 64;
 
-// Launched drones that are counted.
-pub const MOST_DRONES: u64 = 4294967295;
+// Launched drones that are counted, as a load has them.
+pub const MOST_DRONES: f64 = 4294967295.0;
 
 // A refusal's number is returned times this.
 pub const WORD: u64 = 4294967296;

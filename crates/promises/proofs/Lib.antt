@@ -15,5 +15,10 @@ pub mod Refusing
 pub mod Meeting
 pub mod Wanting
 pub mod Judging
+pub mod Opened
+pub mod Large
 pub mod Edges
+pub mod Deciding
+pub mod Keeping
+pub mod Growing
 pub mod Promised

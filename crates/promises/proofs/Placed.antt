@@ -148,6 +148,26 @@ module _ {A : Type 0} {K : A → A → Type 0} where
   place-keeps d (keep k p) (suc i) l = place-keeps d p i (le-of-suc-le-suc l)
 
 -- ---- tests
+pub and-both : (a b : Bool) → T a → T b → T (a && b)
+and-both true b h k = k
+and-both false b h k = h
+
+pub and-left : (a b : Bool) → T (a && b) → T a
+and-left true b h = tt
+and-left false b h = h
+
+pub and-right : (a b : Bool) → T (a && b) → T b
+and-right true b h = h
+and-right false b h = absurd h
+
+pub or-left : (a b : Bool) → T a → T (a || b)
+or-left true b h = tt
+or-left false b h = absurd h
+
+pub or-right : (a b : Bool) → T b → T (a || b)
+or-right true b h = tt
+or-right false b h = h
+
 pub and-mono : (a b b′ : Bool) → (T b → T b′) → T (a && b) → T (a && b′)
 and-mono true b b′ f h = f h
 and-mono false b b′ f h = h

@@ -1,11 +1,16 @@
 -- The promises, all of them. Each is proved in a file of its own.
 use mathlib.Core.Path.{refl}
 use Rattle.words.specs.Words.{each, tableFrom}
-use Rattle.promises.specs.Promises.{Names, Promises}
+use Rattle.promises.specs.Compare.{Kept}
+use Rattle.promises.specs.GrownCase.{CATALOGUE, OLD, NEW, ROOM}
+use Rattle.promises.specs.Promises.{listOutcome, skillOutcome, Names, Promises}
 use Rattle.promises.proofs.Calls.{list-answers, skill-answers, list-room, skill-room}
 use Rattle.promises.proofs.Comparing.{list-kept, skills-kept}
+use Rattle.promises.proofs.Growing.{any-growth, example}
+use Rattle.promises.proofs.Keeping.{tables}
 use Rattle.promises.proofs.Wanting.{more-wanted, skill-lists}
 use Rattle.promises.proofs.Judging.{hall-answers, judged}
+use Rattle.promises.proofs.Opened.{opened}
 use Rattle.promises.proofs.Edges.{edges}
 
 names : Names
@@ -20,6 +25,9 @@ promised = record {
   skill-room = skill-room;
   list-kept = list-kept;
   skill-kept = skills-kept;
+  any-growth = any-growth;
+  example = example;
+  tables = tables;
   skill-lists = skill-lists;
   too-many = more-wanted 512;
   hall-call = hall-answers;
@@ -27,3 +35,12 @@ promised = record {
   names = names;
   edges = edges;
 }
+
+-- Demand 3 as it is promised, of the two images: its premises are those that they meet.
+list-applies : Kept (listOutcome CATALOGUE OLD ROOM) (listOutcome CATALOGUE NEW ROOM)
+unfolding opened
+list-applies = promised .list-kept CATALOGUE OLD NEW ROOM ROOM (example .bytes) (example .grown) (example .volumes) refl refl
+
+skill-applies : Kept (skillOutcome CATALOGUE OLD 2 ROOM) (skillOutcome CATALOGUE NEW 2 ROOM)
+unfolding opened
+skill-applies = promised .skill-kept CATALOGUE OLD NEW ROOM ROOM 2 (example .grown) refl refl

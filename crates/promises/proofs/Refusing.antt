@@ -2,7 +2,7 @@
 use Prim.Native.Nat.{ℕ, suc, _≤_, _<_, zero-le, suc-le-suc}
 use native.Mathlib.Nat.{le-trans}
 use mathlib.Core.Path.{_≡_, refl, sym, ap, _∙_, subst}
-use mathlib.Core.Bool.{Bool, true, false, not, _||_}
+use mathlib.Core.Bool.{not, _||_}
 use mathlib.Core.List.{List, [], _∷_, List·Memᴰ, List·Memᴰ·head, List·Memᴰ·tail, List·Memᴰ·not-nil, List·Memᴰ·cases-cons, Memᴰ·map, Memᴰ·of-map}
 use mathlib.Core.Logic.{_⊎_, inl, inr}
 use lib.Dec.{T, T-not, ltb→lt, nltb→le}
@@ -13,6 +13,7 @@ use Rattle.words.specs.Words.{same, contains, anyOf}
 use Rattle.skill.specs.Skill.{Demand, noted, met, walkWithin, tooMany}
 use Rattle.skill.specs.Wanted.{Wanted, Once}
 use Rattle.promises.specs.Walks.{idsOf}
+use Rattle.promises.proofs.Placed.{or-left, or-right}
 use Rattle.promises.proofs.Walking.{same-refl, counts-wanted, met-counts, noted-from, noted-once, walked, listed-iff-wanted}
 
 -- ---- of lists of ids: one with no id twice is no longer than a list that has them all
@@ -40,14 +41,6 @@ unfolding contains anyOf
 mem-contains x [] m = absurd (List·Memᴰ·not-nil m)
 mem-contains x (y ∷ l) m = go (List·Memᴰ·cases-cons m) (mem-contains x l)
   where
-    or-left : (a b : Bool) → T a → T (a || b)
-    or-left true b h = tt
-    or-left false b h = absurd h
-
-    or-right : (a b : Bool) → T b → T (a || b)
-    or-right true b h = tt
-    or-right false b h = h
-
     go : (x ≡ y) ⊎ List·Memᴰ x l → (List·Memᴰ x l → T (anyOf (same x) l)) → T (same x y || anyOf (same x) l)
     go (inl e) f = or-left (same x y) _ (subst (λ (z : Id). T (same x z)) e (same-refl x))
     go (inr t) f = or-right (same x y) _ (f t)

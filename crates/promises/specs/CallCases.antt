@@ -1,4 +1,4 @@
--- Cases of entries in bytes and of the calls: the example that document 01 gives for each refusal, and lists as they stand in a buffer.
+-- Cases of entries in bytes and of the calls: the examples that document 01 gives for refusals, and lists as they stand in a buffer.
 use Prim.Native.Nat.{ℕ, _+_, _*_}
 use mathlib.Core.Bool.{true, false}
 use mathlib.Core.List.{List, [], _∷_, _++_}
@@ -16,7 +16,7 @@ use Rattle.entry.specs.Entries.{onShip, onItem}
 use Rattle.promises.specs.Cases.{Written, BadSize, ListCall, SkillCall, HallCall, Number, Holds, InBytes, Returns, Case}
 
 -- u32 numbers, one after the other
-abbrev words : List ℕ → List ℕ
+abbrev pub words : List ℕ → List ℕ
 words ns = each ns (le 4)
 
 -- ---- entries
@@ -55,11 +55,11 @@ ENTRIES =
 
 -- ---- images
 -- no names, effects, types, links, bases
-abbrev bare : List ℕ
+abbrev pub bare : List ℕ
 bare = replicate 20 0
 
 -- two types, 0 in group and category, with no volume
-abbrev typesAt : ℕ → ℕ → List ℕ
+abbrev pub typesAt : ℕ → ℕ → List ℕ
 typesAt a b = words (0 ∷ 0 ∷ 2 ∷ 0 ∷ 0 ∷ a ∷ b ∷ []) ++ replicate 32 0
 
 -- an effect with a mark
@@ -68,7 +68,7 @@ marked mark = words (0 ∷ 1 ∷ 0 ∷ 0 ∷ 0 ∷ 5 ∷ mark ∷ [])
 
 -- names 20, 22, 76 and 77 with the attributes 6, 7, 4 and 5; effect 3, a Medium slot; type 1, a ship, and type 9, a module with that effect,
 -- of volume 2.5, which wants skill 8 at 2
-abbrev small : List ℕ
+abbrev pub small : List ℕ
 small =
     words (4 ∷ 1 ∷ 2 ∷ 1 ∷ 2 ∷ [])
     ++ words (20 ∷ 22 ∷ 76 ∷ 77 ∷ [])
@@ -82,14 +82,14 @@ small =
     ++ words (4 ∷ 0x41000000 ∷ 5 ∷ 0x40000000 ∷ [])
 
 -- a fit of ship 0 with nothing; one of ship 1 with nothing
-abbrev empty : List ℕ
+abbrev pub empty : List ℕ
 empty = replicate 36 0
 
 abbrev flying : List ℕ
 flying = words (0 ∷ 0 ∷ 0 ∷ 0 ∷ 1 ∷ 0 ∷ 0 ∷ []) ++ replicate 8 0
 
 -- ship 1 with one High slot; skill 9 at 3; an item of type 9 in High slot 0, whose result has attribute 4 at 9
-abbrev fitted : List ℕ
+abbrev pub fitted : List ℕ
 fitted =
     words (1 ∷ 1 ∷ 1 ∷ 2 ∷ 1 ∷ 0 ∷ 0 ∷ [])
     ++ words (9 ∷ []) ++ (3 ∷ [])
@@ -98,27 +98,20 @@ fitted =
     ++ words (7 ∷ 4 ∷ [])
     ++ words (0 ∷ 0x3FF00000 ∷ 0 ∷ 0x40220000 ∷ [])
 
--- two stacks in the drone bay, both active
-abbrev launching : ℕ → ℕ → List ℕ
-launching a b =
-    words (0 ∷ 2 ∷ 2 ∷ 0 ∷ 1 ∷ 0 ∷ 0 ∷ [])
-    ++ words (9 ∷ a ∷ 10 ∷ 9 ∷ b ∷ 10 ∷ [])
-    ++ replicate 8 0 ++ (2 ∷ 0 ∷ 0 ∷ 0 ∷ 2 ∷ 0 ∷ 0 ∷ 0 ∷ [])
-
 -- so many skills, items and results, all of zeros
 abbrev sized : ℕ → ℕ → ℕ → List ℕ
 sized skills items results = words (skills ∷ items ∷ results ∷ 0 ∷ 0 ∷ 0 ∷ 0 ∷ []) ++ replicate (5 * skills + 12 * items + 4 * results + 8) 0
 
 -- a fit of one item: slot kind, zero byte, index
-abbrev holding : ℕ → ℕ → ℕ → List ℕ
+abbrev pub holding : ℕ → ℕ → ℕ → List ℕ
 holding slot pad index = words (0 ∷ 1 ∷ 0 ∷ 0 ∷ 0 ∷ 0 ∷ 0 ∷ []) ++ words (0 ∷ 0 ∷ []) ++ (slot ∷ pad ∷ le 2 index) ++ replicate 8 0
 
 -- refusals
-abbrev listRefuses : List ℕ → List ℕ → ℕ → Case
+abbrev pub listRefuses : List ℕ → List ℕ → ℕ → Case
 listRefuses catalogue fit n = (ListCall catalogue fit (replicate 30 7), Returns (n * 4294967296) (replicate 30 7))
 
 -- a fit of ship 0, whose list is NotAHull
-abbrev listAnswers : List ℕ → List ℕ → Case
+abbrev pub listAnswers : List ℕ → List ℕ → Case
 listAnswers catalogue fit = (ListCall catalogue fit (replicate 30 7), Returns 1 (0 ∷ 19 ∷ replicate 22 0 ++ replicate 6 7))
 
 abbrev pub CALLS : List Case
@@ -163,16 +156,6 @@ CALLS =
     ∷ listRefuses bare (holding 7 0 1) 6
     ∷ listRefuses bare (holding 10 0 1) 6
     ∷ listRefuses bare (holding 11 0 1) 6
-    -- 7: two active stacks, 4,294,967,295 and 1
-    ∷ listRefuses small (launching 4294967295 1) 7
-    -- one less: 4,294,967,295.0 of 0, and two that are no drones
-    ∷ (
-      ListCall small (launching 4294967294 1) (replicate 72 7),
-      Returns 3
-          (words (0x00050100 ∷ 0 ∷ 0xFFE00000 ∷ 0x41EFFFFF ∷ 0 ∷ 0 ∷ [])
-          ++ words (0x00000501 ∷ 0 ∷ 0 ∷ 0 ∷ 0 ∷ 0 ∷ [])
-          ++ words (0x00000501 ∷ 1 ∷ 0 ∷ 0 ∷ 0 ∷ 0 ∷ [])),
-    )
     -- 8: result 2 with R = 0
     ∷ (SkillCall bare empty 2 [], Returns (8 * 4294967296) [])
     ∷ (SkillCall bare empty 1 [], Returns 0 [])

@@ -4,16 +4,18 @@ use mathlib.Core.Bool.{Bool, false}
 use mathlib.Core.List.{List, [], _∷_, map}
 use lib.IntN.{ℤ, pos, negsuc}
 use lib.Ieee.{Float, fin}
-use Rattle.words.specs.Words.{from}
-use Rattle.floats.specs.Floats.{zeroF, toU, toI32, over}
-use Rattle.catalogue.specs.Catalogue.{Id, TypeData, Link, Catalogue}
+use Rattle.words.specs.Words.{from, firstOf}
+use Rattle.numbers.specs.Names.{requiredSkill1, requiredSkill1Level, requiredSkill2, requiredSkill2Level}
+use Rattle.floats.specs.Floats.{zeroF, ofNat, toU, toI32, over}
+use Rattle.catalogue.specs.Catalogue.{Id, TypeData, Link, Base, Catalogue}
+use Rattle.catalogue.specs.Refusals.{badLength}
 use Rattle.fit.specs.Fit.{Attribute, Item, Result, Fit}
 use Rattle.fit.specs.Refusals.{badSize}
 use Rattle.entry.specs.declared.Entry.{Entry}
 use Rattle.entry.specs.Entries.{entryBytes}
 use Rattle.validate.specs.Validate.{listOf}
 use Rattle.skill.specs.Skill.{Demand, wantedSkills, tooMany, skillList}
-use Rattle.fitcheck.specs.Calls.{returned, buffered, listCall, skillCall}
+use Rattle.fitcheck.specs.Calls.{returned, buffered, skillRefusals, listCall, skillCall}
 use Rattle.fitcheck.specs.Hall.{hallCall, hallReturned}
 
 -- ---- a catalogue: types with their groups and categories in the game
@@ -21,7 +23,7 @@ use Rattle.fitcheck.specs.Hall.{hallCall, hallReturned}
 abbrev pub attribute : ℕ → Id
 attribute n = pos (100 + n)
 
-abbrev typed : ℕ → ℕ → ℕ → TypeData
+abbrev pub typed : (id group category : ℕ) → TypeData
 typed id group category = record { id = pos id; group = pos group; category = pos category; volumeFlag = 0; volume = zeroF }
 
 -- hulls: a ship of group 25, a structure; 3 to 6 are containers, 7 is none
@@ -119,6 +121,22 @@ known names = record {
   bases = [];
 }
 
+-- a type's value of a name
+abbrev pub base : (type name value : ℕ) → Base
+base type name v = record { type = pos type; attribute = attribute name; value = ofNat v }
+
+-- the names of two skills are known; what the types demand
+abbrev pub tree : List Base → Catalogue
+tree bases = record {
+  names =
+      map (λ n. record { number = n; id = attribute n })
+      (requiredSkill1 ∷ requiredSkill1Level ∷ requiredSkill2 ∷ requiredSkill2Level ∷ []);
+  effects = [];
+  types = [];
+  links = [];
+  bases = bases;
+}
+
 -- ---- a fit
 -- name n's attribute has a value
 abbrev pub has : ℕ → Float → Attribute
@@ -126,6 +144,13 @@ has n v = record { id = attribute n; value = v }
 
 abbrev pub result : ℕ → List Attribute → Result
 result state attributes = record { state = state; reserved = 0; attributes = attributes }
+
+-- it demands the skill of an amount, at a level
+abbrev pub asksFor : Float → ℕ → Result
+asksFor skill level = result 0 (has requiredSkill1 skill ∷ has requiredSkill1Level (ofNat level) ∷ [])
+
+abbrev pub asks : ℕ → ℕ → Result
+asks id level = asksFor (ofNat id) level
 
 -- an item and its result
 abbrev pub Thing : Type 0
@@ -169,8 +194,10 @@ pub data Input : Type 0 where
   Skilled : Catalogue → Fit → ℕ → Input
   -- an entry in bytes
   Written : Entry → Input
-  -- the condition of refusal 4
+  -- the conditions of refusals 1 and 4; the first of 8, 9 and 10 that holds, or 0
+  BadLength : (catalogue : List ℕ) → Input
   BadSize : (fit : List ℕ) → Input
+  SkillRefusal : Catalogue → Fit → (result : ℕ) → (buffer : List ℕ) → Input
   -- the calls, of bytes
   ListCall : (catalogue fit buffer : List ℕ) → Input
   SkillCall : (catalogue fit : List ℕ) (result : ℕ) (buffer : List ℕ) → Input
@@ -198,7 +225,9 @@ outcomeOf (Wants c r) = Demands (wantedSkills c r)
 outcomeOf (Exceeds limit c r) = Holds (tooMany limit c r)
 outcomeOf (Skilled c f n) = Entries (skillList c f n)
 outcomeOf (Written e) = InBytes (entryBytes e)
+outcomeOf (BadLength catalogue) = Holds (badLength catalogue)
 outcomeOf (BadSize fit) = Holds (badSize fit)
+outcomeOf (SkillRefusal c f n buffer) = Number (firstOf (skillRefusals c f n buffer))
 outcomeOf (ListCall catalogue fit buffer) = let a = listCall catalogue fit buffer in Returns (returned a) (buffered buffer a)
 outcomeOf (SkillCall catalogue fit result buffer) = let a = skillCall catalogue fit result buffer in Returns (returned a) (buffered buffer a)
 outcomeOf (HallCall catalogue input) = Number (hallReturned (hallCall catalogue input))

@@ -1,37 +1,26 @@
 -- Document 01, "Edges, those marked * proved": one table of inputs and outcomes. First the starred edges, then a case for and against every
--- rule, and entries and calls in bytes.
+-- rule, entries and calls in bytes, and every part of every refusal.
 use Prim.Native.Nat.{ℕ}
 use mathlib.Core.Path.{_≡_}
 use mathlib.Core.Bool.{true, false}
-use mathlib.Core.List.{List, [], _∷_, _++_, map}
+use mathlib.Core.List.{List, [], _∷_, map}
 use lib.IntN.{pos, negsuc}
 use lib.Ieee.{nan, inf, binary64, ofInt, ofBits}
+use Rattle.words.specs.Words.{each}
 use Rattle.numbers.specs.Names.{volume, isCapitalSize, requiredSkill1, requiredSkill1Level, requiredSkill2, requiredSkill2Level}
 use Rattle.floats.specs.Floats.{ofNat}
-use Rattle.catalogue.specs.Catalogue.{Base, Catalogue}
-use Rattle.fit.specs.Fit.{Result, Fit}
+use Rattle.catalogue.specs.Catalogue.{Catalogue}
+use Rattle.fit.specs.Fit.{Fit}
 use Rattle.entry.specs.declared.Rule.the-variants.{CapitalItem, Skill}
 use Rattle.entry.specs.Entries.{onShip, onItem}
-use Rattle.promises.specs.Cases.{ship, gun, known, has, attribute, result, one, fit, Unsigned, Signed, Over, AnyOver, Fitted, Wants}
-use Rattle.promises.specs.Cases.{Exceeds, Skilled, Number, Integer, Holds, HoldsOf, Entries, Demands, outcomeOf, Case}
+use Rattle.promises.specs.Cases.{ship, gun, known, base, tree, has, result, asks, one, fit}
+use Rattle.promises.specs.Cases.{Unsigned, Signed, Over, AnyOver, Fitted, Wants, Exceeds, Skilled}
+use Rattle.promises.specs.Cases.{Number, Integer, Holds, HoldsOf, Entries, Demands, outcomeOf, Case}
 use Rattle.promises.specs.RuleCases.{KINDS, RESOURCES, SLOTS, ITEMS, CROWDS, ORDER}
 use Rattle.promises.specs.CallCases.{ENTRIES, CALLS}
+use Rattle.promises.specs.RefusalCases.{LENGTHS, KEYS, FIELDS, SIZES, IDS, RANGES, DRONES, NUMBERS, BUFFERS, FIRSTS, LARGE, ZEROS}
 
 -- ---- skills
--- the names of two skills are known; what the types demand
-abbrev tree : List Base → Catalogue
-tree bases = record {
-  names = map (λ n. record { number = n; id = attribute n }) (requiredSkill1 ∷ requiredSkill1Level ∷ requiredSkill2 ∷ requiredSkill2Level ∷ []);
-  effects = [];
-  types = [];
-  links = [];
-  bases = bases;
-}
-
--- a type's value of a name
-abbrev base : ℕ → ℕ → ℕ → Base
-base type name v = record { type = pos type; attribute = attribute name; value = ofNat v }
-
 -- skills 1 and 2 demand each other: 2 at 1, and 1 at 4
 abbrev cycle : Catalogue
 cycle = tree (base 1 requiredSkill1 2 ∷ base 1 requiredSkill1Level 1 ∷ base 2 requiredSkill1 1 ∷ base 2 requiredSkill1Level 4 ∷ [])
@@ -39,10 +28,6 @@ cycle = tree (base 1 requiredSkill1 2 ∷ base 1 requiredSkill1Level 1 ∷ base 
 -- 1 demands 2, that demands 3
 abbrev chain : Catalogue
 chain = tree (base 1 requiredSkill1 2 ∷ base 2 requiredSkill1 3 ∷ [])
-
--- the result demands a skill at a level
-abbrev asks : ℕ → ℕ → Result
-asks id level = result 0 (has requiredSkill1 (ofNat id) ∷ has requiredSkill1Level (ofNat level) ∷ [])
 
 -- the ship, the character and one item ask for skill 1 at 3; skill 1 is trained to a level
 abbrev pilot : ℕ → Fit
@@ -93,6 +78,13 @@ SKILLS =
       Wants (tree []) (result 0 (has requiredSkill1 (ofBits binary64 0xC00599999999999A) ∷ has requiredSkill1Level (ofNat 300) ∷ [])),
       Demands ((negsuc 1, 255) ∷ []),
     )
+    -- ids beyond 16 bits, and beyond both ends of i32
+    ∷ (Wants (tree []) (asks 65538 1), Demands ((pos 65538, 1) ∷ []))
+    ∷ (Wants (tree []) (asks 4294967298 1), Demands ((pos 2147483647, 1) ∷ []))
+    ∷ (
+      Wants (tree []) (result 0 (has requiredSkill1 (ofInt binary64 (negsuc 4294967297)) ∷ has requiredSkill1Level (ofNat 1) ∷ [])),
+      Demands ((negsuc 2147483647, 1) ∷ []),
+    )
     -- the first base in stored order counts
     ∷ (Wants (tree (base 1 requiredSkill1 2 ∷ base 1 requiredSkill1 3 ∷ [])) (asks 1 1), Demands ((pos 1, 1) ∷ (pos 2, 0) ∷ []))
     -- three skills are more than two
@@ -105,9 +97,15 @@ SKILLS =
     ∷ (Skilled (tree []) (pilot 3) 0, Entries [])
     ∷ []
 
-abbrev pub EDGES : List Case
-EDGES = STARRED ++ SKILLS ++ KINDS ++ RESOURCES ++ SLOTS ++ ITEMS ++ CROWDS ++ ORDER ++ ENTRIES ++ CALLS
+-- ---- the table: the parts one after the other
+abbrev pub PARTS : List (List Case)
+PARTS =
+    STARRED ∷ SKILLS ∷ KINDS ∷ RESOURCES ∷ SLOTS ∷ ITEMS ∷ CROWDS ∷ ORDER ∷ ENTRIES ∷ CALLS
+    ∷ LENGTHS ∷ KEYS ∷ FIELDS ∷ SIZES ∷ IDS ∷ RANGES ∷ DRONES ∷ NUMBERS ∷ BUFFERS ∷ FIRSTS ∷ LARGE ∷ ZEROS ∷ []
 
--- the definitions give every outcome of a table
+abbrev pub EDGES : List Case
+EDGES = each PARTS λ part. part
+
+-- the definitions give every outcome of some cases
 abbrev pub Agree : List Case → Type 0
 Agree cases = map (λ x. outcomeOf (x .0)) cases ≡ map (λ x. x .1) cases

@@ -2,6 +2,8 @@
 pub mod Promises
 pub mod Answers
 pub mod Compare
+pub mod GrownCase
+pub mod KeptCases
 pub mod Walks
 pub mod Halls
 pub mod Names
@@ -9,3 +11,4 @@ pub mod Edges
 pub mod Cases
 pub mod RuleCases
 pub mod CallCases
+pub mod RefusalCases

@@ -1,21 +1,24 @@
 -- Every promise, whole, with no proof in it; `proofs/Promised.antt` has the theorem. The calls are `listCall`, `skillCall` and `hallCall` of
 -- fitcheck/specs, functions of bytes, and the exported functions are proved equal to them: the word by `returned`, `hallReturned`, the
--- buffer by `buffered`. Read `Answers`, `Compare`, `Walks`, `Halls`, `Edges` beside this file, and validate/specs for the list.
+-- buffer by `buffered`. Read `Answers`, `Compare`, `GrownCase`, `KeptCases`, `Walks`, `Halls`, `Edges` beside this file, and
+-- validate/specs for the list.
 use Prim.Native.Nat.{ℕ, _≤_}
 use mathlib.Core.Path.{_≡_}
 use mathlib.Core.List.{List, map}
 use mathlib.Core.Logic.{_↔_}
 use lib.Dec.{T}
-use lib.ListN.{length}
+use lib.ListN.{length, getD}
 use Rattle.words.specs.Words.{from}
 use Rattle.catalogue.specs.Catalogue.{Catalogue, catalogueOf}
-use Rattle.fit.specs.Fit.{Result, fitOf}
+use Rattle.fit.specs.Fit.{Item, Result, Fit, fitOf}
 use Rattle.validate.specs.Validate.{listOf}
 use Rattle.skill.specs.Skill.{tooMany, skillList}
 use Rattle.fitcheck.specs.Calls.{listCall, skillCall}
 use Rattle.fitcheck.specs.Hall.{hallCall, hallReturned}
 use Rattle.promises.specs.Answers.{Outcome, outcome, refusal, catalogueConditions, listConditions, skillConditions, None, Answers}
 use Rattle.promises.specs.Compare.{Bytes, Grown, AddedVolumes, Kept}
+use Rattle.promises.specs.GrownCase.{grownBy, Example}
+use Rattle.promises.specs.KeptCases.{Tables}
 use Rattle.promises.specs.Walks.{MoreWanted, SkillsOf}
 use Rattle.promises.specs.Halls.{HallAnswers, Judged}
 use Rattle.promises.specs.Names.{numbered, nameNumbers}
@@ -65,6 +68,14 @@ SkillKept = (catalogue old new oldBuffer newBuffer : List ℕ) (result : ℕ)
     → refusal (skillOutcome catalogue new result newBuffer) ≡ 0
     → Kept (skillOutcome catalogue old result oldBuffer) (skillOutcome catalogue new result newBuffer)
 
+-- The premises leave nothing out: a fit with as many results as items has grown by any items and any results behind its own, none and
+-- unequal numbers included, and by any levels that are no higher. `Example` has two images that meet them all.
+abbrev pub AnyGrowth : Type 0
+AnyGrowth = (old : Fit) (levels : List ℕ) (items : List Item) (results : List Result)
+    → length (old .items) ≡ length (old .results)
+    → ((i : ℕ) → getD levels i 0 ≤ getD (old .levels) i 0)
+    → Grown old (grownBy old levels items results)
+
 -- The walk. An answered skill call is about a result that wants at most 512 skills. Its walk lists the wanted skills and no other, each
 -- once, in the order met, at the highest level demanded; an entry is made of each that is trained below that.
 abbrev pub SkillLists : Type 0
@@ -88,8 +99,9 @@ HallFits = (catalogue fit buffer : List ℕ) → None (catalogueConditions catal
 abbrev pub Names : Type 0
 Names = (map (λ n. n .0) numbered ≡ map (λ n. n .1) numbered) × (nameNumbers ≡ from 0 88)
 
--- Every edge of the table comes out as written there: the starred edges of document 01, and for every rule an input where it is listed and
--- one where it is not. The other promises would survive a comparison turned round in a rule; this one does not.
+-- Every edge of the table comes out as written there: the starred edges of document 01, for every rule an input where it is listed and one
+-- where it is not, and for every part of a refusal one where it holds and one where it does not. The other promises would survive a
+-- comparison turned round in a rule; this one does not.
 abbrev pub Edges : Type 0
 Edges = Agree EDGES
 
@@ -100,6 +112,10 @@ pub record Promises : Type 0 where
   pub skill-room : SkillRoom
   pub list-kept : ListKept
   pub skill-kept : SkillKept
+  pub any-growth : AnyGrowth
+  pub example : Example
+  -- old and new lists in bytes, kept and not kept: `list-kept` alone would survive a claim that lets more bytes change
+  pub tables : Tables
   pub skill-lists : SkillLists
   pub too-many : TooMany
   pub hall-call : HallCall

@@ -2,16 +2,16 @@
 -- Slots: 0 High, 1 Medium, 2 Low, 3 Rig, 4 Subsystem, 5 Service, 6 FighterTube, 7 FighterBay, 8 Implant, 9 Booster, 10 DroneBay, 11 Cargo.
 use Prim.Native.Nat.{ℕ, _+_}
 use mathlib.Core.Bool.{true, false}
-use mathlib.Core.List.{List, [], _∷_, map}
+use mathlib.Core.List.{List, [], _∷_, _++_, map}
 use lib.IntN.{pos, negsuc}
-use lib.Ieee.{Float, nan, fin}
+use lib.Ieee.{Float, nan, inf, fin, binary32, binary64, ofBits}
 use Rattle.words.specs.Words.{each, from}
 use Rattle.numbers.specs.Names.{cpuLoad, maxActiveDrones, capacity, hiSlots, turretSlotsLeft, launcherSlotsLeft, implantness, boosterness}
 use Rattle.numbers.specs.Names.{subSystemSlot, rigSize, fitsToShipType, canFitShipType12, canFitShipGroup01, canFitShipGroup20, volume}
 use Rattle.numbers.specs.Names.{isCapitalSize, fighterSquadronIsStandupLight, fighterSquadronIsStandupSupport}
 use Rattle.numbers.specs.Names.{fighterSquadronIsStandupHeavy, maxGroupFitted, maxGroupOnline, maxGroupActive, maxTypeFitted}
-use Rattle.floats.specs.Floats.{ofNat}
-use Rattle.catalogue.specs.Catalogue.{Id}
+use Rattle.floats.specs.Floats.{zeroF, ofNat}
+use Rattle.catalogue.specs.Catalogue.{Id, Catalogue}
 use Rattle.fit.specs.Fit.{Attribute, Fit}
 use Rattle.entry.specs.declared.Entry.{Entry}
 use Rattle.entry.specs.declared.Rule.the-variants.{Resource, Slots, WrongSlot, NotAModule, NotADrone, NotAFighter, NotAnImplant, SlotTaken}
@@ -20,7 +20,7 @@ use Rattle.entry.specs.declared.Rule.the-variants.{ShipItem, MaxGroup, MaxType,
 use Rattle.entry.specs.Entries.{onShip, onItem}
 use Rattle.promises.specs.Cases.{ship, structure, gun, plate, shield, relay, turret, launcher, part, standupGun, rifle, hybrid, drone, squadron}
 use Rattle.promises.specs.Cases.{hardwiring, stance, gunnery, ore, ghost, vast, parcel, unknown, known, has, result, Thing, stack, one, fitWith}
-use Rattle.promises.specs.Cases.{fit, Fitted, Entries, Case}
+use Rattle.promises.specs.Cases.{fit, Unsigned, Signed, Over, Fitted, Number, Integer, Holds, Entries, Case}
 
 -- n halves, n being odd
 abbrev halves : ℕ → Float
@@ -74,6 +74,7 @@ KINDS =
     ∷ lists [] (kinds 1 gun []) (onShip NotAMode ∷ [])
     ∷ lists [] (kinds 1 unknown []) (onShip NotAMode ∷ [])
     ∷ lists [] (kinds 0 (pos 0) []) []
+    ∷ lists [] (kinds 1 (pos 0) []) (onShip NotAMode ∷ [])
     -- `is_skill`: category 16; behind the mode, by ascending id
     ∷ lists [] (kinds 1 gun (negsuc 4 ∷ gun ∷ gunnery ∷ [])) (onShip NotAMode ∷ onShip (NotASkill (negsuc 4)) ∷ onShip (NotASkill gun) ∷ [])
     -- an item without a result is no pair
@@ -91,6 +92,29 @@ drones = stack 3 drone 10 0 2 [] ∷ stack 100 drone 10 0 1 [] ∷ stack 2 drone
 abbrev hold : List Thing
 hold = stack 3 ore 11 0 0 [] ∷ stack 9 ghost 11 0 0 [] ∷ stack 9 unknown 11 0 0 [] ∷ []
 
+-- two stacks in the hold of a ship, each of a type of its own with a volume
+abbrev hauled : Float → Float → Catalogue
+hauled a b = record {
+  names = known (capacity ∷ []) .names;
+  effects = [];
+  types =
+      record { id = ship; group = pos 25; category = pos 6; volumeFlag = 0; volume = zeroF }
+      ∷ record { id = pos 2; group = pos 450; category = pos 25; volumeFlag = 1; volume = a }
+      ∷ record { id = pos 3; group = pos 450; category = pos 25; volumeFlag = 1; volume = b } ∷ [];
+  links = [];
+  bases = [];
+}
+
+-- a stack in the hold, and no result
+abbrev unloaded : Fit
+unloaded = record {
+  frame = record { ship = ship; modeFlag = 0; mode = pos 0; shipResult = result 0 []; characterResult = result 0 [] };
+  skills = [];
+  levels = [];
+  items = stack 3 ore 11 0 0 [] .0 ∷ [];
+  results = [];
+}
+
 abbrev uses : ℕ → ℕ → ℕ → Entry
 uses kind used available = onShip (Resource kind (ofNat used) (ofNat available))
 
@@ -107,14 +131,31 @@ RESOURCES =
     ∷ lists (maxActiveDrones ∷ []) (fitWith ship (has maxActiveDrones (ofNat 100) ∷ []) (has maxActiveDrones (ofNat 4) ∷ []) drones) (uses 5 5 4 ∷ [])
     ∷ lists (maxActiveDrones ∷ []) (fitWith ship [] (has maxActiveDrones (ofNat 5) ∷ []) drones) []
     ∷ lists [] (fit ship [] drones) []
+    -- a squadron in a tube is no drone
+    ∷ lists (maxActiveDrones ∷ []) (fit ship [] (alone (stack 3 squadron 6 0 2 []))) []
     -- `cargo`: volume times quantity, of the hold alone; no volume is 0
     ∷ lists (capacity ∷ []) (fit ship (has capacity (ofNat 7) ∷ []) hold) (onShip (Resource 11 (halves 15) (ofNat 7)) ∷ [])
     ∷ lists (capacity ∷ []) (fit ship (has capacity (halves 15) ∷ []) hold) []
     ∷ lists (capacity ∷ []) (fit ship [] (alone (one ore 0 0 []))) (onItem 0 NotAModule ∷ [])
     ∷ lists [] (fit ship [] hold) []
+    ∷ lists (capacity ∷ []) unloaded []
     -- summed in the items' order: each 1 is lost behind 2 ^ 53, and would not be before it
     ∷ lists (capacity ∷ []) (fit ship [] (one vast 11 0 [] ∷ one parcel 11 0 [] ∷ one parcel 11 0 [] ∷ [])) (onShip (Resource 11 (fin false 1 (pos 53)) (ofNat 0)) ∷ [])
     ∷ lists (capacity ∷ []) (fit ship [] (one parcel 11 0 [] ∷ one parcel 11 0 [] ∷ one vast 11 0 [] ∷ [])) (onShip (Resource 11 (fin false 4503599627370497 (pos 1)) (ofNat 0)) ∷ [])
+    -- product and sum are rounded each for itself: together they would give one less in the last bit
+    ∷ (
+      Fitted (hauled (ofBits binary32 0x3C2C5998) (ofBits binary32 0x3DA649C1))
+          (fit ship [] (stack 2755385480 (pos 2) 11 0 0 [] ∷ stack 3520945500 (pos 3) 11 0 0 [] ∷ [])),
+      Entries (onShip (Resource 11 (ofBits binary64 0x41B2C486DB5A132F) (ofNat 0)) ∷ []),
+    )
+    -- `over`: so is its limit; with one rounding the first would not be over, with it or with 1e-9 as an f32 the second would be
+    ∷ (Over (ofBits binary64 0x40882C9BA8EE64DF) (ofBits binary64 0x40882C9BA8869100), Holds true)
+    ∷ (Over (ofBits binary64 0x408E7AEB57B31E48) (ofBits binary64 0x408E7AEB573034FF), Holds false)
+    -- a NaN is never over, nor is anything over it; infinity is over any number but itself
+    ∷ (Over nan (ofNat 5), Holds false)
+    ∷ (Over (ofNat 5) nan, Holds false)
+    ∷ (Over (inf false) (ofNat 5), Holds true)
+    ∷ (Over (inf false) (inf false), Holds false)
     ∷ []
 
 -- ---- slot.rs
@@ -132,6 +173,20 @@ weapons = one turret 0 0 [] ∷ one turret 0 1 [] ∷ one launcher 0 2 [] ∷ on
 -- a part of the ship that a subsystem covers
 abbrev covers : ℕ → ℕ → Float → Thing
 covers slot index v = one part slot index (has subSystemSlot v ∷ [])
+
+-- the gun has an effect with a mark
+abbrev marked : ℕ → Catalogue
+marked mark = record {
+  names = [];
+  effects = known [] .effects;
+  types = known [] .types;
+  links = record { type = gun; effect = pos (200 + mark) } ∷ [];
+  bases = [];
+}
+
+-- the gun in a rack, where that is another one than its mark says
+abbrev misplaced : (mark slot expected : ℕ) → Case
+misplaced mark slot expected = (Fitted (marked mark) (fit ship [] (alone (one gun slot 0 []))), Entries (onItem 0 (WrongSlot expected) ∷ []))
 
 abbrev pub SLOTS : List Case
 SLOTS =
@@ -154,6 +209,16 @@ SLOTS =
     ∷ lists [] (fit ship [] (alone (one shield 11 0 []))) []
     ∷ lists [] (fit ship [] (alone (one relay 0 0 []))) (onItem 0 (WrongSlot 2) ∷ [])
     ∷ lists [] (fit ship [] (alone (one relay 2 0 []))) []
+    -- each mark of a rack is that of its own; 0, 7 and 8 are of none
+    ∷ misplaced 1 5 0
+    ∷ misplaced 2 0 1
+    ∷ misplaced 3 1 2
+    ∷ misplaced 4 2 3
+    ∷ misplaced 5 3 4
+    ∷ misplaced 6 4 5
+    ∷ (Fitted (marked 0) (fit ship [] (alone (one gun 5 0 []))), Entries [])
+    ∷ (Fitted (marked 7) (fit ship [] (alone (one gun 5 0 []))), Entries [])
+    ∷ (Fitted (marked 8) (fit ship [] (alone (one gun 5 0 []))), Entries [])
     -- NotAModule: categories 7, 32 and 66 are modules
     ∷ lists [] (fit ship [] (pair (one drone 5 0 []) (one unknown 0 0 []))) (onItem 0 NotAModule ∷ onItem 1 NotAModule ∷ [])
     ∷ lists [] (fit ship [] (pair (one gun 0 0 []) (one part 4 0 []))) []
@@ -220,6 +285,9 @@ ITEMS =
     ∷ lists (rigSize ∷ []) (fit ship (has rigSize (ofNat 1) ∷ []) (rigged (halves 3))) (onItem 0 (RigSize 1 1) ∷ [])
     ∷ lists (rigSize ∷ []) (fit ship (has rigSize (ofNat 1) ∷ []) (rigged nan)) (onItem 0 (RigSize 1 0) ∷ [])
     ∷ lists (rigSize ∷ []) (fit ship (has rigSize (ofNat 1) ∷ []) (rigged (ofNat 1))) []
+    -- over 255 it is shown as 255, below 0 as 0
+    ∷ lists (rigSize ∷ []) (fit ship (has rigSize (ofNat 257) ∷ []) (rigged (ofNat 258))) (onItem 0 (RigSize 255 255) ∷ [])
+    ∷ lists (rigSize ∷ []) (fit ship (has rigSize (inf false) ∷ []) (rigged (fin true 1 (pos 0)))) (onItem 0 (RigSize 255 0) ∷ [])
     ∷ lists (rigSize ∷ []) (fit ship [] (rigged (ofNat 2))) []
     ∷ lists (rigSize ∷ []) (fit ship (has rigSize (ofNat 1) ∷ []) (alone (one gun 3 0 []))) []
     ∷ lists (rigSize ∷ []) (fit ship (has rigSize (ofNat 1) ∷ []) (high (has rigSize (ofNat 2) ∷ []))) []
@@ -234,6 +302,9 @@ ITEMS =
     -- a listed 0 and a negative one are listed; -1.5 is cast to -1
     ∷ lists (from fitsToShipType 33) (fit ship [] (high (has fitsToShipType (ofNat 0) ∷ []))) (onItem 0 ShipRestricted ∷ [])
     ∷ lists (from fitsToShipType 33) (fit ship [] (high (has canFitShipGroup01 (fin true 3 (negsuc 0)) ∷ []))) (onItem 0 ShipRestricted ∷ [])
+    -- so is a NaN, as 0; 2 ^ 32 + 1 is cast to 2 ^ 31 - 1 and not to 1, the ship
+    ∷ lists (from fitsToShipType 33) (fit ship [] (high (has fitsToShipType nan ∷ []))) (onItem 0 ShipRestricted ∷ [])
+    ∷ lists (from fitsToShipType 33) (fit ship [] (high (has fitsToShipType (ofNat 4294967297) ∷ []))) (onItem 0 ShipRestricted ∷ [])
     ∷ lists (from fitsToShipType 33) (fit ship [] (alone (one gun 11 0 (has fitsToShipType (ofNat 7) ∷ [])))) []
     ∷ lists [] (fit ship [] (high (has fitsToShipType (ofNat 7) ∷ []))) []
     -- CapitalItem: not on a capital or a structure, not a rig, not in the hold
@@ -296,20 +367,62 @@ ITEMS =
     ∷ lists [] (fit ship [] (alone (inState 0 1 (has maxTypeFitted (ofNat 0) ∷ [])))) []
     ∷ []
 
--- ---- 256 pairs: amounts that 8 bits do not hold
--- as many guns in High slots as a fit can have pairs; the first has these attributes
-abbrev crowd : List Attribute → List Thing
-crowd attributes = one gun 0 0 attributes ∷ map (λ i. one gun 0 i []) (from 1 255)
+-- ---- the widths of amounts
+-- a gun with limits of its group and its type, in one of as many slots; behind it so many others in the same slot
+abbrev crowded : ℕ → Float → Fit
+crowded others v =
+    fit ship (has hiSlots v ∷ [])
+    (one gun 0 0 (has maxGroupFitted v ∷ has maxTypeFitted v ∷ []) ∷ map (λ _. one gun 0 0 []) (from 0 others))
 
--- the ship's slots, and the first gun's limits of its group and its type
-abbrev crowded : Float → Fit
-crowded v = fit ship (has hiSlots v ∷ []) (crowd (has maxGroupFitted v ∷ has maxTypeFitted v ∷ []))
+-- one gun alone, where an amount is too small for it: shown as 0
+abbrev allowsNone : Float → Case
+allowsNone v =
+    lists (hiSlots ∷ maxGroupFitted ∷ maxTypeFitted ∷ []) (crowded 0 v)
+    (onShip (Slots 0 1 0) ∷ onItem 0 (MaxGroup (pos 50) 0 1 0) ∷ onItem 0 (MaxType gun 1 0) ∷ [])
+
+-- where it is large enough
+abbrev allowsOne : Float → Case
+allowsOne v = lists (hiSlots ∷ maxGroupFitted ∷ maxTypeFitted ∷ []) (crowded 0 v) []
+
+-- each of 256 pairs shares its slot
+abbrev crammed : List Entry
+crammed = map (λ i. onItem i SlotTaken) (from 0 256)
 
 abbrev pub CROWDS : List Case
 CROWDS =
-    lists (hiSlots ∷ maxGroupFitted ∷ maxTypeFitted ∷ []) (crowded (ofNat 256)) []
-    ∷ lists (hiSlots ∷ maxGroupFitted ∷ maxTypeFitted ∷ []) (crowded (ofNat 255))
-    (onShip (Slots 0 256 255) ∷ onItem 0 (MaxGroup (pos 50) 0 256 255) ∷ onItem 0 (MaxType gun 256 255) ∷ [])
+    -- 256 pairs, which 8 bits do not count
+    lists (hiSlots ∷ maxGroupFitted ∷ maxTypeFitted ∷ []) (crowded 255 (ofNat 256)) crammed
+    ∷ lists (hiSlots ∷ maxGroupFitted ∷ maxTypeFitted ∷ []) (crowded 255 (ofNat 255))
+    (onShip (Slots 0 256 255) ∷ crammed ++ (onItem 0 (MaxGroup (pos 50) 0 256 255) ∷ onItem 0 (MaxType gun 256 255) ∷ []))
+    -- amounts whose lowest 8, 16 and 32 bits are 0, and the ends of u32
+    ∷ allowsOne (ofNat 256)
+    ∷ allowsOne (ofNat 65536)
+    ∷ allowsOne (ofNat 4294967295)
+    ∷ allowsOne (ofNat 4294967296)
+    ∷ allowsOne (inf false)
+    -- truncated, stopped at 0, a NaN as 0
+    ∷ allowsNone (halves 1)
+    ∷ allowsNone (fin true 1 (pos 0))
+    ∷ allowsNone (inf true)
+    ∷ allowsNone nan
+    -- the ends of each width
+    ∷ (Unsigned 8 (ofNat 255), Number 255)
+    ∷ (Unsigned 16 (ofNat 65535), Number 65535)
+    ∷ (Unsigned 16 (halves 131071), Number 65535)
+    ∷ (Unsigned 16 (ofNat 65536), Number 65535)
+    ∷ (Unsigned 16 nan, Number 0)
+    ∷ (Unsigned 32 (ofNat 4294967295), Number 4294967295)
+    ∷ (Unsigned 32 (ofNat 4294967296), Number 4294967295)
+    ∷ (Unsigned 32 (inf false), Number 4294967295)
+    ∷ (Unsigned 32 (inf true), Number 0)
+    ∷ (Unsigned 32 nan, Number 0)
+    ∷ (Signed (ofNat 2147483647), Integer (pos 2147483647))
+    ∷ (Signed (ofNat 2147483648), Integer (pos 2147483647))
+    ∷ (Signed (fin true 1 (pos 31)), Integer (negsuc 2147483647))
+    ∷ (Signed (fin true 2147483649 (pos 0)), Integer (negsuc 2147483647))
+    ∷ (Signed (inf true), Integer (negsuc 2147483647))
+    ∷ (Signed (inf false), Integer (pos 2147483647))
+    ∷ (Signed nan, Integer (pos 0))
     ∷ []
 
 -- ---- all at once: the order of `validate`, of its files and of the eight slot checks

@@ -191,10 +191,13 @@ fn launched_at(fit: &[u8], i: usize) -> u64
     fit::item_quantity(fit, i) as u64
 }
 
-// How many drones are in space, rather than how much room they take up. 256 stacks of the largest quantity do not wrap.
-pub fn launched(fit: &[u8]) -> u64
+// How many drones are in space, rather than how much room they take up, and how many there may be. 256 stacks of the largest
+// quantity do not wrap.
+pub fn drones_load(fit: &[u8], available: f64) -> Load
     requires { ⌜ Fit.Sound (now fit) ⌝ }
-    ensures { λ r. ⌜ ((catalogue : List ℕ) → r ≡ launched (pairsOf catalogue (now (fit .entry)))) ⌝ }
+    ensures { λ r. ⌜
+        ((catalogue : List ℕ) → r .used ≡ ofNat (launched (pairsOf catalogue (now (fit .entry)))))
+        × (r .available ≡ available) ⌝ }
 {
     let n = fit::pair_count(fit);
     let mut sum: u64 = 0;
@@ -203,19 +206,9 @@ pub fn launched(fit: &[u8]) -> u64
         sum += launched_at(fit, i);
         i += 1;
     }
-    sum
-}
-
-// The drones in space and how many the character can lead.
-fn drones_load(fit: &[u8], facts: &[u32; 1797], limit: i32) -> Load
-    requires { ⌜ Fit.Sound (now fit) × Fit.Starts (now fit) (now facts) ⌝ }
-    ensures { λ r. ⌜
-        ((catalogue : List ℕ) → r .used ≡ ofNat (launched (pairsOf catalogue (now (fit .entry)))))
-        × (r .available ≡ amount (resultOf (now (fit .entry)) 1) limit) ⌝ }
-{
     Load {
-        used: std::num::nearest_u64_to_f64(launched(fit)),
-        available: fit::amount(fit, facts, 1, limit),
+        used: std::num::nearest_u64_to_f64(sum),
+        available,
     }
 }
 
@@ -236,7 +229,7 @@ fn launched_drones(
     match max_active {
         AttributeId::Known(id) => resource(
             resources::LAUNCHED_DRONES,
-            drones_load(fit, facts, id),
+            drones_load(fit, fit::amount(fit, facts, 1, id)),
             out,
             n,
         ),

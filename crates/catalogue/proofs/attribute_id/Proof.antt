@@ -1,7 +1,7 @@
 -- `catalogue::attribute_id` meets its contract: the id behind the number that is found; no number is over 87.
 use mathlib.Core.Path.{_≡_, _∙_, sym, ap}
 use mathlib.Core.Option.{Option, none, some}
-use Prim.Native.Nat.{ℕ, _+_, _*_}
+use Prim.Native.Nat.{ℕ, _+_, _*_, _<_}
 use native.Mathlib.Omega.{arith}
 use lib.IntN.{pos}
 use mir.Syntax.{w32}
@@ -46,14 +46,19 @@ find-key-requires c κs =
 id-at-requires : tie.Need-id-at-requires
 id-at-requires c κs =
     let f = c .before .before .before .before in
-    (f .before .before .before .before .before .pre .size, find-below _ _ _ (sym (found f) ∙ ap foundOf (c .before .found .given .1)))
+    let e = f .before .before .names .ensures in
+    let i = c .before .found .given .0 .0 in
+    let below : i < nameCount (f .before .before .before .before .before .args .catalogue .now) =
+    find-below _ _ _ (sym (found f) ∙ ap foundOf (c .before .found .given .1)) in
+    (omega (arith, e, f .before .before .before .before .before .pre .size), omega (arith, e, below))
 
 returns-2 : tie.Need-returns-2
 unfolding given
 returns-2 c =
     let f = c .before .before .before .before .before in
-    ap (λ (z : Id). some z) (toZ-ofZ w32 (c .id-at .result) (record { sfits = c .id-at .ok }) ∙ c .id-at .ensures) ∙ answer f _
-    (ap foundOf (c .before .before .found .given .1))
+    let e = f .before .before .names .ensures in
+    ap (λ (z : Id). some z) (toZ-ofZ w32 (c .id-at .result) (record { sfits = c .id-at .ok }) ∙ c .id-at .ensures ∙ rw (e .0, e .1))
+    ∙ answer f _ (ap foundOf (c .before .before .found .given .1))
 
 returns-3 : tie.Need-returns-3
 unfolding given

@@ -7,18 +7,9 @@ use Rattle.catalogue.proofs.id_at.Statement.{statement}
 use Rattle.catalogue.proofs.id_at.Tie as tie
 
 returns : tie.Need-returns
-returns c =
-    let e = c .before .before .before .names .ensures in
-    toZ-ofZ w32 (c .i32-at .result) (record { sfits = c .i32-at .ok }) ∙ c .i32-at .ensures ∙ rw (e .0, e .1)
+returns c = toZ-ofZ w32 (c .i32-at .result) (record { sfits = c .i32-at .ok }) ∙ c .i32-at .ensures
 
 pub id-at-spec : {M : Type 1} → statement M
 id-at-spec =
     tie.close
-    (tie.spec
-    (λ c κs. search needs)
-    (λ c. search needs)
-    (λ c. search needs)
-    (λ c. search needs)
-    (λ c. search needs)
-    (λ c κs. search needs)
-    returns)
+    (tie.spec (λ c. search needs) (λ c. search needs) (λ c. search needs) (λ c. search needs) (λ c κs. search needs) returns)

@@ -1,4 +1,5 @@
 -- `catalogue::with_link` meets its contract: the mark of the link's effect, where the effect is there.
+use native.Mathlib.Omega.{arith}
 use mathlib.Core.Path.{_≡_, _∙_, refl, sym, ap}
 use mir.Syntax.{w32}
 use mir.ValLaws.{toZ-ofZ}
@@ -11,15 +12,20 @@ use Rattle.catalogue.proofs.with_link.Statement.{statement}
 use Rattle.catalogue.proofs.with_link.Tie as tie
 
 -- what the lookup of the link's effect says
-told : (c : tie.After-effect-mark) → let a = c .before .before .before .before .before .args in markOf (c .effect-mark .result) ≡ effectMark
+told : (c : tie.After-effect-mark) → let a = c .before .before .before .before .before .before .args in markOf (c .effect-mark .result) ≡ effectMark
     (catalogueOf (a .catalogue .now)) (linkAt (a .catalogue .now) (a .i) .effect)
 told c =
-    let a = c .before .before .before .before .before .args in
+    let a = c .before .before .before .before .before .before .args in
+    let i = c .before .before .id-at in
+    let e = c .before .before .before .links .ensures in
     c .effect-mark .ensures
-    ∙ ap (effectMark (catalogueOf (a .catalogue .now))) (toZ-ofZ w32 (c .before .before .effect-at .result) (record {
-      sfits =
-          c .before .before .effect-at .ok;
-    }) ∙ c .before .before .effect-at .ensures)
+    ∙ ap (effectMark (catalogueOf (a .catalogue .now))) (toZ-ofZ w32 (i .result) (record { sfits = i .ok }) ∙ i .ensures ∙ rw (e .0, e .1))
+
+id-at-requires : tie.Need-id-at-requires
+id-at-requires c κs =
+    let p = c .before .before .before .pre in
+    let e = c .links .ensures in
+    (omega (arith, e, p .0 .size), omega (arith, e, p .1))
 
 returns : tie.Need-returns
 unfolding _>>=_
@@ -38,6 +44,7 @@ with-link-spec =
     tie.close
     (tie.spec
     (λ c κs. search needs)
+    id-at-requires
     (λ c κs. search needs)
     (λ c. search needs)
     (λ c κs. search needs)

@@ -1,11 +1,15 @@
 -- `item::is_capital_item` meets its contract, test by test.
-use mathlib.Core.Path.{sym, ap, _∙_}
+use mathlib.Core.Path.{_≡_, sym, ap, _∙_}
+use mathlib.Core.Bool.{true}
 use Prim.Native.Nat.{_+_}
 use lib.Ieee.{Float, ofBits, ofInt, lt}
 use mir.Syntax.{w32}
 use mir.ValLaws.{toZ-ofZ}
+use Rattle.numbers.specs.Slots as Slots
 use Rattle.fit.specs.Fit.{resultOf}
 use Rattle.fit.specs.Lookups.{amount}
+use Rattle.context.specs.Context.{isIn}
+use Rattle.context.specs.Gathered.{pairAt}
 use borrow.Author.Tests.{not-true, not-false}
 use borrow.Author.Needs.{needs}
 use Rattle.item.specs.Item.{CAPITAL-VOLUME, isCapitalItem}
@@ -18,12 +22,10 @@ returns c = λ catalogue. rw (sym (c .before .is-fitted-at .ensures catalogue) �
 
 returns-2 : tie.Need-returns-2
 unfolding isCapitalItem
-returns-2 c =
-    λ catalogue. rw (
-      sym (c .before .before .before .is-fitted-at .ensures catalogue) ∙ not-false _ (c .before .before .if1 .left),
-      sym
-          (c .before .is-in .ensures catalogue) ∙ c .if2 .taken,
-    )
+returns-2 c = λ catalogue.
+    let a = c .before .before .before .before .before .args in
+    let rig : isIn Slots.rig (pairAt catalogue (a .fit .now) (a .i)) ≡ true = sym (c .before .is-in .ensures catalogue) ∙ c .if2 .taken in
+    rw (sym (c .before .before .before .is-fitted-at .ensures catalogue) ∙ not-false _ (c .before .before .if1 .left), rig)
 
 returns-3 : tie.Need-returns-3
 unfolding isCapitalItem ofBits ofInt

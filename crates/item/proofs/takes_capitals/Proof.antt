@@ -1,5 +1,6 @@
 -- `item::takes_capitals` meets its contract: two tests.
 use mathlib.Core.Path.{_≡_, sym, ap, _∙_}
+use mathlib.Core.Bool.{true}
 use lib.Ieee.{Float, ne, ofBits}
 use mir.Syntax.{w32}
 use mir.ValLaws.{toZ-ofZ}
@@ -22,7 +23,7 @@ told c =
 
 returns : tie.Need-returns
 unfolding ofBits contextOf context fitOf
-returns c = rw (sym (told (c .before)) ∙ c .if1 .taken)
+returns c = let capital : ne (c .before .amount .result) zeroF ≡ true = c .if1 .taken in rw (sym (told (c .before)) ∙ capital)
 
 returns-2 : tie.Need-returns-2
 unfolding ofBits contextOf context fitOf

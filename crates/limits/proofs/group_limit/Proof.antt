@@ -17,7 +17,7 @@ use Rattle.context.specs.Gathered.{contextOf, pairsOf}
 use Rattle.context.proofs.Loops.{Passed, passed-none, passed-more, passed-all}
 use Rattle.limits.specs.declared.Row.{Row}
 use Rattle.limits.specs.Limits.{rowAt, groupLimitAt}
-use Rattle.limits.proofs.Limits.{row-is, group-few, group-no-name, group-each}
+use Rattle.limits.proofs.Limits.{codeRow, row-is, group-few, group-no-name, group-each}
 use Rattle.limits.proofs.group_limit.Statement.{statement}
 use Rattle.limits.proofs.group_limit.Tie as tie
 
@@ -34,8 +34,10 @@ named : (h : tie.After-pair-count Inv-loop μ-loop) → let a = h .before .befor
 named h =
     let m = h .before .before in
     let a = m .before .before .before .before .before .before .before .args in
+    let answer = m .before .before .attribute-id in
+    let looked : idOf (answer .result) ≡ nameId (catalogueOf (a .catalogue .now) .names) (codeRow (a .k) .name) = answer .ensures in
     ap (λ (r : Row). nameId (catalogueOf (a .catalogue .now) .names) (r .name)) (sym (row-is (a .k)))
-    ∙ sym (m .before .before .attribute-id .ensures) ∙ ap idOf (m .answer .given .1)
+    ∙ sym looked ∙ ap idOf (m .answer .given .1)
     ∙ ap some (sym (toZ-ofZ w32 (m .answer .given .0 .0) (record { sfits = h .before .known-told .given .0 .1 })))
 
 returns : tie.Need-returns Inv-loop μ-loop

@@ -5,9 +5,10 @@ use lib.ListN.{take}
 use borrow.Author.Needs.{needs}
 use Rattle.words.specs.Words.{each}
 use Rattle.entry.specs.Wrote.{Wrote}
-use Rattle.entry.proofs.Wrote.{wrote-length, wrote-each-none, wrote-each-next, wrote-each-all}
+use Rattle.entry.proofs.Wrote.{wrote-same, wrote-length, wrote-each-none, wrote-each-next, wrote-each-all}
 use Rattle.context.specs.Gathered.{contextOf, pairsOf}
-use Rattle.limits.specs.Limits.{GROUP-LIMITS, groupLimit, groupLimits}
+use Rattle.limits.specs.Limits.{GROUP-LIMITS, groupLimit}
+use Rattle.limits.proofs.Limits.{by-limit}
 use Rattle.limits.proofs.group_limits.Statement.{statement}
 use Rattle.limits.proofs.group_limits.Tie as tie
 
@@ -34,8 +35,9 @@ same-length : tie.Need-same-length Inv-loop μ-loop
 same-length c = wrote-length (c .before .loop .inv .2)
 
 returns : tie.Need-returns Inv-loop μ-loop
-unfolding groupLimits
-returns c = let l = c .before .loop in (wrote-each-all _ GROUP-LIMITS (l .k) (omega arith) (l .inv .2), omega (arith, l .inv .0, l .inv .1))
+returns c =
+    let l = c .before .loop in
+    (wrote-same (by-limit _ _) (wrote-each-all _ GROUP-LIMITS (l .k) (omega arith) (l .inv .2)), omega (arith, l .inv .0, l .inv .1))
 
 pub group-limits-spec : {M : Type 1} → statement M
 group-limits-spec =

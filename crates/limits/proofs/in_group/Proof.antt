@@ -22,9 +22,11 @@ returns c =
     t .same-id .ensures
     ∙ ap₂ same (toZ-ofZ w32 (t .before .group .result) (record { sfits = t .before .group .ok }) ∙ t .before .group .ensures)
     (toZ-ofZ w32 (a .group) (s .fits .group)) in
-    c .both2 .ensures
-    ∙ ap₂ _&&_ (c .before .both .ensures ∙ ap₂ _&&_ (t .before .before .is-fitted-at .ensures (a .catalogue .now)) alike)
-    (ap (leb (a .lowest)) (c .before .before .result-state .ensures))
+    let fitted = t .before .before .is-fitted-at in
+    let state = c .before .before .result-state in
+    let both : c .before .both .result ≡ (fitted .result && t .same-id .result) = c .before .both .ensures in
+    let all : c .both2 .result ≡ (c .before .both .result && leb (a .lowest) (state .result)) = c .both2 .ensures in
+    all ∙ ap₂ _&&_ (both ∙ ap₂ _&&_ (fitted .ensures (a .catalogue .now)) alike) (ap (leb (a .lowest)) (state .ensures))
 
 pub in-group-spec : {M : Type 1} → statement M
 in-group-spec =

@@ -1,11 +1,12 @@
 -- `racks::hardpoint_at` meets its contract: the row and the count.
 use Prim.Native.Nat.{ℕ}
-use mathlib.Core.Path.{ap, _∙_}
+use mathlib.Core.Path.{_≡_, ap, _∙_}
 use borrow.Author.Needs.{needs}
+use Rattle.words.specs.Words.{countOf}
 use Rattle.entry.proofs.Wrote.{wrote-same}
 use Rattle.context.specs.Gathered.{contextOf, pairsOf}
 use Rattle.racks.specs.declared.Row.{Row}
-use Rattle.racks.specs.Racks.{HARDPOINTS, slots, onHardpoint}
+use Rattle.racks.specs.Racks.{HARDPOINTS, slots, takesHardpoint, onHardpoint}
 use Rattle.racks.proofs.Rows.{codeRow, row-is, hardpoint-small}
 use Rattle.racks.proofs.hardpoint_at.Statement.{statement}
 use Rattle.racks.proofs.hardpoint_at.Tie as tie
@@ -20,9 +21,10 @@ returns c =
     let a = u .before .before .before .before .before .args in
     let x = contextOf (a .catalogue .now) (a .fit .now) in
     let ps = pairsOf (a .catalogue .now) (a .fit .now) in
-    let row = codeRow HARDPOINTS (a .i) in (
+    let row = codeRow HARDPOINTS (a .i) in
+    let count : u .on-hardpoint .result ≡ countOf (takesHardpoint (row .slot)) ps = u .on-hardpoint .ensures in (
       wrote-same
-          (ap (λ (used : ℕ). slots x (row .slot) (row .name) used) (u .on-hardpoint .ensures)
+          (ap (λ (used : ℕ). slots x (row .slot) (row .name) used) count
           ∙ ap (λ (r : Row). onHardpoint x ps (r .slot, r .name)) (row-is HARDPOINTS (a .i)))
           (w .0),
       w .1,

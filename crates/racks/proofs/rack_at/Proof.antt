@@ -1,8 +1,10 @@
 -- `racks::rack_at` meets its contract: the row and the count.
 use Prim.Native.Nat.{ℕ}
-use mathlib.Core.Path.{ap, _∙_}
+use mathlib.Core.Path.{_≡_, ap, _∙_}
 use borrow.Author.Needs.{needs}
+use Rattle.words.specs.Words.{countOf}
 use Rattle.entry.proofs.Wrote.{wrote-same}
+use Rattle.context.specs.Context.{isIn}
 use Rattle.context.specs.Gathered.{contextOf, pairsOf}
 use Rattle.racks.specs.declared.Row.{Row}
 use Rattle.racks.specs.Racks.{RACKS, slots, inRack}
@@ -17,9 +19,10 @@ returns c =
     let a = u .before .before .before .before .before .args in
     let x = contextOf (a .catalogue .now) (a .fit .now) in
     let ps = pairsOf (a .catalogue .now) (a .fit .now) in
-    let row = codeRow RACKS (a .i) in (
+    let row = codeRow RACKS (a .i) in
+    let count : u .in-rack .result ≡ countOf (isIn (row .slot)) ps = u .in-rack .ensures (a .catalogue .now) in (
       wrote-same
-          (ap (λ (used : ℕ). slots x (row .slot) (row .name) used) (u .in-rack .ensures (a .catalogue .now))
+          (ap (λ (used : ℕ). slots x (row .slot) (row .name) used) count
           ∙ ap (λ (r : Row). inRack x ps (r .slot, r .name)) (row-is RACKS (a .i)))
           (w .0),
       w .1,

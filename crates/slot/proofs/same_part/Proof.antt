@@ -1,5 +1,6 @@
 -- `slot::same_part` meets its contract: another pair, a subsystem, its value.
 use Prim.Native.Nat.{_+_}
+use native.Mathlib.Omega.{arith}
 use mathlib.Core.Path.{_≡_, sym, ap, _∙_}
 use mathlib.Core.Bool.{false}
 use mathlib.Core.Option.{Option}
@@ -20,9 +21,10 @@ use Rattle.slot.proofs.same_part.Tie as tie
 returns : tie.Need-returns
 returns c =
     let a = c .before .before .args in
+    let own : a .j ≡ a .i = omega arith in
     λ catalogue.
     let pair = pairAt catalogue (a .fit .now) in
-    part-own (a .id) (a .part) (pair (a .i)) (pair (a .j)) (c .if1 .taken)
+    part-own (a .id) (a .part) (pair (a .i)) (pair (a .j)) own
 
 returns-2 : tie.Need-returns-2
 returns-2 c =

@@ -1,4 +1,5 @@
 -- `slot::wrong_slot_index` meets its contract: a slot with a number, a name that is known, and the value of its attribute.
+use native.Mathlib.Omega.{arith}
 use mathlib.Core.Path.{_≡_, sym, ap, _∙_}
 use mathlib.Core.Option.{none, some}
 use lib.IntN.{ℤ}
@@ -58,8 +59,8 @@ returns-3 c =
     let g = t .before .before .value2 .given in
     let v = t .before .before .before .before in
     let s = start v in
-    right-index (context s) (pair s) (id-of v) (known v) (g .0 .0) (read v ∙ ap valueOf (g .1)) (t .to-u16 .ensures)
-    (c .if1 .taken ∙ c .before .item-index .ensures)
+    let agrees : t .to-u16 .result ≡ pair s .index = omega (arith, c .before .item-index .ensures) in
+    right-index (context s) (pair s) (id-of v) (known v) (g .0 .0) (read v ∙ ap valueOf (g .1)) (t .to-u16 .ensures) agrees
 
 returns-4 : tie.Need-returns-4
 returns-4 c =

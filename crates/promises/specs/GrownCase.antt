@@ -1,0 +1,177 @@
+-- Document 01, "Two fits compared": an old and a new fit, in bytes, that meet every premise of demand 3, and what the calls list of them.
+use Prim.Native.Nat.{ℕ, _+_}
+use mathlib.Core.Path.{_≡_}
+use mathlib.Core.Bool.{true, false}
+use mathlib.Core.List.{List, [], _∷_, _++_, map}
+use lib.IntN.{pos, negsuc}
+use lib.ListN.{length, replicate}
+use lib.Ieee.{Float, nan, inf, fin, binary32, toBits}
+use Rattle.words.specs.Words.{each}
+use Rattle.numbers.specs.Names.{capacity, hiSlots, maxGroupFitted, maxTypeFitted, requiredSkill1, requiredSkill1Level}
+use Rattle.numbers.specs.Slots as Slots
+use Rattle.image.specs.Bytes.{bits32, le}
+use Rattle.floats.specs.Floats.{zeroF, ofNat, f64Bits}
+use Rattle.catalogue.specs.Catalogue.{Id, TypeData, Catalogue, catalogueOf}
+use Rattle.fit.specs.Fit.{Item, Result, Fit, allResults, fitOf}
+use Rattle.entry.specs.declared.Entry.{Entry}
+use Rattle.entry.specs.declared.Rule.the-variants.{Resource, Slots, SlotTaken, Skill, MaxGroup, MaxType, NotASkill}
+use Rattle.entry.specs.Entries.{onShip, onItem}
+use Rattle.fitcheck.specs.Calls.{Listed, listCall, skillCall}
+use Rattle.promises.specs.Compare.{Bytes, Grown, AddedVolumes}
+use Rattle.promises.specs.Cases.{ship, gun, gunnery, ore, ghost, unknown, attribute, has, result, Thing, stack, one}
+use Rattle.promises.specs.CallCases.{words}
+
+-- a fit with other levels, and with items and results behind its own
+abbrev pub grownBy : Fit → (levels : List ℕ) → List Item → List Result → Fit
+grownBy f levels items results =
+    record { frame = f .frame; skills = f .skills; levels = levels; items = f .items ++ items; results = f .results ++ results }
+
+-- ---- images: document 01's "Records", from left to right
+abbrev idBytes : Id → List ℕ
+idBytes t = le 4 (bits32 t)
+
+abbrev catalogueBytes : Catalogue → List ℕ
+catalogueBytes c =
+    words (length (c .names) ∷ length (c .effects) ∷ length (c .types) ∷ length (c .links) ∷ length (c .bases) ∷ [])
+    ++ each (c .names) (λ x. le 4 (x .number)) ++ each (c .names) (λ x. idBytes (x .id))
+    ++ each (c .effects) (λ x. idBytes (x .id)) ++ each (c .effects) (λ x. le 4 (x .mark))
+    ++ each (c .types) (λ x. idBytes (x .id))
+    ++ each (c .types) (λ x. idBytes (x .group) ++ idBytes (x .category) ++ words (x .volumeFlag ∷ toBits binary32 (x .volume) ∷ []))
+    ++ each (c .links) (λ x. idBytes (x .type)) ++ each (c .links) (λ x. idBytes (x .effect))
+    ++ each (c .bases) (λ x. idBytes (x .type)) ++ each (c .bases) (λ x. idBytes (x .attribute) ++ le 4 (toBits binary32 (x .value)))
+
+abbrev fitBytes : Fit → List ℕ
+fitBytes f =
+    let rs = allResults f in
+    let attributes = each rs (λ r. r .attributes) in
+    words (length (f .skills) ∷ length (f .items) ∷ length (f .results) ∷ length attributes ∷ [])
+    ++ idBytes (f .frame .ship) ++ le 4 (f .frame .modeFlag) ++ idBytes (f .frame .mode)
+    ++ each (f .skills) idBytes ++ f .levels
+    ++ each (f .items) (λ i. idBytes (i .type) ++ le 4 (i .quantity) ++ (i .slot ∷ i .reserved ∷ le 2 (i .index)))
+    ++ each rs (λ r. r .state ∷ r .reserved ∷ le 2 (length (r .attributes)))
+    ++ each attributes (λ a. idBytes (a .id)) ++ each attributes (λ a. le 8 (f64Bits (a .value)))
+
+-- ---- a catalogue and two fits
+-- what has a volume below zero
+abbrev scrap : Id
+scrap = pos 27
+
+abbrev typed : Id → ℕ → ℕ → ℕ → Float → TypeData
+typed id group category flag volume = record { id = id; group = pos group; category = pos category; volumeFlag = flag; volume = volume }
+
+-- guns of an infinite volume, ore of 2.5, scrap of -1, and ghosts with none, as their flag is 0. The pilot's skill is not in it.
+abbrev pub CATALOGUE : List ℕ
+CATALOGUE = catalogueBytes (record {
+  names =
+      map (λ n. record { number = n; id = attribute n })
+      (capacity ∷ hiSlots ∷ maxGroupFitted ∷ maxTypeFitted ∷ requiredSkill1 ∷ requiredSkill1Level ∷ []);
+  effects = [];
+  types =
+      typed ship 25 6 0 zeroF
+      ∷ typed gun 50 7 1 (inf false)
+      ∷ typed ore 450 25 1 (fin false 5 (negsuc 0))
+      ∷ typed ghost 450 25 0 nan
+      ∷ typed scrap 450 25 1 (fin true 1 (pos 0))
+      ∷ [];
+  links = [];
+  bases = [];
+})
+
+-- two guns in one slot, of which the first allows one of its group and one of its type, and wants the skill at 5; 5 less 1 in the hold
+abbrev things : List Thing
+things =
+    one gun Slots.high 0
+    (has maxGroupFitted (ofNat 1) ∷ has maxTypeFitted (ofNat 1) ∷ has requiredSkill1 (ofNat 24) ∷ has requiredSkill1Level (ofNat 5) ∷ [])
+    ∷ one gun Slots.high 0 []
+    ∷ stack 2 ore Slots.cargo 0 0 []
+    ∷ stack 1 scrap Slots.cargo 0 0 []
+    ∷ []
+
+-- on a ship with a hold of 1 and one High slot, by a pilot with the skill at 3
+abbrev old : Fit
+old = record {
+  frame = record {
+    ship = ship;
+    modeFlag = 0;
+    mode = pos 0;
+    shipResult = result 0 (has capacity (ofNat 1) ∷ has hiSlots (ofNat 1) ∷ []);
+    characterResult = result 0 [];
+  };
+  skills = gunnery ∷ [];
+  levels = 3 ∷ [];
+  items = map (λ t. t .0) things;
+  results = map (λ t. t .1) things;
+}
+
+-- a third gun; cargo with a volume, with none as its flag is 0, and with none as it is not in the catalogue
+abbrev added : List Thing
+added =
+    one gun Slots.high 1 (has maxGroupFitted (ofNat 1) ∷ [])
+    ∷ stack 1 ore Slots.cargo 0 0 []
+    ∷ stack 1 ghost Slots.cargo 0 0 []
+    ∷ stack 1 unknown Slots.cargo 0 0 []
+    ∷ []
+
+-- a fourth gun, without a result
+abbrev spare : Item
+spare = one gun Slots.high 2 [] .0
+
+-- five items and four results more, and a lower level
+abbrev new : Fit
+new = grownBy old (1 ∷ []) (map (λ t. t .0) added ++ (spare ∷ [])) (map (λ t. t .1) added)
+
+abbrev pub OLD : List ℕ
+OLD = fitBytes old
+
+abbrev pub NEW : List ℕ
+NEW = fitBytes new
+
+-- ---- what the calls list
+abbrev pub OLD-LIST : List Entry
+OLD-LIST =
+    onShip (NotASkill gunnery)
+    ∷ onShip (Resource 11 (ofNat 4) (ofNat 1))
+    ∷ onShip (Slots 0 2 1)
+    ∷ onItem 0 SlotTaken
+    ∷ onItem 1 SlotTaken
+    ∷ onItem 0 (MaxGroup (pos 50) 0 2 1)
+    ∷ onItem 0 (MaxType gun 2 1)
+    ∷ []
+
+-- 6.5 in the hold, three guns, and an entry between the others
+abbrev pub NEW-LIST : List Entry
+NEW-LIST =
+    onShip (NotASkill gunnery)
+    ∷ onShip (Resource 11 (fin false 13 (negsuc 0)) (ofNat 1))
+    ∷ onShip (Slots 0 3 1)
+    ∷ onItem 0 SlotTaken
+    ∷ onItem 1 SlotTaken
+    ∷ onItem 0 (MaxGroup (pos 50) 0 3 1)
+    ∷ onItem 4 (MaxGroup (pos 50) 0 3 1)
+    ∷ onItem 0 (MaxType gun 3 1)
+    ∷ []
+
+-- the first gun's skill
+abbrev pub lacks : ℕ → List Entry
+lacks level = onItem 0 (Skill gunnery 5 level) ∷ []
+
+-- room for all of them
+abbrev pub ROOM : List ℕ
+ROOM = replicate 192 7
+
+-- the images are these fits; they meet the premises, though unequal numbers are added; and of every rule with a number that may change, the
+-- old lists have an entry
+pub record Example : Type 0 where
+  pub old-fit : fitOf OLD ≡ old
+  pub new-fit : fitOf NEW ≡ new
+  pub items : length (new .items) ≡ length (old .items) + 5
+  pub results : length (new .results) ≡ length (old .results) + 4
+  -- the premises
+  pub bytes : Bytes NEW
+  pub grown : Grown (fitOf OLD) (fitOf NEW)
+  pub volumes : AddedVolumes (catalogueOf CATALOGUE) (fitOf OLD) (fitOf NEW)
+  -- all calls are answered
+  pub old-list : listCall CATALOGUE OLD ROOM ≡ Listed OLD-LIST
+  pub new-list : listCall CATALOGUE NEW ROOM ≡ Listed NEW-LIST
+  pub old-skills : skillCall CATALOGUE OLD 2 ROOM ≡ Listed (lacks 3)
+  pub new-skills : skillCall CATALOGUE NEW 2 ROOM ≡ Listed (lacks 1)
