@@ -51,6 +51,14 @@ pub fn to_i32(value: f64) -> i32 {
     cast(value, -2_147_483_648, 2_147_483_647) as i32
 }
 
+/// The same, but that what is over the range wraps.
+pub fn to_i32_wrapping(value: f64) -> i32 {
+    match value < 0.0 {
+        true => to_i32(value),
+        false => value as u64 as u32 as i32,
+    }
+}
+
 #[cfg(test)]
 mod tests {
     use super::*;

@@ -128,7 +128,7 @@ impl<'a> Catalogue<'a> {
         };
         let last_name = last(87, Fault::Name88, Fault::Name87Refused);
         let last_mark = last(8, Fault::Mark9, Fault::Mark8Refused);
-        let last_flag = if flaw.has(Fault::VolumeFlag2) { 2 } else { 1 };
+        let last_flag = last(1, Fault::VolumeFlag2, Fault::VolumeFlag1Refused);
         let names = self.names;
         let effects = self.effects;
         let types = self.types;

@@ -4,7 +4,7 @@
 use super::catalogue::Catalogue;
 use super::entry::{Entries, Target};
 use super::fault::Fault;
-use super::fit::{Fit, HIGH_TO_SERVICE, Item};
+use super::fit::{FIGHTER_TUBE, Fit, HIGH_TO_SERVICE, Item, SERVICE};
 use super::{Flaw, Rows};
 
 const CATEGORY_SHIP: i32 = 6;
@@ -25,6 +25,7 @@ pub struct Context<'a> {
 pub struct Pair {
     pub number: usize,
     pub item: Item,
+    pub is_fitted: bool,
     pub state: u8,
     pub group: i32,
     pub category: i32,
@@ -33,10 +34,6 @@ pub struct Pair {
 }
 
 impl Pair {
-    pub fn is_fitted(&self) -> bool {
-        HIGH_TO_SERVICE.contains(&self.item.kind)
-    }
-
     /// Its result's number.
     pub fn result(&self) -> usize {
         self.number + 2
@@ -49,6 +46,7 @@ impl Pair {
 
 impl<'a> Context<'a> {
     pub fn new(catalogue: &'a Catalogue<'a>, fit: &'a Fit<'a>, flaw: Flaw) -> Context<'a> {
+        let missing = |fault: Fault, wrong: i32| if flaw.has(fault) { wrong } else { 0 };
         let pairs = (0..flaw.rows(Rows::Pairs, fit.pairs()))
             .map(|number| {
                 let item = fit.item(number);
@@ -57,9 +55,10 @@ impl<'a> Context<'a> {
                 Pair {
                     number,
                     item,
+                    is_fitted: is_fitted(item.kind, flaw),
                     state: fit.state(number + 2),
-                    group: row.map_or(0, |row| row.group),
-                    category: row.map_or(0, |row| row.category),
+                    group: row.map_or(missing(Fault::MissingGroup1, 1), |row| row.group),
+                    category: row.map_or(missing(Fault::MissingCategory7, 7), |row| row.category),
                     rack,
                     hardpoint,
                 }
@@ -84,7 +83,15 @@ impl<'a> Context<'a> {
 
     /// A missing value reads as 0 for an amount.
     pub fn amount(&self, result: usize, id: i32) -> f64 {
-        self.value(result, id).unwrap_or(0.0)
+        self.value(result, id).unwrap_or(self.missing_amount())
+    }
+
+    pub fn missing_amount(&self) -> f64 {
+        if self.flaw.has(Fault::AmountMissingIsOne) {
+            1.0
+        } else {
+            0.0
+        }
     }
 
     pub fn ship_group(&self) -> i32 {
@@ -95,6 +102,14 @@ impl<'a> Context<'a> {
     pub fn ship_category(&self) -> i32 {
         let row = self.catalogue.type_of(self.fit.ship_type());
         row.map_or(0, |row| row.category)
+    }
+}
+
+fn is_fitted(kind: u8, flaw: Flaw) -> bool {
+    match kind {
+        SERVICE => !flaw.has(Fault::FittedNoService),
+        FIGHTER_TUBE => flaw.has(Fault::FittedInTubes),
+        _ => HIGH_TO_SERVICE.contains(&kind),
     }
 }
 
@@ -109,6 +124,16 @@ pub fn is_hull(catalogue: &Catalogue, fit: &Fit, flaw: Flaw) -> bool {
 
 /// The mode, then the listed skills by ascending id.
 pub fn kind(context: &Context, entries: &mut Entries) {
+    if context.flaw.has(Fault::SkillsBeforeMode) {
+        not_a_skill(context, entries);
+        not_a_mode(context, entries);
+    } else {
+        not_a_mode(context, entries);
+        not_a_skill(context, entries);
+    }
+}
+
+fn not_a_mode(context: &Context, entries: &mut Entries) {
     let Context {
         catalogue,
         fit,
@@ -124,7 +149,15 @@ pub fn kind(context: &Context, entries: &mut Entries) {
             entries.add(Target::Ship, 20, 0, &[]);
         }
     }
+}
 
+fn not_a_skill(context: &Context, entries: &mut Entries) {
+    let Context {
+        catalogue,
+        fit,
+        flaw,
+        ..
+    } = *context;
     let mut ids: Vec<i32> = (0..flaw.rows(Rows::Listed, fit.skills()))
         .map(|number| fit.skill_id(number))
         .collect();

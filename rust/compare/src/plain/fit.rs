@@ -7,6 +7,7 @@ use super::{Flaw, Measure, Number, Rows};
 pub const HIGH_TO_SERVICE: std::ops::RangeInclusive<u8> = 0..=5;
 pub const RIG: u8 = 3;
 pub const SUBSYSTEM: u8 = 4;
+pub const SERVICE: u8 = 5;
 pub const FIGHTER_TUBE: u8 = 6;
 pub const FIGHTER_BAY: u8 = 7;
 pub const IMPLANT: u8 = 8;
@@ -138,7 +139,7 @@ impl<'a> Fit<'a> {
         let flag = self.mode_flag();
         let mode_is_right = match flag {
             0 => self.mode() == 0 || flaw.has(Fault::ModeUnderFlag0),
-            1 => true,
+            1 => !flaw.has(Fault::ModeFlag1Refused),
             _ => flag == 2 && flaw.has(Fault::ModeFlag2),
         };
         mode_is_right
@@ -147,7 +148,11 @@ impl<'a> Fit<'a> {
     }
 
     fn result_is_right(&self, number: usize, flaw: Flaw) -> bool {
-        let last_state = if flaw.has(Fault::State4) { 4 } else { 3 };
+        let last_state = match () {
+            () if flaw.has(Fault::State4) => 4,
+            () if flaw.has(Fault::State3Refused) => 2,
+            () => 3,
+        };
         let state_is_right =
             self.state(number) <= last_state || (number < 2 && flaw.has(Fault::ShipStateIgnored));
         let zero = self.image[self.head(number) + 1];
@@ -242,10 +247,15 @@ impl<'a> Fit<'a> {
 }
 
 fn item_is_right(item: Item, flaw: Flaw) -> bool {
-    let last_small = if flaw.has(Fault::Index256) { 256 } else { 255 };
+    let last_small = match () {
+        () if flaw.has(Fault::Index256) => 256,
+        () if flaw.has(Fault::Index255Refused) => 254,
+        () => 255,
+    };
     let index_is_right = match item.kind {
         FIGHTER_TUBE if flaw.has(Fault::TubeIndexRefused) => item.index == 0,
         FIGHTER_BAY | DRONE_BAY => item.index == 0 || flaw.has(Fault::BayIndexIgnored),
+        CARGO if flaw.has(Fault::Kind11Refused) => false,
         CARGO => item.index == 0 || flaw.has(Fault::CargoIndexIgnored),
         BOOSTER => item.index <= 255 || !flaw.has(Fault::BoosterIndex255),
         0..=11 => item.index <= last_small,

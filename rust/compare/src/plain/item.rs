@@ -1,7 +1,7 @@
 //! Six rules on what is fitted, in their order.
 
 use super::Number;
-use super::bytes::{to_i32, to_u8, to_u32};
+use super::bytes::{to_i32, to_i32_wrapping, to_u8, to_u32};
 use super::context::{CATEGORY_STRUCTURE, Context, Pair};
 use super::entry::Entries;
 use super::fault::Fault;
@@ -21,13 +21,26 @@ const CAPITAL_VOLUME: f64 = 3500.0;
 
 const SHIP: usize = 0;
 
+const RULES: [fn(&Context, &mut Entries); 6] = [
+    rig_size,
+    ship_restricted,
+    capital_item,
+    standup,
+    group_limits,
+    type_limit,
+];
+
 pub fn validate(context: &Context, entries: &mut Entries) {
-    rig_size(context, entries);
-    ship_restricted(context, entries);
-    capital_item(context, entries);
-    standup(context, entries);
-    group_limits(context, entries);
-    type_limit(context, entries);
+    let mut rules = RULES;
+    if context.flaw.has(Fault::StandupBeforeCapital) {
+        rules.swap(2, 3);
+    }
+    if context.flaw.has(Fault::TypeBeforeGroup) {
+        rules.swap(4, 5);
+    }
+    for rule in rules {
+        rule(context, entries);
+    }
 }
 
 fn rig_size(context: &Context, entries: &mut Entries) {
@@ -41,17 +54,23 @@ fn rig_size(context: &Context, entries: &mut Entries) {
         None => return,
     };
     for pair in &context.pairs {
-        let Some(size) = context.value(pair.result(), id) else {
-            continue;
+        let size = match context.value(pair.result(), id) {
+            Some(size) => size,
+            None if flaw.has(Fault::RigSizeItemZero) => 0.0,
+            None => continue,
         };
         let is_asked =
-            pair.item.kind == RIG || (pair.is_fitted() && flaw.has(Fault::RigSizeAnyRack));
+            pair.item.kind == RIG || (pair.is_fitted && flaw.has(Fault::RigSizeAnyRack));
         let differs = match flaw.has(Fault::RigSizeTruncated) {
             true => to_u8(size) != to_u8(ship),
             false => size != ship,
         };
         if is_asked && differs {
-            let (ship, size) = (to_u8(ship).into(), to_u8(size).into());
+            let shown = |size: f64| match flaw.has(Fault::RigSizeWraps) {
+                true => (size as u64 as u8).into(),
+                false => to_u8(size).into(),
+            };
+            let (ship, size) = (shown(ship), shown(size));
             match flaw.has(Fault::RigSizeSwapped) {
                 true => entries.add(pair.target(), 12, 0, &[size, ship]),
                 false => entries.add(pair.target(), 12, 0, &[ship, size]),
@@ -66,19 +85,21 @@ fn ship_restricted(context: &Context, entries: &mut Entries) {
         (name == 46 && flaw.has(Fault::LastShipType))
             || (name == 66 && flaw.has(Fault::LastShipGroup))
     };
+    let missing = flaw.has(Fault::RestrictedMissingIsZero).then_some(0.0);
     let listed = |pair: &Pair, names: std::ops::Range<usize>| -> Vec<i32> {
         names
             .filter(|name| !left_out(*name))
             .filter_map(|name| context.id(name))
-            .filter_map(|id| context.value(pair.result(), id))
-            .map(|value| match flaw.has(Fault::RestrictedRounded) {
-                true => to_i32(value.round()),
-                false => to_i32(value),
+            .filter_map(|id| context.value(pair.result(), id).or(missing))
+            .map(|value| match () {
+                () if flaw.has(Fault::RestrictedRounded) => to_i32(value.round()),
+                () if flaw.has(Fault::RestrictedWraps) => to_i32_wrapping(value),
+                () => to_i32(value),
             })
             .collect()
     };
     for pair in &context.pairs {
-        if !pair.is_fitted() && !flaw.has(Fault::RestrictedUnfitted) {
+        if !pair.is_fitted && !flaw.has(Fault::RestrictedUnfitted) {
             continue;
         }
         let types = listed(pair, SHIP_TYPES);
@@ -111,14 +132,16 @@ fn capital_item(context: &Context, entries: &mut Entries) {
         None if flaw.has(Fault::CapitalNameless) => 0.0,
         None => return,
     };
-    if capital != 0.0 && !(capital.is_nan() && flaw.has(Fault::CapitalNan)) {
+    let passed_over = (capital.is_nan() && flaw.has(Fault::CapitalNan))
+        || (capital < 0.0 && flaw.has(Fault::CapitalPositive));
+    if capital != 0.0 && !passed_over {
         return;
     }
     if context.ship_category() == CATEGORY_STRUCTURE && !flaw.has(Fault::CapitalStructure) {
         return;
     }
     for pair in &context.pairs {
-        if !pair.is_fitted() || (pair.item.kind == RIG && !flaw.has(Fault::CapitalRigs)) {
+        if !pair.is_fitted || (pair.item.kind == RIG && !flaw.has(Fault::CapitalRigs)) {
             continue;
         }
         let size = context.amount(pair.result(), volume);
@@ -139,7 +162,7 @@ fn standup(context: &Context, entries: &mut Entries) {
     }
     let structure = context.ship_category() == CATEGORY_STRUCTURE;
     for pair in &context.pairs {
-        let is_on_hull = pair.is_fitted()
+        let is_on_hull = pair.is_fitted
             || pair.item.kind == FIGHTER_TUBE
             || (pair.item.kind == FIGHTER_BAY && !flaw.has(Fault::StandupNoBay));
         if !is_on_hull {
@@ -147,9 +170,10 @@ fn standup(context: &Context, entries: &mut Entries) {
         }
         let marked = ids.iter().any(|id| {
             let mark = context.amount(pair.result(), *id);
-            match flaw.has(Fault::StandupPositive) {
-                true => mark > 0.0,
-                false => mark != 0.0,
+            match () {
+                () if flaw.has(Fault::StandupPositive) => mark > 0.0,
+                () if flaw.has(Fault::StandupNan) => mark != 0.0 && !mark.is_nan(),
+                () => mark != 0.0,
             }
         });
         let standup = pair.category == CATEGORY_STRUCTURE_MODULE || marked;
@@ -187,14 +211,16 @@ fn group_limit(context: &Context, entries: &mut Entries, limit: u8, pair: &Pair)
         true => context
             .pairs
             .iter()
-            .find(|other| other.is_fitted() && other.group == pair.group)
+            .find(|other| other.is_fitted && other.group == pair.group)
             .unwrap_or(pair),
         false => pair,
     };
-    let Some(allowed) = context.value(holder.result(), id) else {
-        return;
+    let allowed = match context.value(holder.result(), id) {
+        Some(allowed) => allowed,
+        None if flaw.has(Fault::GroupMissingIsZero) => 0.0,
+        None => return,
     };
-    if !pair.is_fitted() {
+    if !pair.is_fitted {
         return;
     }
     // Limit 0 counts every state, 1 Online and above, 2 Active and above.
@@ -203,19 +229,26 @@ fn group_limit(context: &Context, entries: &mut Entries, limit: u8, pair: &Pair)
         2 if flaw.has(Fault::GroupActiveOnline) => 1,
         _ => limit,
     };
+    let counts_alone = match limit {
+        1 => flaw.has(Fault::GroupOnlineOnly),
+        2 => flaw.has(Fault::GroupActiveOnly),
+        _ => false,
+    };
     let used = context
         .pairs
         .iter()
-        .filter(|other| other.is_fitted() || flaw.has(Fault::GroupUnfitted))
+        .filter(|other| other.is_fitted || flaw.has(Fault::GroupUnfitted))
         .filter(|other| other.group == pair.group && other.state >= least)
+        .filter(|other| other.state == least || !counts_alone)
         .count();
     let used = flaw.number(Number::GroupUsed, used) as u32;
     let allowed = match () {
         () if flaw.has(Fault::GroupRounded) => to_u32(allowed.round()),
         () if flaw.has(Fault::GroupU8) => to_u8(allowed).into(),
+        () if flaw.has(Fault::GroupWraps) && allowed < 0.0 => allowed as i64 as u32,
         () => flaw.amount(Number::GroupAllowed, allowed, to_u32(allowed)),
     };
-    if used > allowed {
+    if used > allowed || (used == allowed && flaw.has(Fault::GroupAtLimit)) {
         entries.add(
             pair.target(),
             17,
@@ -231,24 +264,28 @@ fn type_limit(context: &Context, entries: &mut Entries) {
         return;
     };
     for pair in &context.pairs {
-        let Some(allowed) = context.value(pair.result(), id) else {
-            continue;
+        let allowed = match context.value(pair.result(), id) {
+            Some(allowed) => allowed,
+            None if flaw.has(Fault::TypeMissingIsZero) => 0.0,
+            None => continue,
         };
-        if !pair.is_fitted() {
+        if !pair.is_fitted {
             continue;
         }
         let same = context
             .pairs
             .iter()
-            .filter(|other| other.is_fitted() || flaw.has(Fault::TypeUnfitted))
+            .filter(|other| other.is_fitted || flaw.has(Fault::TypeUnfitted))
             .filter(|other| other.item.type_id == pair.item.type_id);
         let used = match flaw.has(Fault::TypeQuantity) {
             true => same.fold(0u32, |sum, other| sum.wrapping_add(other.item.quantity)),
             false => flaw.number(Number::TypeUsed, same.count()) as u32,
         };
-        let allowed = match flaw.has(Fault::TypeU8) {
-            true => to_u8(allowed).into(),
-            false => flaw.amount(Number::TypeAllowed, allowed, to_u32(allowed)),
+        let allowed = match () {
+            () if flaw.has(Fault::TypeRounded) => to_u32(allowed.round()),
+            () if flaw.has(Fault::TypeU8) => to_u8(allowed).into(),
+            () if flaw.has(Fault::TypeWraps) && allowed < 0.0 => allowed as i64 as u32,
+            () => flaw.amount(Number::TypeAllowed, allowed, to_u32(allowed)),
         };
         if used > allowed || (used == allowed && flaw.has(Fault::TypeAtLimit)) {
             let words = [pair.item.type_id as u32, used, allowed];

@@ -101,8 +101,13 @@ fn list(catalogue: &Catalogue, fit: &Fit, flaw: Flaw) -> Result<Vec<Entry>, u8> 
         }
     }
     context::kind(&context, &mut entries);
-    resource::validate(&context, &mut entries);
-    slot::validate(&context, &mut entries);
+    if flaw.has(Fault::SlotsBeforeResources) {
+        slot::validate(&context, &mut entries);
+        resource::validate(&context, &mut entries);
+    } else {
+        resource::validate(&context, &mut entries);
+        slot::validate(&context, &mut entries);
+    }
     item::validate(&context, &mut entries);
     shortened(entries, flaw, Rows::ListEntries, Measure::ListEntries)
 }

@@ -71,7 +71,9 @@ fn over(used: f64, available: f64, flaw: Flaw) -> bool {
         }
         () => available + available.abs() * slack,
     };
-    used > limit || (used == limit && flaw.has(Fault::OverOrEqual))
+    used > limit
+        || (used == limit && flaw.has(Fault::OverOrEqual))
+        || ((used.is_nan() || limit.is_nan()) && flaw.has(Fault::OverNan))
 }
 
 /// The drones in space, by every pair at state Active or above.
@@ -90,6 +92,7 @@ pub fn drone_total(context: &Context) -> u64 {
                 || (pair.item.kind == FIGHTER_TUBE && flaw.has(Fault::DronesInTubes))
         })
         .filter(|pair| pair.state >= least)
+        .filter(|pair| pair.state <= ACTIVE || !flaw.has(Fault::DronesActiveOnly))
         .map(|pair| match flaw.has(Fault::DronesStacks) {
             true => 1,
             false => u64::from(pair.item.quantity),

@@ -1,7 +1,7 @@
 //! The walk over the skills that one result demands.
 
 use super::Number;
-use super::bytes::{to_i32, to_u8};
+use super::bytes::{to_i32, to_i32_wrapping, to_u8};
 use super::context::Context;
 use super::entry::{Entries, Target};
 use super::fault::Fault;
@@ -121,9 +121,10 @@ fn demands(
             true => level as i64 as u8,
             false => to_u8(level),
         };
-        let id = match flaw.has(Fault::SkillRounded) {
-            true => to_i32(id.round()),
-            false => to_i32(id),
+        let id = match () {
+            () if flaw.has(Fault::SkillRounded) => to_i32(id.round()),
+            () if flaw.has(Fault::SkillWraps) => to_i32_wrapping(id),
+            () => to_i32(id),
         };
         if id < 0 && flaw.has(Fault::WantedNegativeLost) {
             continue;

@@ -47,7 +47,7 @@ pub fn validate(context: &Context, entries: &mut Entries) {
             let used = context
                 .pairs
                 .iter()
-                .filter(|pair| pair.is_fitted() || context.flaw.has(Fault::HardpointsUnfitted))
+                .filter(|pair| pair.is_fitted || context.flaw.has(Fault::HardpointsUnfitted))
                 .filter(|pair| pair.hardpoint == Some(hardpoint))
                 .count();
             let name = HARDPOINTS + usize::from(hardpoint);
@@ -62,15 +62,19 @@ pub fn validate(context: &Context, entries: &mut Entries) {
         hardpoints(entries);
     }
 
+    let mut checks = CHECKS;
+    if context.flaw.has(Fault::IndexBeforeTaken) {
+        checks.swap(5, 6);
+    }
     if context.flaw.has(Fault::ChecksByRule) {
-        for check in CHECKS {
+        for check in checks {
             for pair in &context.pairs {
                 check(context, pair, entries);
             }
         }
     } else {
         for pair in &context.pairs {
-            for check in CHECKS {
+            for check in checks {
                 check(context, pair, entries);
             }
         }
@@ -84,7 +88,7 @@ fn slots(context: &Context, entries: &mut Entries, slot: u8, name: usize, used: 
     };
     let Some(amount) = context
         .value(0, id)
-        .or((!flaw.has(Fault::SlotsMissing)).then_some(0.0))
+        .or((!flaw.has(Fault::SlotsMissing)).then_some(context.missing_amount()))
     else {
         return;
     };
@@ -94,9 +98,9 @@ fn slots(context: &Context, entries: &mut Entries, slot: u8, name: usize, used: 
         () if flaw.has(Fault::SlotsU8) => to_u8(amount).into(),
         () => flaw.amount(Number::SlotsAmount, amount, to_u32(amount)),
     };
-    let used = flaw.number(Number::SlotsUsed, used);
-    if used as u32 > available {
-        entries.add(Target::Ship, 2, slot, &[used as u32, available]);
+    let used = flaw.number(Number::SlotsUsed, used) as u32;
+    if used > available || (used == available && flaw.has(Fault::SlotsAtLimit)) {
+        entries.add(Target::Ship, 2, slot, &[used, available]);
     }
 }
 
@@ -105,7 +109,7 @@ fn wrong_slot(context: &Context, pair: &Pair, entries: &mut Entries) {
     let Some(rack) = pair.rack else {
         return;
     };
-    if (pair.is_fitted() || flaw.has(Fault::WrongSlotUnfitted)) && rack != pair.item.kind {
+    if (pair.is_fitted || flaw.has(Fault::WrongSlotUnfitted)) && rack != pair.item.kind {
         match flaw.has(Fault::WrongSlotPayload) {
             true => entries.add(pair.target(), 3, rack, &[rack.into()]),
             false => entries.add(pair.target(), 3, rack, &[]),
@@ -121,7 +125,7 @@ fn not_a_module(context: &Context, pair: &Pair, entries: &mut Entries) {
         CATEGORY_STRUCTURE_MODULE => !flaw.has(Fault::ModuleNoStructure),
         _ => false,
     };
-    if pair.is_fitted() && !is_module {
+    if pair.is_fitted && !is_module {
         entries.add(pair.target(), 4, 0, &[]);
     }
 }
@@ -193,9 +197,10 @@ fn wrong_slot_index(context: &Context, pair: &Pair, entries: &mut Entries) {
         None if flaw.has(Fault::IndexMissingIsZero) => 0.0,
         None => return,
     };
-    let expected = match flaw.has(Fault::IndexU8) {
-        true => to_u8(value).into(),
-        false => to_u16(value),
+    let expected = match () {
+        () if flaw.has(Fault::IndexU8) => to_u8(value).into(),
+        () if flaw.has(Fault::IndexWraps) => value as u64 as u16,
+        () => to_u16(value),
     };
     if expected != pair.item.index {
         entries.add(pair.target(), 9, 0, &[expected.into()]);
@@ -210,7 +215,11 @@ fn subsystem_taken(context: &Context, pair: &Pair, entries: &mut Entries) {
     let Some(id) = context.id(SUBSYSTEM_SLOT) else {
         return;
     };
-    let Some(part) = context.value(pair.result(), id) else {
+    let part_of = |result: usize| {
+        let missing = flaw.has(Fault::PartMissingIsZero).then_some(0.0);
+        context.value(result, id).or(missing)
+    };
+    let Some(part) = part_of(pair.result()) else {
         return;
     };
     let same = |other: f64| match () {
@@ -222,7 +231,7 @@ fn subsystem_taken(context: &Context, pair: &Pair, entries: &mut Entries) {
     let taken = context.pairs.iter().any(|other| {
         other.number != pair.number
             && (other.item.kind == SUBSYSTEM || flaw.has(Fault::PartAnySlot))
-            && context.value(other.result(), id).is_some_and(same)
+            && part_of(other.result()).is_some_and(same)
     });
     if taken {
         entries.add(pair.target(), 10, 0, &[]);
