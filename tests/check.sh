@@ -41,7 +41,7 @@ zeros() {
     prints "$1" "$room/$1" "$room/$1.expected"
 }
 
-for sample in clear faulted refused; do
+for sample in clear faulted hangar refused; do
     prints "samples/$sample" "$root/samples/$sample" "$root/samples/$sample/expected"
 done
 

@@ -12,7 +12,7 @@ use Rattle.catalogue.specs.Catalogue.{catalogueOf}
 use Rattle.fit.specs.Fit.{fitOf}
 use Rattle.entry.specs.declared.Entry.{Entry}
 use Rattle.validate.specs.Validate.{listOf}
-use Rattle.fitcheck.specs.Calls.{Answer, Refused, Listed, answerBy, answer, tooManyDrones, tooShort, imageRefusals, listCall, returned}
+use Rattle.fitcheck.specs.Calls.{Answer, Refused, Listed, answerBy, answer, tooShort, imageRefusals, listCall, returned}
 use Rattle.fitcheck.proofs.Giving.{answer-true, answer-false, list-refused, list-past}
 
 -- what the word counts
@@ -40,11 +40,6 @@ module _ (buffer : List ℕ) (es : List Entry) where
   lent-room true e = refused-room Refusals.tooShort (answer-true Refusals.tooShort [] es (omega arith) e)
   lent-room false e = let z = ap counted (answer-false Refusals.tooShort [] es e) in omega (arith, z, listed-room e)
 
-  drones-room : (d t : Bool) → d ≡ t → 24 * counted (answer ((Refusals.tooManyDrones, d) ∷ short) es) ≤ length buffer
-  drones-room d true e = refused-room Refusals.tooManyDrones (answer-true Refusals.tooManyDrones short es (omega arith) e)
-  drones-room d false e =
-      let z = ap counted (answer-false Refusals.tooManyDrones short es e) in omega (arith, z, lent-room (tooShort buffer es) refl)
-
 pub list-room : (catalogue fit buffer : List ℕ) → 24 * counted (listCall catalogue fit buffer) ≤ length buffer
 list-room catalogue fit buffer = go (firstOf (imageRefusals catalogue fit)) refl
   where
@@ -52,5 +47,5 @@ list-room catalogue fit buffer = go (firstOf (imageRefusals catalogue fit)) refl
     go zero e =
         let es = listOf (catalogueOf catalogue) (fitOf fit) in
         let z = ap counted (list-past catalogue fit buffer e) in
-        omega (arith, z, drones-room buffer es (tooManyDrones (catalogueOf catalogue) (fitOf fit)) _ refl)
+        omega (arith, z, lent-room buffer es (tooShort buffer es) refl)
     go (suc k) e = refused-room buffer [] (suc k) (list-refused catalogue fit buffer (omega (arith, e)) ∙ ap Refused e)

@@ -53,10 +53,6 @@ pub numbered-catalogue : (catalogue : List ℕ) → Numbered 6 (catalogueRefusal
 unfolding catalogueRefusals
 numbered-catalogue catalogue = (omega arith, omega arith, (omega arith, omega arith, (omega arith, omega arith, tt)))
 
-pub numbered-fit : (fit : List ℕ) → Numbered 6 (fitRefusals fit)
-unfolding fitRefusals
-numbered-fit fit = (omega arith, omega arith, (omega arith, omega arith, (omega arith, omega arith, tt)))
-
 pub numbered-images : (catalogue fit : List ℕ) → Numbered 6 (imageRefusals catalogue fit)
 unfolding catalogueRefusals fitRefusals
 numbered-images catalogue fit = (

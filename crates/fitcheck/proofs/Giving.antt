@@ -1,31 +1,21 @@
 -- What a call answers, from its conditions, and that code which writes or refuses gives it.
-use Prim.Native.Nat.{ℕ, zero, suc, _+_, _*_, _≤_, _<_}
+use Prim.Native.Nat.{ℕ, zero, suc, _*_, _≤_, _<_}
 use native.Mathlib.Omega.{arith}
 use mathlib.Core.Path.{_≡_, refl, sym, ap, _∙_, subst}
 use mathlib.Core.Bool.{Bool, true, false}
 use mathlib.Core.List.{List, [], _∷_, _++_}
-use mathlib.Core.Option.{none, some}
-use lib.Dec.{T}
-use lib.Ieee.{Float, lt, ofInt}
 use lib.ListN.{length}
 use borrow.Author.Tests.{lt-ltb, le-ltb}
-use Rattle.words.specs.Words.{firstOf, given}
-use Rattle.numbers.specs.Names as Names
+use Rattle.words.specs.Words.{firstOf}
 use Rattle.numbers.specs.Sizes as Sizes
 use Rattle.numbers.specs.Refusals as Refusals
-use Rattle.floats.specs.Floats.{ofNat}
-use Rattle.floats.proofs.Products.{ofNat-lt}
-use Rattle.catalogue.specs.Catalogue.{Id, catalogueOf}
-use Rattle.catalogue.specs.Lookups.{nameId}
+use Rattle.catalogue.specs.Catalogue.{catalogueOf}
 use Rattle.fit.specs.Fit.{fitOf}
 use Rattle.entry.specs.declared.Entry.{Entry}
 use Rattle.entry.specs.Wrote.{Wrote}
 use Rattle.entry.proofs.Wrote.{wrote-count, wrote-written, wrote-none, wrote-same}
-use Rattle.context.specs.Gathered.{pairsOf}
-use Rattle.resource.specs.Resource.{launched}
-use Rattle.validate.specs.Kind.{isHull}
 use Rattle.validate.specs.Validate.{listOf}
-use Rattle.fitcheck.specs.Calls.{Answer, Refused, answerBy, answer, tooManyDrones, tooShort, imageRefusals, listRefusals, listCall, returned, buffered}
+use Rattle.fitcheck.specs.Calls.{Answer, Refused, answerBy, answer, tooShort, imageRefusals, listRefusals, listCall, returned, buffered}
 use Rattle.fitcheck.specs.Gave.{Gave, lent}
 use Rattle.fitcheck.proofs.First.{Numbered, first-kept, first-past, numbered-images}
 
@@ -84,27 +74,6 @@ module _ {b : List ℕ} (es : List Entry) where
       nil : (l : List Entry) → length l ≡ 0 → [] ≡ l
       nil [] q = refl
       nil (x ∷ l) q = absurd (omega arith)
-
--- ---- refusal 7
--- one drone more is another float
-apart : T (lt (ofNat Sizes.mostDrones) (ofNat (Sizes.mostDrones + 1)))
-unfolding lt ofInt
-apart = tt
-
-module _ (catalogue fit : List ℕ) where
-  pub drones-no-hull : isHull (catalogueOf catalogue) (fitOf fit .frame .ship) ≡ false → false ≡ tooManyDrones (catalogueOf catalogue) (fitOf fit)
-  unfolding tooManyDrones
-  drones-no-hull e = rw e
-
-  module _ (e : isHull (catalogueOf catalogue) (fitOf fit .frame .ship) ≡ true) where
-    pub drones-unnamed : nameId (catalogueOf catalogue .names) Names.maxActiveDrones ≡ none → false ≡ tooManyDrones (catalogueOf catalogue) (fitOf fit)
-    unfolding tooManyDrones given
-    drones-unnamed n = rw (e, n)
-
-    pub drones-over : (id : Id) {used : Float} → nameId (catalogueOf catalogue .names) Names.maxActiveDrones ≡ some id
-        → used ≡ ofNat (launched (pairsOf catalogue fit)) → lt (ofNat Sizes.mostDrones) used ≡ tooManyDrones (catalogueOf catalogue) (fitOf fit)
-    unfolding tooManyDrones given pairsOf
-    drones-over id n u = ap (lt (ofNat Sizes.mostDrones)) u ∙ ofNat-lt Sizes.mostDrones (launched (pairsOf catalogue fit)) apart ∙ rw (e, n)
 
 -- ---- the list call, by the refusals of both images
 module _ (catalogue fit buffer : List ℕ) where

@@ -3,7 +3,7 @@ use Prim.Native.Nat.{ℕ, zero, suc, _+_, _*_, _≤_, _<_}
 use native.Mathlib.Nat.{eq-or-lt-of-le, le-of-suc-le-suc}
 use native.Mathlib.Numerals.{add-one}
 use native.Mathlib.Omega.{arith}
-use mathlib.Core.Path.{_≡_, refl, ap, _∙_}
+use mathlib.Core.Path.{_≡_, refl}
 use mathlib.Core.Bool.{Bool, true, false, not, _||_, cond}
 use mathlib.Core.List.{List, [], _∷_}
 use mathlib.Core.Logic.{⊎-elim}
@@ -18,13 +18,12 @@ use Rattle.words.proofs.Tables.{count-more, count-none}
 use Rattle.catalogue.specs.Catalogue.{Catalogue, catalogueOf}
 use Rattle.catalogue.specs.Refusals.{catalogueRefusals, catalogueRefusal}
 use Rattle.fit.specs.Fit.{fitOf}
-use Rattle.fit.specs.Refusals.{fitRefusals, fitRefusal}
+use Rattle.fit.specs.Refusals.{fitRefusal}
 use Rattle.entry.specs.declared.Entry.{Entry}
 use Rattle.validate.specs.Validate.{listOf}
-use Rattle.fitcheck.specs.Calls.{tooManyDrones}
 use Rattle.fitcheck.specs.Hall.{fitCount, lengthAt, fitStart, fitAt, fits, badInput, Laid, fitRefused, isClear, isFaulted, shareOf, wordOf}
 use Rattle.fitcheck.specs.Hall.{HallAnswer, hallBy, hallCall, hallReturned}
-use Rattle.fitcheck.proofs.First.{first-small, first-kept, first-past, numbered-catalogue, numbered-fit}
+use Rattle.fitcheck.proofs.First.{first-small, first-kept, first-past, numbered-catalogue}
 
 -- ---- where fits stand
 module _ (input : List ℕ) where
@@ -89,37 +88,28 @@ module _ (input : List ℕ) where
 
 -- ---- what one fit adds
 module _ (c : Catalogue) (b : List ℕ) where
-  refused-4 : 0 < fitRefusal b → fitRefused c b ≡ true
-  unfolding fitRefused fitRefusal
-  refused-4 h = ap (ltb 0) (first-kept (fitRefusals b) ((Refusals.tooManyDrones, tooManyDrones c (fitOf b)) ∷ []) h) ∙ lt-ltb 0 (firstOf (fitRefusals b)) h
+  accepted : fitRefusal b ≡ 0 → fitRefused b ≡ false
+  unfolding fitRefused
+  accepted e = le-ltb 0 (fitRefusal b) (omega (arith, e))
 
-  refused-7 : fitRefusal b ≡ 0 → fitRefused c b ≡ tooManyDrones c (fitOf b)
-  unfolding fitRefused fitRefusal firstOf
-  refused-7 e =
-      ap (ltb 0) (first-past 6 (fitRefusals b) ((Refusals.tooManyDrones, tooManyDrones c (fitOf b)) ∷ []) (numbered-fit b) e)
-      ∙ go (tooManyDrones c (fitOf b))
-    where
-      go : (t : Bool) → ltb 0 (firstOf ((Refusals.tooManyDrones, t) ∷ [])) ≡ t
-      go true = lt-ltb 0 Refusals.tooManyDrones (omega arith)
-      go false = le-ltb 0 0 (omega arith)
+  turned-away : 0 < fitRefusal b → fitRefused b ≡ true
+  unfolding fitRefused
+  turned-away h = lt-ltb 0 (fitRefusal b) h
 
   -- 65,536 where refused, else by the list
-  judged : (r e : Bool) → fitRefused c b ≡ r → isEmpty (listOf c (fitOf b)) ≡ e → cond r 65536 (cond e 1 256) ≡ shareOf c b
+  judged : (r e : Bool) → fitRefused b ≡ r → isEmpty (listOf c (fitOf b)) ≡ e → cond r 65536 (cond e 1 256) ≡ shareOf c b
   unfolding shareOf isFaulted isClear
   judged true e p q = rw p
   judged false true p q = rw (p, q)
   judged false false p q = rw (p, q)
 
   pub share-unread : 0 < fitRefusal b → 65536 ≡ shareOf c b
-  share-unread h = judged true (isEmpty (listOf c (fitOf b))) (refused-4 h) refl
+  share-unread h = judged true (isEmpty (listOf c (fitOf b))) (turned-away h) refl
 
-  pub share-drones : fitRefusal b ≡ 0 → tooManyDrones c (fitOf b) ≡ true → 65536 ≡ shareOf c b
-  share-drones e d = judged true (isEmpty (listOf c (fitOf b))) (refused-7 e ∙ d) refl
-
-  module _ (e : fitRefusal b ≡ 0) (d : tooManyDrones c (fitOf b) ≡ false) where
+  module _ (e : fitRefusal b ≡ 0) where
     pub share-clear : length (listOf c (fitOf b)) ≡ 0 → 1 ≡ shareOf c b
     unfolding isEmpty
-    share-clear h = judged false true (refused-7 e ∙ d) (go (listOf c (fitOf b)) h)
+    share-clear h = judged false true (accepted e) (go (listOf c (fitOf b)) h)
       where
         go : (l : List Entry) → length l ≡ 0 → isEmpty l ≡ true
         go [] h = refl
@@ -127,7 +117,7 @@ module _ (c : Catalogue) (b : List ℕ) where
 
     pub share-faulted : 0 < length (listOf c (fitOf b)) → 256 ≡ shareOf c b
     unfolding isEmpty
-    share-faulted h = judged false false (refused-7 e ∙ d) (go (listOf c (fitOf b)) h)
+    share-faulted h = judged false false (accepted e) (go (listOf c (fitOf b)) h)
       where
         go : (l : List Entry) → 0 < length l → isEmpty l ≡ false
         go [] h = absurd (omega arith)
@@ -137,11 +127,11 @@ module _ (c : Catalogue) (b : List ℕ) where
 module _ (c : Catalogue) (f : ℕ → List ℕ) where
   pub word-none : wordOf c (table 0 f) ≡ 0
   unfolding wordOf hallReturned
-  word-none = omega (arith, count-none f (isClear c), count-none f (isFaulted c), count-none f (fitRefused c))
+  word-none = omega (arith, count-none f (isClear c), count-none f (isFaulted c), count-none f fitRefused)
 
   pub word-more : (n : ℕ) → wordOf c (table (n + 1) f) ≡ wordOf c (table n f) + shareOf c (f n)
   unfolding wordOf hallReturned shareOf
-  word-more n = omega (arith, count-more f (isClear c) n, count-more f (isFaulted c) n, count-more f (fitRefused c) n)
+  word-more n = omega (arith, count-more f (isClear c) n, count-more f (isFaulted c) n, count-more f fitRefused n)
 
 -- the part that is lent for fit i
 pub part-fit : (input : List ℕ) (i : ℕ) {at n : ℕ} → at ≡ fitStart input i → n ≡ lengthAt input i → take n (drop at input) ≡ fitAt input i

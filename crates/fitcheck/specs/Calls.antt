@@ -1,24 +1,19 @@
 -- Document 01, "Refusals in their order": the list call and the skill call as functions of bytes: which refusal or which entries,
 -- the buffer afterwards, the word that an exported call returns.
 use Prim.Native.Nat.{ℕ, zero, suc, _+_, _*_}
-use mathlib.Core.Bool.{Bool, true, false, _&&_}
+use mathlib.Core.Bool.{Bool, false}
 use mathlib.Core.List.{List, [], _∷_, _++_}
 use lib.Dec.{ltb}
 use lib.ListN.{length}
 use Rattle.words.specs.Words.{given, firstOf}
-use Rattle.numbers.specs.Names as Names
 use Rattle.numbers.specs.Sizes as Sizes
 use Rattle.numbers.specs.Refusals as Refusals
 use Rattle.catalogue.specs.Catalogue.{Catalogue, catalogueOf}
 use Rattle.catalogue.specs.Refusals.{catalogueRefusals}
-use Rattle.catalogue.specs.Lookups.{nameId}
 use Rattle.fit.specs.Fit.{Fit, fitOf, resultAt}
 use Rattle.fit.specs.Refusals.{fitRefusals}
 use Rattle.entry.specs.declared.Entry.{Entry}
 use Rattle.entry.specs.Entries as Entries
-use Rattle.context.specs.Context.{pairs}
-use Rattle.resource.specs.Resource.{launched}
-use Rattle.validate.specs.Kind.{isHull}
 use Rattle.validate.specs.Validate.{listOf}
 use Rattle.skill.specs.Skill.{tooMany, skillList}
 
@@ -33,12 +28,6 @@ answerBy (suc n) es = Refused (suc n)
 
 unfoldable pub answer : List (ℕ × Bool) → List Entry → Answer
 answer refusals es = answerBy (firstOf refusals) es
-
--- 7: on a hull, its name present, launched drones over 4,294,967,295
-unfoldable pub tooManyDrones : Catalogue → Fit → Bool
-tooManyDrones c f =
-    isHull c (f .frame .ship) && given (nameId (c .names) Names.maxActiveDrones) false (λ _. true)
-    && ltb Sizes.mostDrones (launched (pairs c f))
 
 -- 8: the result number is over R + 1
 abbrev pub noResult : Fit → ℕ → Bool
@@ -57,7 +46,7 @@ abbrev pub imageRefusals : (catalogue fit : List ℕ) → List (ℕ × Bool)
 imageRefusals catalogue fit = catalogueRefusals catalogue ++ fitRefusals fit
 
 abbrev pub listRefusals : Catalogue → Fit → (buffer : List ℕ) → List (ℕ × Bool)
-listRefusals c f buffer = (Refusals.tooManyDrones, tooManyDrones c f) ∷ (Refusals.tooShort, tooShort buffer (listOf c f)) ∷ []
+listRefusals c f buffer = (Refusals.tooShort, tooShort buffer (listOf c f)) ∷ []
 
 abbrev pub skillRefusals : Catalogue → Fit → (result : ℕ) → (buffer : List ℕ) → List (ℕ × Bool)
 skillRefusals c f result buffer =

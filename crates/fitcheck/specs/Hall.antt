@@ -12,9 +12,8 @@ use Rattle.image.specs.Bytes.{u32At}
 use Rattle.catalogue.specs.Catalogue.{Catalogue, catalogueOf}
 use Rattle.catalogue.specs.Refusals.{catalogueRefusals}
 use Rattle.fit.specs.Fit.{fitOf}
-use Rattle.fit.specs.Refusals.{fitRefusals}
+use Rattle.fit.specs.Refusals.{fitRefusal}
 use Rattle.validate.specs.Validate.{listOf}
-use Rattle.fitcheck.specs.Calls.{tooManyDrones}
 
 module _ (input : List ℕ) where
   abbrev pub fitCount : ℕ
@@ -44,11 +43,11 @@ module _ (input : List ℕ) where
     pub few : fitCount ≤ Sizes.mostFits
     pub size : fitStart fitCount ≡ length input
 
-module _ (c : Catalogue) where
-  -- refusal 4 to 7
-  unfoldable pub fitRefused : List ℕ → Bool
-  fitRefused b = ltb 0 (firstOf (fitRefusals b ++ (Refusals.tooManyDrones, tooManyDrones c (fitOf b)) ∷ []))
+-- refusal 4 to 6
+unfoldable pub fitRefused : List ℕ → Bool
+fitRefused b = ltb 0 (fitRefusal b)
 
+module _ (c : Catalogue) where
   unfoldable pub isClear : List ℕ → Bool
   isClear b = cond (fitRefused b) false (isEmpty (listOf c (fitOf b)))
 
@@ -62,7 +61,7 @@ pub data HallAnswer : Type 0 where
 
 -- how many of some fits are clear, faulted and refused
 abbrev pub numbersOf : Catalogue → List (List ℕ) → HallAnswer
-numbersOf c fs = Numbers (countOf (isClear c) fs) (countOf (isFaulted c) fs) (countOf (fitRefused c) fs)
+numbersOf c fs = Numbers (countOf (isClear c) fs) (countOf (isFaulted c) fs) (countOf fitRefused fs)
 
 unfoldable pub hallBy : ℕ → HallAnswer → HallAnswer
 hallBy zero a = a
@@ -81,7 +80,7 @@ hallReturned (Numbers clear faulted refused) = clear + 256 * faulted + 65536 * r
 module _ (c : Catalogue) where
   -- 1 where a fit is clear, 256 where it is faulted, 65,536 where it is refused
   unfoldable pub shareOf : List ℕ → ℕ
-  shareOf b = cond (isClear c b) 1 0 + 256 * cond (isFaulted c b) 1 0 + 65536 * cond (fitRefused c b) 1 0
+  shareOf b = cond (isClear c b) 1 0 + 256 * cond (isFaulted c b) 1 0 + 65536 * cond (fitRefused b) 1 0
 
   -- of some fits
   unfoldable pub wordOf : List (List ℕ) → ℕ

@@ -78,9 +78,6 @@ fn share(catalogue: &[u8], fit: &[u8], hints: &mut [u32]) -> u64
         return REFUSED; // 4 to 6
     }
     let facts = context::gather(catalogue, fit, hints);
-    if super::too_many_drones(catalogue, fit, &facts) {
-        return REFUSED; // 7
-    }
     let mut none = [0u8; 0];
     if validate::validate(catalogue, fit, &facts, hints, &mut none) == 0 {
         return CLEAR;

@@ -1,8 +1,6 @@
 // The three calls, exported on numbers and byte slices: document 01, "Refusals in their order" and "Hall number".
 mod hall;
 
-use catalogue::AttributeId;
-use numbers::names;
 use numbers::refusals;
 use numbers::sizes;
 use skill::Walk;
@@ -19,7 +17,7 @@ ghost use Rattle.context.specs.Gathered.{Gathered};
 ghost use Rattle.validate.specs.Validate.{listOf};
 ghost use Rattle.skill.specs.Skill.{reported, skillList};
 ghost use Rattle.skill.specs.Held.{walkOf};
-ghost use Rattle.fitcheck.specs.Calls.{answer, tooManyDrones, imageRefusals, listRefusals, skillRefusals};
+ghost use Rattle.fitcheck.specs.Calls.{answer, imageRefusals, listRefusals, skillRefusals};
 ghost use Rattle.fitcheck.specs.Calls.{listCall, skillCall, returned, buffered};
 ghost use Rattle.fitcheck.specs.Gave.{Gave, lent};
 ghost use Rattle.fitcheck.specs.Hall.{hallCall, hallReturned};
@@ -47,24 +45,6 @@ fn image_refusal(catalogue: &[u8], fit: &[u8]) -> u64
         return first;
     }
     fit_refusals::number(fit)
-}
-
-// Refusal 7.
-fn too_many_drones(catalogue: &[u8], fit: &[u8], facts: &[u32; 1797]) -> bool
-    requires { ⌜ Gathered (now catalogue) (now fit) (now facts) ⌝ }
-    ensures { λ r. ⌜ r ≡ tooManyDrones (catalogueOf (now (catalogue .entry))) (fitOf (now (fit .entry))) ⌝ }
-{
-    if !validate::is_hull(catalogue, fit, facts) {
-        return false;
-    }
-    let max_active = catalogue::attribute_id(catalogue, names::MAX_ACTIVE_DRONES);
-    match max_active {
-        AttributeId::Known(_) => {
-            let load = resource::drones_load(fit, sizes::MOST_DRONES);
-            load.available < load.used
-        }
-        AttributeId::Unknown => false,
-    }
 }
 
 // The list for a buffer that may be too short: it is counted first, and an empty list is not run again.
@@ -101,9 +81,6 @@ fn list_accepted(catalogue: &[u8], fit: &[u8], out: &mut [u8]) -> u64
 {
     let mut hints = [0u32; context::LIST_HINTS];
     let facts = context::gather(catalogue, fit, &mut hints);
-    if too_many_drones(catalogue, fit, &facts) {
-        return refused(refusals::TOO_MANY_DRONES);
-    }
     if out.len() < ANY_LIST {
         return counted_list(catalogue, fit, &facts, &mut hints, out);
     }

@@ -190,18 +190,6 @@ le-refl (inf false) h = tt
 le-refl (fin false m e) h = le-test false (m * up e * down e) false (m * up e * down e) (omega arith)
 le-refl (fin true m e) h = le-test true (m * up e * down e) true (m * up e * down e) (omega arith)
 
--- nothing lies below itself
-not-under : (a : ℕ) → a < a → ⊥
-not-under a h = omega arith
-
-pub lt-irrefl : (x : Float) → T (lt x x) → ⊥
-unfolding lt
-lt-irrefl nan h = h
-lt-irrefl (inf true) h = h
-lt-irrefl (inf false) h = h
-lt-irrefl (fin false m e) h = not-under (m * up e * down e) (ltb→lt (m * up e * down e) (m * up e * down e) h)
-lt-irrefl (fin true m e) h = not-under (m * up e * down e) (ltb→lt (m * up e * down e) (m * up e * down e) h)
-
 -- nothing lies below -infinity, and nothing above +infinity
 pub not-below-inf : (x : Float) → T (lt x (inf true)) → ⊥
 unfolding lt

@@ -2,21 +2,21 @@
 use mathlib.Core.Path.{_≡_, refl, sym, ap, _∙_, subst}
 use mathlib.Core.Logic.{_⊎_, inl, inr}
 use mathlib.Core.Bool.{Bool, true, false, not, cond, _&&_, true≢false}
-use Prim.Native.Nat.{ℕ, zero, suc, _+_, _*_, _^_, _%_, _<_, _≤_, zero-le}
+use Prim.Native.Nat.{ℕ, zero, suc, _*_, _^_, _%_, _<_, _≤_, zero-le}
 use native.Mathlib.Nat as Nat
 use native.Mathlib.Nat.{zero-mul, mul-zero, mul-one, mul-pos, mul-le-mul, mul-mul-mul-comm, le-of-lt, le-of-eq, mul-le-mul-right}
 use native.Mathlib.Omega.{arith}
-use lib.Dec.{T, ltb, leb, eqb, ltb→lt, nltb→le, lit≤}
+use lib.Dec.{T, ltb, leb, eqb, ltb→lt, lit≤}
 use lib.Pow.{pow-pos}
 use lib.IntN.{ℤ}
-use lib.Ieee.{Float, nan, inf, fin, Format, binary32, binary64, up, down, lt, le, mul, round, ofInt, fits, isNan, unlike}
+use lib.Ieee.{Float, nan, inf, fin, Format, binary32, binary64, up, down, le, mul, round, ofInt, fits, isNan, unlike}
 use lib.Ieee.Back.{round-whole}
 use lib.Ieee.Exact.{HasValue}
 use lib.Ieee.Fits.{and-r, down-pos, eq→eqb}
 use lib.Ieee.Order.{round-mono}
 use lib.Ieee.Scale.{finite}
 use Rattle.floats.specs.Floats.{zeroF, ofNat, isVolume}
-use Rattle.floats.proofs.Order.{Le, le-trans, lt-le-trans, lt-irrefl}
+use Rattle.floats.proofs.Order.{Le, le-trans}
 use Rattle.floats.proofs.Rounding.{le-of-values, round-le, round-zero, round-not-nan}
 use Rattle.floats.proofs.Sums.{plus-or-zero, volume-le}
 
@@ -110,26 +110,6 @@ ofNat-volume q h = volume-of (ofNat q) (value-finite (ofNat q) false q 1 (whole 
 pub ofNat-mono : (n m : ℕ) → n ≤ m → T (le (ofNat n) (ofNat m))
 unfolding ofInt
 ofNat-mono n m h = round-mono binary64 n 1 m 1 (pow-pos 0) (pow-pos 0) (omega arith)
-
-alike : (a b : Bool) → (T a → T b) → (T b → T a) → a ≡ b
-alike true true f g = refl
-alike true false f g = absurd (f tt)
-alike false true f g = absurd (g tt)
-alike false false f g = refl
-
-holds : (b : Bool) → (T (not b) → ⊥) → T b
-holds true h = tt
-holds false h = absurd (h tt)
-
--- a whole number whose float lies below that of the next: the numbers above it are those whose floats are
-pub ofNat-lt : (m n : ℕ) → T (lt (ofNat m) (ofNat (m + 1))) → lt (ofNat m) (ofNat n) ≡ ltb m n
-ofNat-lt m n h =
-    alike (lt (ofNat m) (ofNat n)) (ltb m n)
-    (λ t. holds (ltb m n) λ k. lt-irrefl (ofNat m) (lt-le-trans (ofNat m) (ofNat n) (ofNat m) t (ofNat-mono n m (nltb→le m n k))))
-    (λ t. lt-le-trans (ofNat m) (ofNat (m + 1)) (ofNat n) h (ofNat-mono (m + 1) n (next (ltb→lt m n t))))
-  where
-    next : m < n → m + 1 ≤ n
-    next p = omega arith
 
 -- ---- a volume times a quantity
 quantity : (q : ℕ) → q < 2 ^ 32 → q ≤ 2 ^ 53

@@ -1,7 +1,6 @@
--- Document 01, "Refusals in their order": their numbers.
+-- Document 01, "Refusals in their order": their numbers. 7 stood for over 4,294,967,295 drones, and is not used again.
 use Prim.Native.Nat.{ℕ}
 
--- ---- in their order of numbers; 8 is asked before 7
 -- a catalogue's length
 abbrev pub badLength : ℕ
 badLength = 1
@@ -25,9 +24,6 @@ badIds = 5
 -- a field of a fit
 abbrev pub badField : ℕ
 badField = 6
-
-abbrev pub tooManyDrones : ℕ
-tooManyDrones = 7
 
 abbrev pub noResult : ℕ
 noResult = 8

@@ -48,10 +48,6 @@ mostWanted = 512
 abbrev pub mostFits : ℕ
 mostFits = 64
 
--- launched drones that are counted
-abbrev pub mostDrones : ℕ
-mostDrones = 4294967295
-
 -- a refusal's number is returned times this
 abbrev pub word : ℕ
 word = 4294967296

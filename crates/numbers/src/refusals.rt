@@ -1,4 +1,4 @@
-// Document 01, "Refusals in their order": their numbers.
+// Document 01, "Refusals in their order": their numbers. 7 stood for over 4,294,967,295 drones, and is not used again.
 pub const BAD_LENGTH: u64 = 1;
 
 pub const BAD_KEYS: u64 = 2;
@@ -10,8 +10,6 @@ pub const BAD_SIZE: u64 = 4;
 pub const BAD_IDS: u64 = 5;
 
 pub const BAD_FIELD: u64 = 6;
-
-pub const TOO_MANY_DRONES: u64 = 7;
 
 pub const NO_RESULT: u64 = 8;
 

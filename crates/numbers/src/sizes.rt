@@ -30,8 +30,5 @@ pub const MOST_WANTED: usize = 512;
 // Fits of a hall.
 pub const MOST_FITS: usize = 64;
 
-// Launched drones that are counted, as a load has them.
-pub const MOST_DRONES: f64 = 4294967295.0;
-
 // A refusal's number is returned times this.
 pub const WORD: u64 = 4294967296;

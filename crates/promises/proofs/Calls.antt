@@ -13,7 +13,7 @@ use Rattle.fit.specs.Fit.{resultAt, fitOf}
 use Rattle.fit.specs.Refusals.{fitRefusals}
 use Rattle.validate.specs.Validate.{listOf}
 use Rattle.skill.specs.Skill.{tooMany, skillList}
-use Rattle.fitcheck.specs.Calls.{tooManyDrones, tooShort, listCall, skillCall}
+use Rattle.fitcheck.specs.Calls.{tooShort, listCall, skillCall}
 use Rattle.promises.specs.Answers.{outcome, refusal, listConditions, skillConditions, Answers}
 use Rattle.promises.proofs.Conditions.{last-first}
 use Rattle.promises.proofs.Answering.{answers}
@@ -26,7 +26,7 @@ list-answers catalogue fit buffer =
     let es = listOf (catalogueOf catalogue) (fitOf fit) in
     answers (listConditions catalogue fit buffer) (omega arith) es buffer
     (λ h. let k = list-short fit (h .1 .1 .1 .0) (catalogueOf catalogue) in omega arith)
-    (λ h. nltb→le (length buffer) (24 * length es) (h .1 .1 .1 .1 .1 .1 .1 .0))
+    (λ h. nltb→le (length buffer) (24 * length es) (h .1 .1 .1 .1 .1 .1 .0))
 
 pub skill-answers : (catalogue fit : List ℕ) (result : ℕ) (buffer : List ℕ)
     → Answers (skillConditions catalogue fit result buffer) (skillList (catalogueOf catalogue) (fitOf fit) result) buffer
@@ -43,7 +43,7 @@ pub list-room : (catalogue fit buffer : List ℕ) → 123384 ≤ length buffer �
 unfolding tooShort catalogueRefusals fitRefusals
 list-room catalogue fit buffer room h =
     let es = listOf (catalogueOf catalogue) (fitOf fit) in
-    let front = catalogueRefusals catalogue ++ fitRefusals fit ++ ((7, tooManyDrones (catalogueOf catalogue) (fitOf fit)) ∷ []) in
+    let front = catalogueRefusals catalogue ++ fitRefusals fit in
     let k = last-first 10 front (tooShort buffer es) (omega arith) (list-answers catalogue fit buffer .refused 10 (omega arith) .0 h) in
     let s = list-short fit (k .0 .1 .1 .1 .0) (catalogueOf catalogue) in
     let t = ltb→lt (length buffer) (24 * length es) (k .1) in

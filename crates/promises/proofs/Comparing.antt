@@ -55,7 +55,7 @@ u32-small : (b : List ℕ) → Bytes b → (i : ℕ) → u32At b i < 2 ^ 32
 unfolding u32At
 u32-small b h i = omega (arith, h i, h (i + 1), h (i + 2), h (i + 3))
 
-quantities : (b : List ℕ) → Bytes b → All (λ (i : Item). i .quantity < 2 ^ 32) (fitOf b .items)
+pub quantities : (b : List ℕ) → Bytes b → All (λ (i : Item). i .quantity < 2 ^ 32) (fitOf b .items)
 unfolding fitOf
 quantities b h = all-table (itemAt b) (λ i. u32-small b h (itemsAt b + 12 * i + 4)) 0 (itemCount b)
 

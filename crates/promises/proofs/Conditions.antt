@@ -78,6 +78,31 @@ first-between low high n (x ∷ l) b h = go (first-between low high n l (b .2)) 
     go f (inl a) = (let e = a .0 in let p = b .0 in omega arith, let e = a .0 in let p = b .1 in omega arith)
     go f (inr a) = f (a .1)
 
+-- ---- a number that stands nowhere
+abbrev pub Without : ℕ → Conditions → Type 0
+Without n [] = Unit {0}
+Without n (x ∷ l) = (x .0 ≡ n → ⊥) × Without n l
+
+pub never-first : (n : ℕ) (l : Conditions) → Without n l → First n l → ⊥
+never-first n [] w h = h
+never-first n (x ∷ l) w h = elim h [ inl a ↦ w .0 (a .0) | inr a ↦ never-first n l (w .1) (a .1) ]
+
+-- a condition that is not the first may as well not be asked
+pub left-out : (n : ℕ) (b : Bool) (l m : Conditions) → (firstOf (l ++ (n, b) ∷ m) ≡ n → ⊥) → firstOf (l ++ (n, b) ∷ m) ≡ firstOf (l ++ m)
+unfolding firstOf
+left-out n b [] m h = go b h
+  where
+    go : (c : Bool) → (cond c n (firstOf m) ≡ n → ⊥) → cond c n (firstOf m) ≡ firstOf m
+    go true k = absurd (k refl)
+    go false k = refl
+left-out n b (x ∷ l) m h = go (x .1) (left-out n b l m) h
+  where
+    go : (c : Bool) → ((firstOf (l ++ (n, b) ∷ m) ≡ n → ⊥) → firstOf (l ++ (n, b) ∷ m) ≡ firstOf (l ++ m))
+        → (cond c (x .0) (firstOf (l ++ (n, b) ∷ m)) ≡ n → ⊥)
+        → cond c (x .0) (firstOf (l ++ (n, b) ∷ m)) ≡ cond c (x .0) (firstOf (l ++ m))
+    go true f k = refl
+    go false f k = f k
+
 -- where the last one is the first, none before it holds
 pub last-first : (n : ℕ) (l : Conditions) (b : Bool) → Between 1 (pred n) l → First n (l ++ (n, b) ∷ []) → None l × T b
 last-first n [] b k h = elim h [ inl a ↦ (tt, a .1) | inr a ↦ absurd (a .1) ]

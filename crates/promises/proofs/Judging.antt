@@ -15,10 +15,10 @@ use Rattle.words.proofs.Tables.{length-table}
 use Rattle.catalogue.specs.Catalogue.{Catalogue, catalogueOf}
 use Rattle.catalogue.specs.Refusals.{catalogueRefusals}
 use Rattle.fit.specs.Fit.{fitOf}
-use Rattle.fit.specs.Refusals.{fitRefusals}
+use Rattle.fit.specs.Refusals.{fitRefusals, fitRefusal}
 use Rattle.entry.specs.declared.Entry.{Entry}
 use Rattle.validate.specs.Validate.{listOf}
-use Rattle.fitcheck.specs.Calls.{listCall, tooManyDrones, tooShort}
+use Rattle.fitcheck.specs.Calls.{listCall, tooShort}
 use Rattle.fitcheck.specs.Hall.{fitCount, lengthAt, fitStart, fits, badInput, fitRefused, isClear, isFaulted, HallAnswer, hallBy, hallCall, hallReturned}
 use Rattle.promises.specs.Answers.{Outcome, outcome, refusal, count, Conditions, catalogueConditions, listConditions, First, None, Answers}
 use Rattle.promises.specs.Halls.{hallConditions, clearIn, faultedIn, refusedIn, HallAnswers, Judged}
@@ -50,9 +50,9 @@ count-parts p q r h (x ∷ l) =
     let e = count-parts p q r h l in
     omega arith
 
-parts : (c : Catalogue) (b : List ℕ) → bit (isClear c b) + bit (isFaulted c b) + bit (fitRefused c b) ≡ 1
+parts : (c : Catalogue) (b : List ℕ) → bit (isClear c b) + bit (isFaulted c b) + bit (fitRefused b) ≡ 1
 unfolding bit isClear isFaulted
-parts c b = go (fitRefused c b) (isEmpty (listOf c (fitOf b)))
+parts c b = go (fitRefused b) (isEmpty (listOf c (fitOf b)))
   where
     go : (r e : Bool) → bit (cond r false e) + bit (not (cond r false e || r)) + bit r ≡ 1
     go true e = refl
@@ -86,10 +86,10 @@ module _ (catalogue input : List ℕ) where
   abbrev c : Catalogue
   c = catalogueOf catalogue
 
-  total : countOf (isClear c) (fits input) + countOf (isFaulted c) (fits input) + countOf (fitRefused c) (fits input) ≡ fitCount input
+  total : countOf (isClear c) (fits input) + countOf (isFaulted c) (fits input) + countOf fitRefused (fits input) ≡ fitCount input
   unfolding fits
   total =
-      count-parts (isClear c) (isFaulted c) (fitRefused c) (parts c) (fits input)
+      count-parts (isClear c) (isFaulted c) fitRefused (parts c) (fits input)
       ∙ length-table 0 (fitCount input) (λ i. take (lengthAt input i) (drop (fitStart input i) input))
 
   few : T (not (badInput input)) → fitCount input ≤ 64
@@ -99,7 +99,7 @@ module _ (catalogue input : List ℕ) where
   go : (k : ℕ) → firstOf (hallConditions catalogue input) ≡ k
       → HallAnswers catalogue input
       (hallReturned (hallBy k
-      (HallAnswer.Numbers (countOf (isClear c) (fits input)) (countOf (isFaulted c) (fits input)) (countOf (fitRefused c) (fits input)))))
+      (HallAnswer.Numbers (countOf (isClear c) (fits input)) (countOf (isFaulted c) (fits input)) (countOf fitRefused (fits input)))))
   unfolding hallBy hallReturned
   go zero e =
       let n = is-none (hallConditions catalogue input) (omega arith) e in
@@ -107,7 +107,7 @@ module _ (catalogue input : List ℕ) where
       let t = total in
       let x = countOf (isClear c) (fits input) in
       let y = countOf (isFaulted c) (fits input) in
-      let z = countOf (fitRefused c) (fits input) in
+      let z = countOf fitRefused (fits input) in
       let p : x < 256 = omega arith in
       let q : y < 256 = omega arith in
       let l = lowest x y z p q in
@@ -163,9 +163,9 @@ module _ (catalogue fit buffer : List ℕ) (fine : None (catalogueConditions cat
   abbrev es : List Entry
   es = listOf cat (fitOf fit)
 
-  -- those of the fit itself: refusals 4 to 7
+  -- those of the fit itself: refusals 4 to 6
   abbrev ownConditions : Conditions
-  ownConditions = fitRefusals fit ++ (7, tooManyDrones cat (fitOf fit)) ∷ []
+  ownConditions = fitRefusals fit
 
   abbrev A : Answers (listConditions catalogue fit buffer) es buffer (outcome buffer (listCall catalogue fit buffer))
   A = list-answers catalogue fit buffer
@@ -196,7 +196,7 @@ module _ (catalogue fit buffer : List ℕ) (fine : None (catalogueConditions cat
       go (yes h) = inl (answered n h)
       go (no h) = inr (A .refused 10 (omega arith) .1 (too-short (omega arith) n))
 
-  passed : None ownConditions → fitRefused cat fit ≡ false → Judged catalogue fit buffer o
+  passed : None ownConditions → fitRefused fit ≡ false → Judged catalogue fit buffer o
   unfolding isClear isFaulted
   passed n r = record { clear = (to-clear, from-clear); turned-away = (λ t. absurd (subst T r t), away); faulted = λ b. (to-faulted b, from-faulted b) }
     where
@@ -215,7 +215,7 @@ module _ (catalogue fit buffer : List ℕ) (fine : None (catalogueConditions cat
       from-clear : (refusal o ≡ 0) × (count o ≡ 0) → T (isClear cat fit)
       from-clear h = subst T (sym clear-is) (empty-is es .1 (elim (either n) [ inl a ↦ sym (a .1) ∙ h .1 | inr b ↦ absurd (let k = h .0 in omega arith) ]))
 
-      away : (4 ≤ refusal o) × (refusal o ≤ 7) → T (fitRefused cat fit)
+      away : (4 ≤ refusal o) × (refusal o ≤ 6) → T (fitRefused fit)
       away h = absurd (elim (either n) [ inl a ↦ (let k = h .0 in let l = a .0 in omega arith) | inr b ↦ (let k = h .1 in omega arith) ])
 
       room : 123384 ≤ length buffer → 24 * length es ≤ length buffer
@@ -233,7 +233,7 @@ module _ (catalogue fit buffer : List ℕ) (fine : None (catalogueConditions cat
           subst T (sym faulted-is)
           (not-T (isEmpty es || false) (λ t. let z = empty-is es .0 (or-false (isEmpty es) t) in let p = h .1 in let e = a .1 in omega arith))
 
-  turned : (k : ℕ) → First k ownConditions → fitRefused cat fit ≡ true → Judged catalogue fit buffer o
+  turned : (k : ℕ) → First k ownConditions → fitRefused fit ≡ true → Judged catalogue fit buffer o
   unfolding isClear isFaulted fitRefusals
   turned k f r = record {
     clear = (λ t. absurd (subst T clear-is t), λ h. absurd (let a = h .0 in let b = among .0 in let e = is in omega arith));
@@ -247,8 +247,8 @@ module _ (catalogue fit buffer : List ℕ) (fine : None (catalogueConditions cat
       faulted-is : isFaulted cat fit ≡ false
       faulted-is = ap (λ (b : Bool). not (cond b false (isEmpty es) || b)) r
 
-      among : (4 ≤ k) × (k ≤ 7)
-      among = first-between 4 7 k ownConditions (omega arith) f
+      among : (4 ≤ k) × (k ≤ 6)
+      among = first-between 4 6 k ownConditions (omega arith) f
 
       is : refusal o ≡ k
       is =
@@ -257,7 +257,7 @@ module _ (catalogue fit buffer : List ℕ) (fine : None (catalogueConditions cat
           (prefix-first k ownConditions ((10, tooShort buffer es) ∷ []) f))
 
   pub judged : Judged catalogue fit buffer o
-  unfolding fitRefused fitRefusals
+  unfolding fitRefused fitRefusal fitRefusals
   judged = go (firstOf ownConditions) refl
     where
       go : (k : ℕ) → firstOf ownConditions ≡ k → Judged catalogue fit buffer o

@@ -17,6 +17,7 @@ pub mod Wanting
 pub mod Judging
 pub mod Opened
 pub mod Large
+pub mod Seven
 pub mod Edges
 pub mod Deciding
 pub mod Keeping

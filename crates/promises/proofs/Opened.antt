@@ -23,8 +23,9 @@ use Rattle.limits.specs.Limits.{inGroup, groupLimitAt, groupLimit, groupLimits,
 use Rattle.validate.specs.Kind.{isHullKind, isHull, isMode, isSkill, notAMode, notASkill}
 use Rattle.validate.specs.Validate.{hullRules, listWith, listOf}
 use Rattle.skill.specs.Skill.{required, demandOf, demands, ofResult, ofSkill, note, noted, skillAt, met, walkWithin, tooMany, entryOf, skillList}
-use Rattle.fitcheck.specs.Calls.{answerBy, answer, tooManyDrones, tooShort, listCall, skillCall, buffered, returned}
+use Rattle.fitcheck.specs.Calls.{answerBy, answer, tooShort, listCall, skillCall, buffered, returned}
 use Rattle.fitcheck.specs.Hall.{fitStart, fits, badInput, fitRefused, isClear, isFaulted, hallBy, hallCall, hallReturned}
+use Rattle.promises.specs.Before.{tooManyDrones, listBefore}
 use Rattle.promises.specs.Cases.{known, outcomeOf}
 
 open-floats : Unit {0}
@@ -52,7 +53,7 @@ unfolding Fit.badSize Fit.badOrder Fit.badItem Fit.badResult Fit.badField
 open-bad-fit = tt
 
 open-refusals : Unit {0}
-unfolding Catalogue.badLength Catalogue.badOrder Catalogue.badField Catalogue.catalogueRefusals Fit.fitRefusals open-bad-fit
+unfolding Catalogue.badLength Catalogue.badOrder Catalogue.badField Catalogue.catalogueRefusals Fit.fitRefusals Fit.fitRefusal open-bad-fit
 open-refusals = tt
 
 open-kinds : Unit {0}
@@ -88,7 +89,7 @@ unfolding required demandOf demands ofResult ofSkill note noted skillAt met walk
 open-skills = tt
 
 open-calls : Unit {0}
-unfolding answerBy answer tooManyDrones tooShort listCall skillCall buffered returned
+unfolding answerBy answer tooShort listCall skillCall buffered returned tooManyDrones listBefore
 open-calls = tt
 
 open-hall : Unit {0}

@@ -11,6 +11,7 @@ use Rattle.promises.proofs.Keeping.{tables}
 use Rattle.promises.proofs.Wanting.{more-wanted, skill-lists}
 use Rattle.promises.proofs.Judging.{hall-answers, judged}
 use Rattle.promises.proofs.Opened.{opened}
+use Rattle.promises.proofs.Seven.{no-seven, list-as-before, drones-exact}
 use Rattle.promises.proofs.Edges.{edges}
 
 names : Names
@@ -23,6 +24,9 @@ promised = record {
   skill-answers = skill-answers;
   list-room = list-room;
   skill-room = skill-room;
+  no-seven = no-seven;
+  list-as-before = list-as-before;
+  drones-exact = drones-exact;
   list-kept = list-kept;
   skill-kept = skills-kept;
   any-growth = any-growth;

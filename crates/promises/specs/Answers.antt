@@ -16,7 +16,7 @@ use Rattle.entry.specs.declared.Entry.{Entry}
 use Rattle.entry.specs.Entries.{entryBytes}
 use Rattle.validate.specs.Validate.{listOf}
 use Rattle.skill.specs.Skill.{tooMany, skillList}
-use Rattle.fitcheck.specs.Calls.{Answer, buffered, returned, tooManyDrones, tooShort}
+use Rattle.fitcheck.specs.Calls.{Answer, buffered, returned, tooShort}
 
 -- ---- what a caller has after a call: the word, and the buffer
 pub record Outcome : Type 0 where
@@ -55,8 +55,7 @@ abbrev pub listConditions : (catalogue fit buffer : List ℕ) → Conditions
 listConditions catalogue fit buffer =
     let c = catalogueOf catalogue in
     let f = fitOf fit in
-    catalogueConditions catalogue ++ fitConditions fit
-    ++ (7, tooManyDrones c f) ∷ (10, tooShort buffer (listOf c f)) ∷ []
+    catalogueConditions catalogue ++ fitConditions fit ++ (10, tooShort buffer (listOf c f)) ∷ []
 
 abbrev pub skillConditions : (catalogue fit : List ℕ) (result : ℕ) (buffer : List ℕ) → Conditions
 skillConditions catalogue fit result buffer =

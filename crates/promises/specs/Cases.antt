@@ -17,6 +17,7 @@ use Rattle.validate.specs.Validate.{listOf}
 use Rattle.skill.specs.Skill.{Demand, wantedSkills, tooMany, skillList}
 use Rattle.fitcheck.specs.Calls.{returned, buffered, skillRefusals, listCall, skillCall}
 use Rattle.fitcheck.specs.Hall.{hallCall, hallReturned}
+use Rattle.promises.specs.Before.{listBefore}
 
 -- ---- a catalogue: types with their groups and categories in the game
 -- the attribute of name n
@@ -202,6 +203,8 @@ pub data Input : Type 0 where
   ListCall : (catalogue fit buffer : List ℕ) → Input
   SkillCall : (catalogue fit : List ℕ) (result : ℕ) (buffer : List ℕ) → Input
   HallCall : (catalogue input : List ℕ) → Input
+  -- the list call as it was before
+  ListBefore : (catalogue fit buffer : List ℕ) → Input
 
 pub data Expected : Type 0 where
   Number : ℕ → Expected
@@ -231,6 +234,7 @@ outcomeOf (SkillRefusal c f n buffer) = Number (firstOf (skillRefusals c f n buf
 outcomeOf (ListCall catalogue fit buffer) = let a = listCall catalogue fit buffer in Returns (returned a) (buffered buffer a)
 outcomeOf (SkillCall catalogue fit result buffer) = let a = skillCall catalogue fit result buffer in Returns (returned a) (buffered buffer a)
 outcomeOf (HallCall catalogue input) = Number (hallReturned (hallCall catalogue input))
+outcomeOf (ListBefore catalogue fit buffer) = let a = listBefore catalogue fit buffer in Returns (returned a) (buffered buffer a)
 
 abbrev pub Case : Type 0
 Case = Input × Expected

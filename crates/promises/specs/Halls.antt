@@ -31,13 +31,13 @@ pub record HallAnswers (catalogue input : List ℕ) (word : ℕ) : Type 0 where
   -- else the word has the three numbers, each by its definition, and they add up to K, which is at most 64
   pub clear : word / 4294967296 ≡ 0 → clearIn word ≡ countOf (isClear (catalogueOf catalogue)) (fits input)
   pub faulted : word / 4294967296 ≡ 0 → faultedIn word ≡ countOf (isFaulted (catalogueOf catalogue)) (fits input)
-  pub turned-away : word / 4294967296 ≡ 0 → refusedIn word ≡ countOf (fitRefused (catalogueOf catalogue)) (fits input)
+  pub turned-away : word / 4294967296 ≡ 0 → refusedIn word ≡ countOf fitRefused (fits input)
   pub total : word / 4294967296 ≡ 0 → clearIn word + faultedIn word + refusedIn word ≡ fitCount input
   pub few : word / 4294967296 ≡ 0 → fitCount input ≤ 64
 
--- a fit in the hall, beside its own list call with any buffer: clear where that answers with no entry, refused where that refuses with 4 to 7
+-- a fit in the hall, beside its own list call with any buffer: clear where that answers with no entry, refused where that refuses with 4 to 6
 pub record Judged (catalogue fit buffer : List ℕ) (o : Outcome) : Type 0 where
   pub clear : T (isClear (catalogueOf catalogue) fit) ↔ ((refusal o ≡ 0) × (count o ≡ 0))
-  pub turned-away : T (fitRefused (catalogueOf catalogue) fit) ↔ ((4 ≤ refusal o) × (refusal o ≤ 7))
+  pub turned-away : T (fitRefused fit) ↔ ((4 ≤ refusal o) × (refusal o ≤ 6))
   -- faulted where it answers with entries, if the buffer has room for the longest list
   pub faulted : 123384 ≤ length buffer → T (isFaulted (catalogueOf catalogue) fit) ↔ ((refusal o ≡ 0) × (0 < count o))

@@ -1,6 +1,7 @@
 -- Start at Promises; the others have its terms.
 pub mod Promises
 pub mod Answers
+pub mod Before
 pub mod Compare
 pub mod GrownCase
 pub mod KeptCases

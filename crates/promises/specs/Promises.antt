@@ -2,20 +2,27 @@
 -- fitcheck/specs, functions of bytes, and the exported functions are proved equal to them: the word by `returned`, `hallReturned`, the
 -- buffer by `buffered`. Read `Answers`, `Compare`, `GrownCase`, `KeptCases`, `Walks`, `Halls`, `Edges` beside this file, and
 -- validate/specs for the list.
-use Prim.Native.Nat.{ℕ, _≤_}
+use Prim.Native.Nat.{ℕ, _/_, _≤_}
 use mathlib.Core.Path.{_≡_}
+use mathlib.Core.Bool.{false, not}
 use mathlib.Core.List.{List, map}
 use mathlib.Core.Logic.{_↔_}
 use lib.Dec.{T}
 use lib.ListN.{length, getD}
+use lib.Ieee.Exact.{HasValue}
 use Rattle.words.specs.Words.{from}
+use Rattle.floats.specs.Floats.{ofNat}
 use Rattle.catalogue.specs.Catalogue.{Catalogue, catalogueOf}
 use Rattle.fit.specs.Fit.{Item, Result, Fit, fitOf}
+use Rattle.fit.specs.Refusals.{badSize}
+use Rattle.context.specs.Context.{pairs}
+use Rattle.resource.specs.Resource.{launched}
 use Rattle.validate.specs.Validate.{listOf}
 use Rattle.skill.specs.Skill.{tooMany, skillList}
 use Rattle.fitcheck.specs.Calls.{listCall, skillCall}
 use Rattle.fitcheck.specs.Hall.{hallCall, hallReturned}
 use Rattle.promises.specs.Answers.{Outcome, outcome, refusal, catalogueConditions, listConditions, skillConditions, None, Answers}
+use Rattle.promises.specs.Before.{listBefore}
 use Rattle.promises.specs.Compare.{Bytes, Grown, AddedVolumes, Kept}
 use Rattle.promises.specs.GrownCase.{grownBy, Example}
 use Rattle.promises.specs.KeptCases.{Tables}
@@ -49,8 +56,29 @@ ListRoom = (catalogue fit buffer : List ℕ) → 123384 ≤ length buffer → re
 abbrev pub SkillRoom : Type 0
 SkillRoom = (catalogue fit : List ℕ) (result : ℕ) (buffer : List ℕ) → 12288 ≤ length buffer → refusal (skillOutcome catalogue fit result buffer) ≡ 10 → ⊥
 
--- Demand 3 for the list. Items and results put behind those of a fit with as many results as items, and lowered levels, make no entry
--- vanish: it has its own place in the new list, in the old order, with a used number no lower and every other byte the same.
+-- Drones over 4,294,967,295 were refused by 7. No call gives this number any more.
+abbrev pub NoSeven : Type 0
+NoSeven = (catalogue fit input buffer : List ℕ) (result : ℕ)
+    → (refusal (listOutcome catalogue fit buffer) ≡ 7 → ⊥)
+    × (refusal (skillOutcome catalogue fit result buffer) ≡ 7 → ⊥)
+    × (hallReturned (hallCall catalogue input) / 4294967296 ≡ 7 → ⊥)
+
+-- Every list call that was not refused by 7 leaves what it left before, the word and every byte of the buffer: those that were answered, and
+-- those that another number refused.
+abbrev pub ListAsBefore : Type 0
+ListAsBefore = (catalogue fit buffer : List ℕ)
+    → (refusal (outcome buffer (listBefore catalogue fit buffer)) ≡ 7 → ⊥)
+    → listOutcome catalogue fit buffer ≡ outcome buffer (listBefore catalogue fit buffer)
+
+-- The drones of a fit that 4 does not refuse, 256 stacks of 4,294,967,295 at most, are a number that an f64 holds: the one that is listed has
+-- the value of their total, with no rounding.
+abbrev pub DronesExact : Type 0
+DronesExact = (c : Catalogue) (fit : List ℕ) → Bytes fit → T (not (badSize fit))
+    → let total = launched (pairs c (fitOf fit)) in HasValue (ofNat total) false total 1
+
+-- Demand 3 for the list. Items and results put behind those of a fit with as many results as items, drones in any number among them, and
+-- lowered levels, make no entry vanish: it has its own place in the new list, in the old order, with a used number no lower and every other
+-- byte the same.
 abbrev pub ListKept : Type 0
 ListKept = (catalogue old new oldBuffer newBuffer : List ℕ) → Bytes new
     → Grown (fitOf old) (fitOf new)
@@ -91,7 +119,7 @@ abbrev pub HallCall : Type 0
 HallCall = (catalogue input : List ℕ) → HallAnswers catalogue input (hallReturned (hallCall catalogue input))
 
 -- Where the catalogue is not refused, a fit is clear exactly where its list call answers with no entry, refused exactly where that refuses
--- with 4 to 7, and faulted where it lists entries.
+-- with 4 to 6, and faulted where it lists entries.
 abbrev pub HallFits : Type 0
 HallFits = (catalogue fit buffer : List ℕ) → None (catalogueConditions catalogue) → Judged catalogue fit buffer (listOutcome catalogue fit buffer)
 
@@ -110,6 +138,9 @@ pub record Promises : Type 0 where
   pub skill-answers : SkillAnswers
   pub list-room : ListRoom
   pub skill-room : SkillRoom
+  pub no-seven : NoSeven
+  pub list-as-before : ListAsBefore
+  pub drones-exact : DronesExact
   pub list-kept : ListKept
   pub skill-kept : SkillKept
   pub any-growth : AnyGrowth

@@ -16,7 +16,7 @@ use Rattle.fit.specs.Fit.{Result, Fit}
 use Rattle.entry.specs.declared.Rule.the-variants.{WrongSlot, NotAModule, Skill, ShipRestricted, MaxGroup, MaxType, NotAHull, NotASkill}
 use Rattle.entry.specs.Entries.{onShip, onItem}
 use Rattle.promises.specs.Cases.{attribute, typed, ship, gun, unknown, base, tree, has, result, asksFor, asks, Thing, one, fit}
-use Rattle.promises.specs.Cases.{Fitted, Wants, Skilled, BadLength, BadSize, SkillRefusal, ListCall, SkillCall, HallCall}
+use Rattle.promises.specs.Cases.{Fitted, Wants, Skilled, BadLength, BadSize, SkillRefusal, ListCall, SkillCall, HallCall, ListBefore}
 use Rattle.promises.specs.Cases.{Number, Holds, Entries, Demands, Returns, Case}
 use Rattle.promises.specs.CallCases.{words, bare, small, empty, fitted, typesAt, holding, listRefuses, listAnswers}
 
@@ -242,7 +242,7 @@ RANGES =
     (words (0 ∷ 0 ∷ 0 ∷ 1 ∷ 0 ∷ 0 ∷ 0 ∷ []) ++ (0 ∷ 0 ∷ 1 ∷ 0 ∷ replicate 4 0) ++ words (0xFFFFFFFF ∷ 0 ∷ 0x7FF80000 ∷ []))
     ∷ []
 
--- ---- 7: launched drones
+-- ---- 7, which is given no more: launched drones
 -- so many in two stacks in the drone bay of a ship, each in a state; type 9 is no drone
 abbrev launching : (ship : ℕ) → (a aState b bState : ℕ) → List ℕ
 launching ship a s b s′ =
@@ -250,9 +250,12 @@ launching ship a s b s′ =
     ++ words (9 ∷ a ∷ 10 ∷ 9 ∷ b ∷ 10 ∷ [])
     ++ replicate 8 0 ++ (s ∷ 0 ∷ 0 ∷ 0 ∷ s′ ∷ 0 ∷ 0 ∷ 0 ∷ [])
 
--- two that are no drones
+-- their list: so many drones of 0, and that neither stack is of drones
 abbrev noDrones : List ℕ
 noDrones = words (0x00000501 ∷ 0 ∷ 0 ∷ 0 ∷ 0 ∷ 0 ∷ []) ++ words (0x00000501 ∷ 1 ∷ 0 ∷ 0 ∷ 0 ∷ 0 ∷ [])
+
+abbrev launched : (low high : ℕ) → List ℕ
+launched low high = words (0x00050100 ∷ 0 ∷ low ∷ high ∷ 0 ∷ 0 ∷ []) ++ noDrones
 
 -- type 1, a ship, and no names
 abbrev nameless : List ℕ
@@ -260,25 +263,26 @@ nameless = words (0 ∷ 0 ∷ 1 ∷ 0 ∷ 0 ∷ 1 ∷ 25 ∷ 6 ∷ 0 ∷ 0 ∷ [
 
 abbrev pub DRONES : List Case
 DRONES =
-    -- two active stacks, 4,294,967,295 and 1
-    listRefuses small (launching 1 4294967295 2 1 2) 7
-    ∷ listRefuses small (launching 1 2147483648 3 2147483648 2) 7
-    ∷ (HallCall small (words (1 ∷ 68 ∷ []) ++ launching 1 4294967295 2 1 2), Number 65536)
+    -- two active stacks, 4,294,967,295 and 1: 4,294,967,296.0 of 0; 7 before
+    (ListCall small (launching 1 4294967295 2 1 2) (replicate 72 7), Returns 3 (launched 0 0x41F00000))
+    ∷ (ListCall small (launching 1 2147483648 3 2147483648 2) (replicate 72 7), Returns 3 (launched 0 0x41F00000))
+    ∷ (ListBefore small (launching 1 4294967295 2 1 2) (replicate 72 7), Returns (7 * 4294967296) (replicate 72 7))
+    -- a hall counts it as faulted
+    ∷ (HallCall small (words (1 ∷ 68 ∷ []) ++ launching 1 4294967295 2 1 2), Number 256)
     -- one less: 4,294,967,295.0 of 0
-    ∷ (
-      ListCall small (launching 1 4294967294 2 1 2) (replicate 72 7),
-      Returns 3 (words (0x00050100 ∷ 0 ∷ 0xFFE00000 ∷ 0x41EFFFFF ∷ 0 ∷ 0 ∷ []) ++ noDrones),
-    )
-    -- a stack that is not active; the name is not there; no hull
-    ∷ (
-      ListCall small (launching 1 4294967295 2 1 1) (replicate 72 7),
-      Returns 3 (words (0x00050100 ∷ 0 ∷ 0xFFE00000 ∷ 0x41EFFFFF ∷ 0 ∷ 0 ∷ []) ++ noDrones),
-    )
+    ∷ (ListCall small (launching 1 4294967294 2 1 2) (replicate 72 7), Returns 3 (launched 0xFFE00000 0x41EFFFFF))
+    ∷ (ListBefore small (launching 1 4294967294 2 1 2) (replicate 72 7), Returns 3 (launched 0xFFE00000 0x41EFFFFF))
+    -- a stack that is not active; the name is not there; no hull: 7 was not asked
+    ∷ (ListCall small (launching 1 4294967295 2 1 1) (replicate 72 7), Returns 3 (launched 0xFFE00000 0x41EFFFFF))
+    ∷ (ListBefore small (launching 1 4294967295 2 1 1) (replicate 72 7), Returns 3 (launched 0xFFE00000 0x41EFFFFF))
     ∷ (ListCall nameless (launching 1 4294967295 2 1 2) (replicate 48 7), Returns 2 noDrones)
+    ∷ (ListBefore nameless (launching 1 4294967295 2 1 2) (replicate 48 7), Returns 2 noDrones)
     ∷ listAnswers small (launching 0 4294967295 2 1 2)
-    -- 6 before it, 10 behind it
+    ∷ (ListBefore bare (launching 1 4294967295 2 1 2) (replicate 24 7), Returns 1 (0 ∷ 19 ∷ replicate 22 0))
+    -- 6 before it, 10 as ever
     ∷ listRefuses small (launching 1 4294967295 4 1 2) 6
-    ∷ (ListCall small (launching 1 4294967295 2 1 2) [], Returns (7 * 4294967296) [])
+    ∷ (ListCall small (launching 1 4294967295 2 1 2) (replicate 71 7), Returns (10 * 4294967296) (replicate 71 7))
+    ∷ (ListBefore small (launching 1 4294967295 2 1 2) [], Returns (7 * 4294967296) [])
     -- a skill call launches nothing
     ∷ (SkillCall small (launching 1 4294967295 2 1 2) 0 [], Returns 0 [])
     ∷ []

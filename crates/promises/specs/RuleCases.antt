@@ -89,6 +89,18 @@ loadsOf a b = each (from 0 10) λ k. has (k + k) (ofNat (a + k)) ∷ has (k + k 
 abbrev drones : List Thing
 drones = stack 3 drone 10 0 2 [] ∷ stack 100 drone 10 0 1 [] ∷ stack 2 drone 10 0 3 [] ∷ stack 50 ore 11 0 2 [] ∷ []
 
+-- over 32 bits, two stacks of them active
+abbrev hangar : List Thing
+hangar = stack 4294967295 drone 10 0 2 [] ∷ stack 5 drone 10 0 1 [] ∷ stack 1 drone 10 0 3 [] ∷ []
+
+-- as many as a fit can hold
+abbrev fullHangar : List Thing
+fullHangar = map (λ _. stack 4294967295 drone 10 0 2 []) (from 0 256)
+
+-- drones whose character leads so many
+abbrev led : Float → List Thing → List Entry → Case
+led most things es = lists (maxActiveDrones ∷ []) (fitWith ship [] (has maxActiveDrones most ∷ []) things) es
+
 abbrev hold : List Thing
 hold = stack 3 ore 11 0 0 [] ∷ stack 9 ghost 11 0 0 [] ∷ stack 9 unknown 11 0 0 [] ∷ []
 
@@ -133,6 +145,16 @@ RESOURCES =
     ∷ lists [] (fit ship [] drones) []
     -- a squadron in a tube is no drone
     ∷ lists (maxActiveDrones ∷ []) (fit ship [] (alone (stack 3 squadron 6 0 2 []))) []
+    -- added up without loss: 2 ^ 32, and 2 ^ 40 - 256
+    ∷ led (ofNat 5) hangar (onShip (Resource 5 (fin false 1 (pos 32)) (ofNat 5)) ∷ [])
+    ∷ led (ofNat 4294967291) hangar (onShip (Resource 5 (fin false 1 (pos 32)) (ofNat 4294967291)) ∷ [])
+    ∷ led (ofNat 5) fullHangar (onShip (Resource 5 (fin false 4294967295 (pos 8)) (ofNat 5)) ∷ [])
+    -- within the slack of the limit, below a limit that is larger, and no limit to be over
+    ∷ led (ofNat 4294967292) hangar []
+    ∷ led (fin false 4294967295 (pos 8)) fullHangar []
+    ∷ led (inf false) hangar []
+    ∷ led (inf true) hangar []
+    ∷ led nan hangar []
     -- `cargo`: volume times quantity, of the hold alone; no volume is 0
     ∷ lists (capacity ∷ []) (fit ship (has capacity (ofNat 7) ∷ []) hold) (onShip (Resource 11 (halves 15) (ofNat 7)) ∷ [])
     ∷ lists (capacity ∷ []) (fit ship (has capacity (halves 15) ∷ []) hold) []

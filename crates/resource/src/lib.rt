@@ -193,7 +193,7 @@ fn launched_at(fit: &[u8], i: usize) -> u64
 
 // How many drones are in space, rather than how much room they take up, and how many there may be. 256 stacks of the largest
 // quantity do not wrap.
-pub fn drones_load(fit: &[u8], available: f64) -> Load
+fn drones_load(fit: &[u8], available: f64) -> Load
     requires { ⌜ Fit.Sound (now fit) ⌝ }
     ensures { λ r. ⌜
         ((catalogue : List ℕ) → r .used ≡ ofNat (launched (pairsOf catalogue (now (fit .entry)))))

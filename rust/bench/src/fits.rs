@@ -60,6 +60,24 @@ pub const LARGEST: Shape = Shape {
     character_attributes: 54,
 };
 
+/// A hangar: as many stacks of drones as a fit holds.
+pub const HANGAR: Shape = Shape {
+    modules: 0,
+    drones: 256,
+    goods: 0,
+    implants: 0,
+    ..SMALL
+};
+
+/// A hangar with the largest quantity in each of its stacks.
+pub fn full_hangar(number: u64) -> Fit {
+    let mut made = fit(HANGAR, number);
+    for item in &mut made.items {
+        item.quantity = u32::MAX;
+    }
+    made
+}
+
 /// A fit of so many pairs, each as in the largest one.
 pub fn of_pairs(pairs: usize) -> Shape {
     let modules = pairs.div_ceil(256 / LARGEST.modules).min(pairs);

@@ -72,6 +72,7 @@ fn everything(picture: Option<&str>) {
     let catalogues = PARTS.map(|part| Catalogue::new(&world::catalogue(part)));
     let [small, .., full] = &catalogues;
     lists(small, full);
+    hangars(small);
     skills(small, full);
     hall(small, full);
     let by_pairs = grown_pairs(small);
@@ -104,11 +105,26 @@ fn lists(small: &Catalogue, full: &Catalogue) {
         ),
         ("(c) 256 pairs, small catalogue", small, fits::LARGEST),
         ("(c) 256 pairs, full-size catalogue", full, fits::LARGEST),
+        (
+            "256 stacks of single drones, small catalogue",
+            small,
+            fits::HANGAR,
+        ),
     ] {
         let fits = of_shape(shape, FITS);
         let row = subject::list(catalogue, &fits);
         report::list_row(title, fits.len(), &row);
     }
+    println!();
+}
+
+fn hangars(small: &Catalogue) {
+    println!("## Whole hangars, small catalogue, µs\n");
+    let ones = of_shape(fits::HANGAR, FITS);
+    let full: Vec<Fit> = (0..FITS)
+        .map(|number| Fit::new(&fits::full_hangar(number)))
+        .collect();
+    report::hangar_table(subject::hangars(small, &ones, &full));
     println!();
 }
 

@@ -49,6 +49,18 @@ pub fn list_row(title: &str, fits: usize, row: &List) {
     );
 }
 
+/// Hangars of single drones, and of as many as they hold.
+pub fn hangar_table([ones, full]: [f64; 2]) {
+    println!("| 256 stacks | list | ÷ single drones |");
+    println!("|---|---|---|");
+    println!("| of 1 | {} | |", micros(ones));
+    println!(
+        "| of 4,294,967,295 | {} | {} |",
+        micros(full),
+        ratio(full / ones)
+    );
+}
+
 pub fn skill_head() {
     println!(
         "| | entries | skill | short buffer | scan | original \

@@ -5,6 +5,7 @@ use std::hint::black_box;
 
 use compare::checker::{Checker, ENTRY};
 use compare::names::{COUNT, REQUIRED};
+use compare::reference::Original;
 use compare::{model, rattle, reference};
 use original::{Info, ItemResult, Rule, Run, Target, Violation};
 
@@ -185,6 +186,35 @@ pub fn list(catalogue: &Catalogue, fits: &[Fit]) -> List {
         original: hashed.min(sorted),
         part: hashed_part.min(sorted_part),
     }
+}
+
+/// Times the list call over hangars and over others in turn. The original
+/// cannot add the second ones up: their lists are the reference's.
+pub fn hangars(catalogue: &Catalogue, ones: &[Fit], full: &[Fit]) -> [f64; 2] {
+    let library = library();
+    let mut long = [vec![0; ANY_LIST], vec![0; ANY_LIST]];
+    for fit in full {
+        let [given, expected] = &mut long;
+        let word = library.list(&catalogue.image, &fit.image, given);
+        assert_eq!(
+            word,
+            Original.list(&catalogue.image, &fit.image, expected),
+            "entries of the library and of the reference"
+        );
+        assert_eq!(given, expected, "bytes of the library and of the reference");
+    }
+    let [mut t0, mut t1] = [ones, full].map(Turns::new);
+    let [first, second] = &mut long;
+    let image = &catalogue.image;
+    let call = |fit: &Fit, out: &mut Vec<u8>| {
+        black_box(library.list(black_box(image), &fit.image, out));
+    };
+    medians(
+        ROUNDS,
+        [&mut || call(t0.next().1, first), &mut || {
+            call(t1.next().1, second)
+        }],
+    )
 }
 
 /// The list of both sides, byte by byte the same: the library's with either

@@ -25,7 +25,7 @@ const LAST_ROOM: usize = 1 << 20;
 ///
 /// # Errors
 ///
-/// The refusal that document 01's order picks, of 1 to 7. The buffer grows by
+/// The refusal that document 01's order picks, of 1 to 6. The buffer grows by
 /// itself, so it is never [`Refusal::BufferLength`].
 ///
 /// ```
@@ -178,7 +178,7 @@ pub struct Hall {
     pub clear: usize,
     /// Fits whose list has entries.
     pub faulted: usize,
-    /// Fits that are refused, by 4 to 7.
+    /// Fits that are refused, by 4 to 6.
     pub refused: usize,
 }
 
@@ -234,7 +234,7 @@ pub enum Verdict {
         /// How many entries its list has.
         entries: usize,
     },
-    /// It is no fit, for this reason: 4 to 7.
+    /// It is no fit, for this reason: 4 to 6.
     Refused(Refusal),
 }
 
@@ -260,12 +260,9 @@ pub fn verdicts(catalogue: &[u8], fits: &[&[u8]]) -> Result<Vec<Verdict>, Refusa
             Ok(bytes) => Ok(Verdict::Faulted {
                 entries: bytes.len() / ENTRY_BYTES,
             }),
-            Err(
-                refusal @ (Refusal::FitLength
-                | Refusal::FitOrder
-                | Refusal::FitField
-                | Refusal::LaunchedDrones),
-            ) => Ok(Verdict::Refused(refusal)),
+            Err(refusal @ (Refusal::FitLength | Refusal::FitOrder | Refusal::FitField)) => {
+                Ok(Verdict::Refused(refusal))
+            }
             Err(other) => Err(other),
         })
         .collect()
@@ -397,9 +394,9 @@ mod tests {
         let mut calls = 0;
         let refused = grown(FIRST_ROOM, MOST_ENTRIES, |_| {
             calls += 1;
-            7 << 32
+            6 << 32
         });
-        assert_eq!(refused, Err(Refusal::LaunchedDrones));
+        assert_eq!(refused, Err(Refusal::FitField));
         assert_eq!(calls, 1);
     }
 

@@ -69,9 +69,8 @@ impl Default for ItemResult {
     }
 }
 
-/// Builds a fit image that the calls accept: refusals 4 to 6 never come. Those
-/// that are about what a fit says still may, 7 for a total of drones and 9 for
-/// a number of skills.
+/// Builds a fit image that the calls accept: refusals 4 to 6 never come. 9,
+/// which is about how many skills a result wants, still may.
 ///
 /// Skills and each result's attributes may come in any order; items keep
 /// theirs, and an entry's index is the item's place. An item comes with its

@@ -5,7 +5,8 @@ use std::fmt;
 
 /// Why a call gives no list: document 01's refusals, by their number.
 ///
-/// As text it is one sentence.
+/// As text it is one sentence. There is no 7: it stood for over 4,294,967,295
+/// drones, which are answered, and its number is not used again.
 ///
 /// ```
 /// use fitcheck::Refusal;
@@ -31,8 +32,6 @@ pub enum Refusal {
     FitOrder,
     /// 6: a byte, index, state or mode of the fit has no meaning.
     FitField,
-    /// 7: more than 4,294,967,295 drones are launched.
-    LaunchedDrones,
     /// 8: the fit has no result of that number.
     NoSuchResult,
     /// 9: a result wants more than 512 skills.
@@ -48,7 +47,7 @@ pub enum Refusal {
 }
 
 impl Refusal {
-    /// Every refusal of document 01, by its number from 1.
+    /// Every refusal that a call may give, by ascending number.
     pub const ALL: &'static [Refusal] = &[
         Refusal::CatalogueLength,
         Refusal::CatalogueOrder,
@@ -56,14 +55,13 @@ impl Refusal {
         Refusal::FitLength,
         Refusal::FitOrder,
         Refusal::FitField,
-        Refusal::LaunchedDrones,
         Refusal::NoSuchResult,
         Refusal::WantedSkills,
         Refusal::BufferLength,
     ];
 
-    /// Document 01's number, from 1 to 10. Of an unexpected word it is the
-    /// upper half.
+    /// Document 01's number, from 1 to 10 and never 7. Of an unexpected word
+    /// it is the upper half.
     pub fn number(self) -> u32 {
         match self {
             Refusal::CatalogueLength => 1,
@@ -72,7 +70,6 @@ impl Refusal {
             Refusal::FitLength => 4,
             Refusal::FitOrder => 5,
             Refusal::FitField => 6,
-            Refusal::LaunchedDrones => 7,
             Refusal::NoSuchResult => 8,
             Refusal::WantedSkills => 9,
             Refusal::BufferLength => 10,
@@ -86,6 +83,7 @@ impl Refusal {
     /// use fitcheck::Refusal;
     ///
     /// assert_eq!(Refusal::from_number(4), Some(Refusal::FitLength));
+    /// assert_eq!(Refusal::from_number(7), None);
     /// assert_eq!(Refusal::from_number(0), None);
     /// ```
     pub fn from_number(number: u32) -> Option<Refusal> {
@@ -134,7 +132,6 @@ impl fmt::Display for Refusal {
             Refusal::FitField => {
                 "the fit has a slot kind, slot index, state, mode or zero byte outside its range"
             }
-            Refusal::LaunchedDrones => "the fit launches more than 4,294,967,295 drones",
             Refusal::NoSuchResult => "the fit has no result of that number",
             Refusal::WantedSkills => "the result wants more than 512 skills",
             Refusal::BufferLength => "the buffer is shorter than 24 bytes for each entry",
@@ -161,7 +158,7 @@ mod tests {
         assert_eq!(Refusal::or_count(0), Ok(0));
         assert_eq!(Refusal::or_count(5_141), Ok(5_141));
         assert_eq!(Refusal::or_count(4_294_967_295), Ok(u32::MAX));
-        for number in 1..=10 {
+        for number in [1, 2, 3, 4, 5, 6, 8, 9, 10] {
             let word = number * 4_294_967_296;
             let refusal = Refusal::or_count(word).unwrap_err();
             assert_eq!(u64::from(refusal.number()), number);
@@ -173,7 +170,7 @@ mod tests {
                 "a refusal with a count"
             );
         }
-        for word in [11 * 4_294_967_296, u64::MAX, 1 << 63] {
+        for word in [7 * 4_294_967_296, 11 * 4_294_967_296, u64::MAX, 1 << 63] {
             assert_eq!(Refusal::or_count(word), Err(Refusal::Unexpected { word }));
         }
     }
@@ -183,7 +180,7 @@ mod tests {
         let mut sentences: Vec<String> = Refusal::ALL.iter().map(Refusal::to_string).collect();
         sentences.sort();
         sentences.dedup();
-        assert_eq!(sentences.len(), 10);
+        assert_eq!(sentences.len(), 9);
         let word = 77 << 32;
         let sentence = Refusal::Unexpected { word }.to_string();
         assert!(sentence.contains("0x0000004D00000000"), "{sentence}");

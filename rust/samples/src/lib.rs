@@ -9,7 +9,11 @@ use compare::checker::{Checker, ENTRY};
 use fitcheck::text::Types;
 
 /// The samples, each a folder.
-pub const SAMPLES: [&str; 3] = ["clear", "faulted", "refused"];
+pub const SAMPLES: [&str; 4] = ["clear", "faulted", "hangar", "refused"];
+
+/// The sample whose fit lacks its last byte: no words make an image that is
+/// refused.
+const CUT: &str = "refused";
 
 /// The buffer that the program `check` lends.
 pub const LENT: usize = 65_520;
@@ -45,10 +49,12 @@ pub fn images(sample: &str) -> Result<Images, String> {
         .fit(&text(&file)?)
         .map_err(|wrong| format!("{file}, {wrong}"))?;
     let built = |wrong| format!("{sample}: {wrong}");
-    Ok(Images {
-        types: types.catalogue().build().map_err(built)?,
-        fit: fit.build().map_err(built)?,
-    })
+    let mut fit = fit.build().map_err(built)?;
+    if sample == CUT {
+        fit.pop();
+    }
+    let types = types.catalogue().build().map_err(built)?;
+    Ok(Images { types, fit })
 }
 
 /// What document 01's program prints of a checker's list call.

@@ -1,7 +1,9 @@
 //! Loads, launched drones and cargo at their corners.
 
 use super::Make;
-use crate::case::Case;
+use crate::case::{Case, Growth};
+use crate::generate::growth::grown;
+use crate::model::Item;
 use crate::names::*;
 use crate::numbers::{FUSED_DIFFERS, limit};
 use crate::sketch::*;
@@ -131,16 +133,32 @@ pub const CASES: &[Make] = &[
         sketch.fit.items[0].quantity = 4_294_967_294;
         sketch.list("exactly 4,294,967,295 drones")
     },
+    || full_hangar().list("256 stacks of the largest quantity"),
+    || led(full_hangar(), 1_099_511_627_520.0),
+    || led(full_hangar(), 1_099_511_626_421.0),
+    || led(full_hangar(), 1_099_511_626_420.0),
+    || led(big_drones(), 4_294_967_295.0),
+    || led(big_drones(), 4_294_967_292.0),
+    || led(big_drones(), 4_294_967_291.0),
+    || led(big_drones(), 1e300),
+    || led(big_drones(), f64::NAN),
+    || led(big_drones(), f64::INFINITY),
+    || led(big_drones(), f64::NEG_INFINITY),
+    || led(big_drones(), -1.0),
     || {
-        let mut case = big_drones().list("256 stacks of the largest quantity");
-        let fit = &mut case.fits[0];
-        fit.items[1].quantity = u32::MAX;
-        while fit.items.len() < 256 {
-            fit.items.push(fit.items[1]);
-            fit.results.push(fit.results[1].clone());
-        }
-        case
+        big_drones()
+            .mode(40)
+            .skill(77, 1)
+            .ship(LOADS, 2.0)
+            .ship(LOADS + 1, 1.0)
+            .ship(CAPACITY, -1.0)
+            .item(9, HIGH, 0)
+            .list("over 32 bits of drones between a load and cargo")
     },
+    || launched_behind(4_294_967_295, &[1], 2.0),
+    || launched_behind(4_294_967_295, &[4_294_967_295, 1], 4_294_967_290.0),
+    || launched_behind(3, &[u32::MAX; 255], 2.0),
+    || launched_behind(3, &[u32::MAX; 255], 1e300),
     || cargo(&[(0.5, 3)], 1.5),
     || cargo(&[(0.5, 4)], 1.5),
     || cargo(&[], 0.0),
@@ -238,6 +256,40 @@ fn big_drones() -> Sketch {
         .state(ACTIVE)
         .item(9, DRONE_BAY, 0)
         .state(ACTIVE)
+}
+
+/// As many drones as a fit holds.
+fn full_hangar() -> Sketch {
+    let mut sketch = big_drones();
+    sketch.fit.items = vec![sketch.fit.items[0]; 256];
+    sketch.fit.results = vec![sketch.fit.results[0].clone(); 256];
+    sketch
+}
+
+fn led(hangar: Sketch, most: f64) -> Case {
+    hangar
+        .character(MAX_ACTIVE_DRONES, most)
+        .list("over 32 bits of drones, of a number")
+}
+
+/// One stack of drones, and others that are put behind it.
+fn launched_behind(first: u32, added: &[u32], most: f64) -> Case {
+    let mut sketch = big_drones().character(MAX_ACTIVE_DRONES, most).finish();
+    let stack = sketch.fit.items[0];
+    let active = sketch.fit.results[0].clone();
+    sketch.fit.items.truncate(1);
+    sketch.fit.results.truncate(1);
+    sketch.fit.items[0].quantity = first;
+    let behind = added.iter().map(|quantity| Item {
+        quantity: *quantity,
+        ..stack
+    });
+    let growth = Growth {
+        items: behind.collect(),
+        results: vec![active; added.len()],
+        ..Growth::default()
+    };
+    grown("drones behind drones", sketch.catalogue, sketch.fit, growth)
 }
 
 /// Types from 600 on, one for each volume and quantity.

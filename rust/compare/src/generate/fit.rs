@@ -33,11 +33,15 @@ pub fn fit(rng: &mut Rng, world: &World, style: Style, most: usize) -> Fit {
         let item = item(rng, world, style, &fit, kind);
         fit.items.push(item);
     }
-    if rng.chance(style.odd / 8) {
+    let has_hangar = rng.chance(style.odd / 8);
+    if has_hangar {
         hangar(rng, world, &mut fit);
     }
     fit.ship = ship(rng, world, style, &fit);
     fit.character = character(rng, world, style);
+    if has_hangar && rng.chance(500) {
+        lead(rng, world, &mut fit.character);
+    }
     let rig_size = fit
         .ship
         .attributes
@@ -64,7 +68,7 @@ fn kinds(rng: &mut Rng) -> Vec<u8> {
     }
 }
 
-/// Stacks of drones that come to about 32 bits together.
+/// Stacks of drones that come to about 32 bits together, or to far more.
 fn hangar(rng: &mut Rng, world: &World, fit: &mut Fit) {
     let stacks: &[u32] = rng.pick(&[
         &[4_294_967_295, 1],
@@ -72,6 +76,7 @@ fn hangar(rng: &mut Rng, world: &World, fit: &mut Fit) {
         &[2_147_483_648, 2_147_483_648],
         &[2_147_483_648, 2_147_483_647],
         &[1, 0, 4_294_967_295, 7],
+        &[4_294_967_295; 3],
     ]);
     for quantity in stacks {
         fit.items.push(Item {
@@ -82,6 +87,26 @@ fn hangar(rng: &mut Rng, world: &World, fit: &mut Fit) {
             index: 0,
         });
     }
+}
+
+/// Has the character lead about as many drones as a hangar holds, or any
+/// number.
+fn lead(rng: &mut Rng, world: &World, character: &mut Outcome) {
+    let most = rng.pick(&[
+        4_294_967_291.0,
+        4_294_967_292.0,
+        4_294_967_296.0,
+        12_884_901_885.0,
+        1e300,
+        f64::NAN,
+        f64::INFINITY,
+        f64::NEG_INFINITY,
+    ]);
+    let id = world.ids[MAX_ACTIVE_DRONES];
+    let rows = &mut character.attributes;
+    rows.retain(|row| row.0 != id);
+    rows.push((id, most.to_bits()));
+    rows.sort_by_key(|row| row.0);
 }
 
 /// Sometimes a few items without result, or results without item.

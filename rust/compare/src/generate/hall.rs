@@ -59,7 +59,7 @@ pub fn hall(rng: &mut Rng) -> Case {
     case
 }
 
-/// A fit that is clear, likely faulted, or refused by one of 4 to 7.
+/// A fit that is clear, likely faulted, or refused by one of 4 to 6.
 fn one(rng: &mut Rng, world: &World, style: Style) -> Fit {
     let mut made = match rng.below(3) {
         0 => Fit {
@@ -91,6 +91,10 @@ fn one(rng: &mut Rng, world: &World, style: Style) -> Fit {
                     state: ACTIVE,
                     ..Outcome::default()
                 });
+            }
+            if rng.chance(500) {
+                let most = (world.ids[MAX_ACTIVE_DRONES], 1e12_f64.to_bits());
+                made.character.attributes = vec![most];
             }
         }
         6 => made.items.resize(
@@ -163,6 +167,7 @@ pub fn corner(number: usize) -> Case {
         .item(9, DRONE_BAY, 0)
         .quantity(u32::MAX)
         .state(ACTIVE);
+    let led = launched.clone().character(MAX_ACTIVE_DRONES, 1e12).fit;
     let (hull, drones) = (ground.fit.clone(), launched.fit);
     let mut long = hull.clone();
     long.items = vec![Item::default(); 256];
@@ -179,6 +184,8 @@ pub fn corner(number: usize) -> Case {
         6 => vec![long; 64],
         7 => vec![drones],
         8 => vec![hull.clone(), broken, drones, long, Fit::default(), hull],
+        20 => vec![led],
+        21 => vec![drones, led.clone(), hull, led],
         _ => vec![hull],
     };
     let mut case = Case {
@@ -209,4 +216,4 @@ pub fn corner(number: usize) -> Case {
 }
 
 /// How many corners there are.
-pub const CORNERS: usize = 20;
+pub const CORNERS: usize = 22;

@@ -137,7 +137,7 @@ fn set(outcome: &mut Outcome, name: usize, value: f64) {
 }
 
 /// How many ways there are to break a clear fit in one place.
-pub const WAYS: usize = 8;
+pub const WAYS: usize = 9;
 
 /// A clear fit, but for one thing far behind.
 pub fn faulted(number: usize) -> Fit {
@@ -151,30 +151,32 @@ pub fn faulted(number: usize) -> Fit {
         4 => fit.items[last].index = fit.items[last - 6].index,
         5 => (fit.mode_flag, fit.mode) = (1, Role::ModeOrContainer.id(2_998)),
         6 => set(&mut fit.results[last], MAX_TYPE_FITTED, 0.0),
-        _ => set(&mut fit.ship, LOADS + 18, 10.1),
+        7 => set(&mut fit.ship, LOADS + 18, 10.1),
+        // Drones whose total is 0 in 32 bits.
+        _ => {
+            for (place, quantity) in [(last - 1, u32::MAX), (last, 1)] {
+                fit.items[place].type_id = Role::Drone.id(place);
+                fit.items[place].kind = DRONE_BAY;
+                fit.items[place].index = 0;
+                fit.items[place].quantity = quantity;
+                fit.results[place].state = ACTIVE;
+            }
+        }
     }
     fit
 }
 
-/// A clear fit, but refused by one of 4 to 7 for its last bytes.
+/// A clear fit, but refused by one of 4 to 6 for its last bytes.
 pub fn refused(number: usize) -> Fit {
     let mut fit = clear(number);
     let last = PAIRS - 1;
-    match number % 4 {
+    match number % 3 {
         0 => fit.damage.cut = 1,
         1 => {
             let end = fit.results[last].attributes.len();
             fit.results[last].attributes.swap(end - 1, end - 2);
         }
-        2 => fit.results[last].state = 4,
-        _ => {
-            for place in [last - 1, last] {
-                fit.items[place].kind = DRONE_BAY;
-                fit.items[place].index = 0;
-                fit.items[place].quantity = u32::MAX;
-                fit.results[place].state = ACTIVE;
-            }
-        }
+        _ => fit.results[last].state = 4,
     }
     fit
 }

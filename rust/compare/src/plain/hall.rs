@@ -2,9 +2,10 @@
 
 use super::bytes::u32_at;
 use super::catalogue::Catalogue;
+use super::context::Context;
 use super::fault::Fault;
 use super::fit::Fit;
-use super::{Flaw, Measure, Number, Rows, list};
+use super::{Flaw, Measure, Number, Rows, list, resource};
 use crate::checker::refused;
 
 #[derive(Clone, Copy, PartialEq)]
@@ -86,9 +87,14 @@ fn fits(input: &[u8], flaw: Flaw) -> Result<Vec<&[u8]>, u8> {
 }
 
 fn judge(catalogue: &Catalogue, image: &[u8], flaw: Flaw) -> Verdict {
-    let listed = Fit::open(image, flaw).and_then(|fit| list(catalogue, &fit, flaw));
+    let listed = Fit::open(image, flaw).and_then(|fit| {
+        let context = Context::new(catalogue, &fit, flaw);
+        if flaw.has(Fault::HallHangarRefused) && resource::is_hangar(&context) {
+            return Err(7);
+        }
+        list(catalogue, &fit, flaw)
+    });
     match listed {
-        Err(7) if flaw.has(Fault::HallDronesFaulted) => Verdict::Faulted,
         Err(_) if flaw.has(Fault::HallRefusedFaulted) => Verdict::Faulted,
         Err(_) => Verdict::Refused,
         Ok(entries) if entries.is_empty() => Verdict::Clear,

@@ -39,13 +39,8 @@ impl Plain {
 
 impl Checker for Plain {
     fn list(&self, catalogue: &[u8], fit: &[u8], out: &mut [u8]) -> u64 {
-        let listed = opened(catalogue, fit, self.flaw).and_then(|(catalogue, fit)| {
-            let listed = list(&catalogue, &fit, self.flaw);
-            match listed {
-                Err(7) if self.flaw.has(Fault::RoomBeforeDrones) && out.len() < ENTRY => Err(10),
-                listed => listed,
-            }
-        });
+        let listed = opened(catalogue, fit, self.flaw)
+            .and_then(|(catalogue, fit)| list(&catalogue, &fit, self.flaw));
         answer(listed, out, self.flaw)
     }
 
@@ -86,12 +81,12 @@ fn opened<'a>(
     Ok((Catalogue::open(catalogue, flaw)?, Fit::open(fit, flaw)?))
 }
 
-/// The entries of a fit, or refusal 7.
+/// The entries of a fit; a refusal is a flaw's.
 fn list(catalogue: &Catalogue, fit: &Fit, flaw: Flaw) -> Result<Vec<Entry>, u8> {
     let context = Context::new(catalogue, fit, flaw);
     let mut entries = Entries::new(flaw);
     let hull = context::is_hull(catalogue, fit, flaw);
-    if (hull || flaw.has(Fault::DroneTotalNoHull)) && resource::drones_refuse(&context) {
+    if hull && flaw.has(Fault::HangarRefused) && resource::is_hangar(&context) {
         return Err(7);
     }
     if !hull || flaw.has(Fault::FixedList) {
@@ -141,9 +136,9 @@ fn skill(catalogue: &Catalogue, fit: &Fit, result: usize, flaw: Flaw) -> Result<
         return Err(8);
     }
     let context = Context::new(catalogue, fit, flaw);
-    if flaw.has(Fault::DroneTotalForSkills)
+    if flaw.has(Fault::HangarRefusedForSkills)
         && context::is_hull(catalogue, fit, flaw)
-        && resource::drones_refuse(&context)
+        && resource::is_hangar(&context)
     {
         return Err(7);
     }

@@ -15,6 +15,9 @@ const ACTIVE: u8 = 2;
 const MAX_ACTIVE_DRONES: usize = 20;
 const CAPACITY: usize = 21;
 
+/// The most that 32 bits hold.
+const TOP: u64 = 4_294_967_295;
+
 const LAUNCHED_DRONES: u8 = 5;
 const CARGO_BAY: u8 = 11;
 
@@ -84,47 +87,41 @@ pub fn drone_total(context: &Context) -> u64 {
     } else {
         ACTIVE
     };
-    context
+    let launched = context
         .pairs
         .iter()
         .filter(|pair| {
             pair.item.kind == DRONE_BAY
                 || (pair.item.kind == FIGHTER_TUBE && flaw.has(Fault::DronesInTubes))
         })
-        .filter(|pair| pair.state >= least)
+        .filter(|pair| pair.state >= least || flaw.has(Fault::DronesAnyState))
         .filter(|pair| pair.state <= ACTIVE || !flaw.has(Fault::DronesActiveOnly))
         .map(|pair| match flaw.has(Fault::DronesStacks) {
             true => 1,
             false => u64::from(pair.item.quantity),
-        })
-        .sum()
+        });
+    let unpaired = (context.fit.pairs()..context.fit.items())
+        .filter(|_| flaw.has(Fault::DronesUnpaired))
+        .map(|number| context.fit.item(number))
+        .filter(|item| item.kind == DRONE_BAY)
+        .map(|item| u64::from(item.quantity));
+    launched.chain(unpaired).sum()
 }
 
-/// What refusal 7 is judged by.
-pub fn drones_refuse(context: &Context) -> bool {
-    let flaw = context.flaw;
-    if context.id(MAX_ACTIVE_DRONES).is_none() && !flaw.has(Fault::DroneTotalNameless) {
-        return false;
+/// Whether a rule counts drones that 32 bits do not hold.
+pub fn is_hangar(context: &Context) -> bool {
+    context.id(MAX_ACTIVE_DRONES).is_some() && drone_total(context) > TOP
+}
+
+/// The total as a number to compare.
+fn drones_used(total: u64, flaw: Flaw) -> f64 {
+    match () {
+        () if flaw.has(Fault::DroneTotalWraps) => (total % (TOP + 1)) as f64,
+        () if flaw.has(Fault::DroneTotalStops) => total.min(TOP) as f64,
+        () if flaw.has(Fault::DroneTotalSigned) => f64::from(total as i32),
+        () if flaw.has(Fault::DroneTotalSinglePrecision) => f64::from(total as f32),
+        () => total as f64,
     }
-    if flaw.has(Fault::DroneTotalWraps) {
-        return false;
-    }
-    let mut total = drone_total(context);
-    if flaw.has(Fault::DroneTotalAnyState) {
-        let drones = context
-            .pairs
-            .iter()
-            .filter(|pair| pair.item.kind == DRONE_BAY);
-        total = drones.map(|pair| u64::from(pair.item.quantity)).sum();
-    }
-    if flaw.has(Fault::DroneTotalUnpaired) {
-        total += (context.fit.pairs()..context.fit.items())
-            .map(|number| context.fit.item(number))
-            .filter(|item| item.kind == DRONE_BAY)
-            .map(|item| u64::from(item.quantity))
-            .sum::<u64>();
-    }
-    total > 4_294_967_295 || (total == 4_294_967_295 && flaw.has(Fault::DroneTotalAtTop))
 }
 
 fn launched_drones(context: &Context, entries: &mut Entries) {
@@ -135,9 +132,11 @@ fn launched_drones(context: &Context, entries: &mut Entries) {
         true => SHIP,
         false => CHARACTER,
     };
-    let used = (drone_total(context) % (1 << 32)) as f64;
+    let total = drone_total(context);
+    let used = drones_used(total, context.flaw);
     let available = context.amount(holder, id);
-    if over(used, available, context.flaw) {
+    let is_passed_over = total > TOP && context.flaw.has(Fault::HangarPassedOver);
+    if over(used, available, context.flaw) && !is_passed_over {
         entries.add_resource(LAUNCHED_DRONES, used, available);
     }
 }

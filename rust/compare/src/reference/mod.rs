@@ -1,17 +1,18 @@
 //! The reference: document 01's calls, answered by the original.
 //!
 //! The images are decoded here, from document 01 alone; the rules are run by
-//! the crate `original`, which is compiled as published.
+//! the crate `original`, which is compiled as published. What the original
+//! cannot say, the total of drones over 32 bits, is plain code in `drones`.
 
 mod catalogue;
+mod drones;
 mod encode;
 mod fit;
 mod words;
 
-use original::{Rule, Run, State, Target, Violation};
+use original::{Rule, Run, Target, Violation};
 
 use crate::checker::{Checker, ENTRY, Entry, refused};
-use crate::names;
 
 pub use catalogue::Catalogue;
 pub use encode::entry;
@@ -28,7 +29,7 @@ impl Checker for Original {
     fn list(&self, catalogue: &[u8], fit: &[u8], out: &mut [u8]) -> u64 {
         let listed = Catalogue::decode(catalogue).and_then(|catalogue| {
             let fit = Fit::decode(fit)?;
-            list(&catalogue, &fit)
+            Ok(list(&catalogue, &fit))
         });
         written(listed, out)
     }
@@ -91,22 +92,13 @@ impl Hall {
     }
 }
 
-/// The list of a decoded fit, or refusal 7.
-pub fn list(catalogue: &Catalogue, fit: &Fit) -> Result<Listed, Refusal> {
-    let run = fit.run(catalogue);
-    if run.is_hull() && catalogue.name(names::MAX_ACTIVE_DRONES).is_some() {
-        // The original adds these up in 32 bits, so more than that never
-        // reaches it.
-        if fit.launched_drones() > u64::from(u32::MAX) {
-            return Err(7);
-        }
-    }
-
-    let found: Vec<Violation> = run
-        .validate()
-        .into_iter()
-        .filter(|violation| !matches!(violation.rule, Rule::Skill { .. }))
-        .collect();
+/// The list of a decoded fit.
+pub fn list(catalogue: &Catalogue, fit: &Fit) -> Listed {
+    let mut found = match fit.hangar(catalogue) {
+        Some(max_active) => drones::validate(catalogue, fit, max_active),
+        None => fit.run(catalogue).validate(),
+    };
+    found.retain(|violation| !matches!(violation.rule, Rule::Skill { .. }));
     let either_zero = found
         .iter()
         .position(is_cargo)
@@ -115,10 +107,10 @@ pub fn list(catalogue: &Catalogue, fit: &Fit) -> Result<Listed, Refusal> {
     if let Some(position) = either_zero {
         encode::set_used(&mut entries[position], 0.0);
     }
-    Ok(Listed {
+    Listed {
         entries,
         either_zero,
-    })
+    }
 }
 
 /// What one result lacks, or refusal 8 or 9.
@@ -175,7 +167,7 @@ pub enum Fate {
 
 /// What becomes of each fit of a hall input.
 pub fn fates(catalogue: &Catalogue, input: &[u8]) -> Result<Vec<Fate>, Refusal> {
-    let fate = |image: &[u8]| match Fit::decode(image).and_then(|fit| list(catalogue, &fit)) {
+    let fate = |image: &[u8]| match Fit::decode(image).map(|fit| list(catalogue, &fit)) {
         Err(refusal) => Fate::Refused(refusal),
         Ok(listed) if listed.entries.is_empty() => Fate::Clear,
         Ok(_) => Fate::Faulted,
@@ -236,14 +228,6 @@ impl Fit {
     /// The pairs: the first min(F, R) items with their results.
     pub fn pairs(&self) -> impl Iterator<Item = (&original::FitItem, &original::ItemResult)> {
         self.fit.items.iter().zip(&self.calculation.items)
-    }
-
-    fn launched_drones(&self) -> u64 {
-        self.pairs()
-            .filter(|(item, _)| item.slot == original::Slot::DroneBay)
-            .filter(|(_, result)| result.state >= State::Active)
-            .map(|(item, _)| u64::from(item.quantity))
-            .sum()
     }
 
     fn cargo_terms<'a>(&'a self, catalogue: &'a Catalogue) -> impl Iterator<Item = f64> + 'a {

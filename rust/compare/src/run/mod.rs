@@ -12,7 +12,7 @@ use crate::grown;
 use crate::guard::{Fill, Guarded, Held};
 use crate::model::{Fit, hall_image};
 use crate::reference::{self, Fate, Listed, Refusal};
-use crate::tally::{Call, Tally, Zeros};
+use crate::tally::{Call, Hangar, Point, Tally, Zeros};
 use crate::verdict::{Expected, compare, expected, hall_in_words};
 
 pub use shown::Shown;
@@ -28,7 +28,7 @@ pub struct Difference {
 struct Subject {
     held: Held,
     decoded: Result<reference::Fit, Refusal>,
-    listed: OnceCell<Result<Listed, Refusal>>,
+    listed: OnceCell<Listed>,
     skills: RefCell<BTreeMap<u32, Result<Listed, Refusal>>>,
 }
 
@@ -106,10 +106,12 @@ impl<'a> Stage<'a> {
         let catalogue = self.catalogue.as_ref().map_err(|refusal| *refusal)?;
         let fit = subject.decoded.as_ref().map_err(|refusal| *refusal)?;
         match result {
-            None => subject
-                .listed
-                .get_or_init(|| reference::list(catalogue, fit))
-                .clone(),
+            None => {
+                let listed = subject
+                    .listed
+                    .get_or_init(|| reference::list(catalogue, fit));
+                Ok(listed.clone())
+            }
             Some(result) => subject
                 .skills
                 .borrow_mut()
@@ -180,6 +182,8 @@ impl<'a> Stage<'a> {
         };
         if let Some(result) = call.result {
             tally.walk(catalogue, fit, result);
+        } else if expected.word == refused(10) && fit.hangar(catalogue).is_some() {
+            tally.meet(Point::Hangar(Hangar::NoRoom));
         }
         if expected.word >> 32 == 0 {
             tally.catalogue(Call::of(call), catalogue);
@@ -195,6 +199,14 @@ impl<'a> Stage<'a> {
         if let (Ok(catalogue), Ok(fates)) = (&self.catalogue, &hall.fates) {
             tally.catalogue(Call::Hall, catalogue);
             tally.hall(fates, hall.held.image.len());
+            let images = reference::hall_fits(&hall.held.image).into_iter().flatten();
+            for (image, fate) in images.zip(fates) {
+                if let Ok(fit) = reference::Fit::decode(image)
+                    && fit.hangar(catalogue).is_some()
+                {
+                    tally.meet(Point::HallHangar(*fate));
+                }
+            }
         }
         tally.hall_word(self.expected_hall());
     }
@@ -204,7 +216,21 @@ impl<'a> Stage<'a> {
             && self.premises_hold(result)
         {
             tally.grown(self.case, result.is_some(), &old, &new);
+            if result.is_none() && self.grows_past_32_bits(&old) {
+                tally.meet(Point::Hangar(Hangar::Grown));
+            }
         }
+    }
+
+    /// Whether an old list has launched drones, and the grown fit more of them
+    /// than 32 bits hold.
+    fn grows_past_32_bits(&self, old: &[Entry]) -> bool {
+        let passes = |subject: &Subject| match (&self.catalogue, &subject.decoded) {
+            (Ok(catalogue), Ok(fit)) => fit.hangar(catalogue).is_some(),
+            _ => false,
+        };
+        let listed = old.iter().any(|entry| entry[1..3] == [1, 5]);
+        listed && !passes(self.fit()) && passes(self.grown_fit())
     }
 
     /// The lists of both fits, where both are answered.

@@ -115,6 +115,51 @@ impl Edge {
     }
 }
 
+/// Launched drones that 32 bits do not hold.
+#[derive(Clone, Copy, Debug, PartialEq, Eq, PartialOrd, Ord)]
+pub enum Hangar {
+    First,
+    Most,
+    Over,
+    InSlack,
+    LimitLarger,
+    LimitNan,
+    LimitInfinite,
+    LimitMinusInfinite,
+    NoRoom,
+    Grown,
+}
+
+impl Hangar {
+    pub const ALL: [Hangar; 10] = [
+        Hangar::First,
+        Hangar::Most,
+        Hangar::Over,
+        Hangar::InSlack,
+        Hangar::LimitLarger,
+        Hangar::LimitNan,
+        Hangar::LimitInfinite,
+        Hangar::LimitMinusInfinite,
+        Hangar::NoRoom,
+        Hangar::Grown,
+    ];
+
+    pub fn words(self) -> &'static str {
+        match self {
+            Hangar::First => "4294967296 launched drones",
+            Hangar::Most => "1099511627520 launched drones",
+            Hangar::Over => "drones over 32 bits, listed",
+            Hangar::InSlack => "drones over 32 bits, within the slack",
+            Hangar::LimitLarger => "drones over 32 bits, not above their limit",
+            Hangar::LimitNan => "drones over 32 bits of NaN",
+            Hangar::LimitInfinite => "drones over 32 bits of infinity",
+            Hangar::LimitMinusInfinite => "drones over 32 bits of minus infinity",
+            Hangar::NoRoom => "drones over 32 bits, refused by 10",
+            Hangar::Grown => "listed drones, grown from 32 bits to more",
+        }
+    }
+}
+
 /// Where an item's volume stands to 3500.
 #[derive(Clone, Copy, Debug, PartialEq, Eq, PartialOrd, Ord)]
 pub enum CapitalEdge {

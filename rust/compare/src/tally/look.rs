@@ -3,7 +3,7 @@
 use original::{Info, ItemResult, Slot};
 
 use super::Tally;
-use super::edge::{CapitalEdge, Edge, Shape, Spot};
+use super::edge::{CapitalEdge, Edge, Hangar, Shape, Spot};
 use super::point::{Call, Point};
 use super::wide;
 use crate::names::*;
@@ -24,6 +24,7 @@ pub fn fit(tally: &mut Tally, catalogue: &Catalogue, fit: &Fit) {
     names(tally, catalogue);
     wide::list(tally, catalogue, fit);
     loads(tally, catalogue, fit);
+    hangar(tally, catalogue, fit);
     for row in 0..8 {
         if let Some(value) = value(catalogue, &fit.calculation.ship, RACKS + row) {
             tally.meet(Point::Cast(Width::U32, Spot::of(value, Width::U32)));
@@ -154,6 +155,37 @@ fn loads(tally: &mut Tally, catalogue: &Catalogue, fit: &Fit) {
             if holds {
                 tally.meet(Point::Over(edge));
             }
+        }
+    }
+}
+
+fn hangar(tally: &mut Tally, catalogue: &Catalogue, fit: &Fit) {
+    if fit.hangar(catalogue).is_none() {
+        return;
+    }
+    let total = fit.launched_drones();
+    let used = total as f64;
+    let character = &fit.calculation.character;
+    let available = value(catalogue, character, MAX_ACTIVE_DRONES).unwrap_or(0.0);
+    let edges = [
+        (total == 4_294_967_296, Hangar::First),
+        (total == 1_099_511_627_520, Hangar::Most),
+        (used > limit(available), Hangar::Over),
+        (
+            used > available && used <= limit(available),
+            Hangar::InSlack,
+        ),
+        (
+            available.is_finite() && used <= available,
+            Hangar::LimitLarger,
+        ),
+        (available.is_nan(), Hangar::LimitNan),
+        (available == f64::INFINITY, Hangar::LimitInfinite),
+        (available == f64::NEG_INFINITY, Hangar::LimitMinusInfinite),
+    ];
+    for (holds, edge) in edges {
+        if holds {
+            tally.meet(Point::Hangar(edge));
         }
     }
 }

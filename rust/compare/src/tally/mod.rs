@@ -13,7 +13,7 @@ use crate::checker::{ENTRY, Entry};
 use crate::grown;
 use crate::reference::{self, Catalogue, Fate, Fit, Listed};
 
-pub use edge::{Shape, Spot};
+pub use edge::{Hangar, Shape, Spot};
 pub use point::{Call, Point, RoomKind};
 
 use size::{Block, LONGEST_LIST};

@@ -2,7 +2,7 @@
 
 use std::fmt;
 
-use super::edge::{CapitalEdge, Edge, Shape, Spot};
+use super::edge::{CapitalEdge, Edge, Hangar, Shape, Spot};
 use super::size::{
     AMOUNTS, Block, Counting, HELD, Holder, IdOf, LARGEST_HALL, LIST_BUFFERS, LONGEST_LIST, Part,
     Place, RESULTS, Region, SKILL_BUFFERS,
@@ -60,6 +60,9 @@ pub enum Point {
     HallInput(u32),
     Cast(Width, Spot),
     Over(Edge),
+    Hangar(Hangar),
+    /// A fit of a hall whose launched drones 32 bits do not hold.
+    HallHangar(Fate),
     Volume(CapitalEdge),
     NameMissing(u8),
     Shape(Shape),
@@ -124,7 +127,7 @@ pub fn required() -> Vec<Point> {
     points.extend((0..12).map(Point::Kind));
     points.extend([0, 1, 2, 3, 4, 5, 6, 8, 9].map(Point::HighestIndex));
     points.extend((0..4).map(Point::State));
-    points.extend([1, 2, 3, 4, 5, 6, 7, 10].map(|refusal| Point::Refusal(Call::List, refusal)));
+    points.extend([1, 2, 3, 4, 5, 6, 10].map(|refusal| Point::Refusal(Call::List, refusal)));
     points.extend([1, 2, 3, 4, 5, 6, 8, 9, 10].map(|refusal| Point::Refusal(Call::Skill, refusal)));
     points.extend([1, 2, 3, 4].map(|refusal| Point::Refusal(Call::Hall, refusal)));
     points.extend(plant::PLANTS.iter().map(|(refusal, how, _)| {
@@ -145,13 +148,15 @@ pub fn required() -> Vec<Point> {
     }
     points.extend([0, 1, 63, 64, 65].map(Point::HallFits));
     points.extend([Fate::Clear, Fate::Faulted].map(Point::HallFit));
-    points.extend((4..=7).map(|refusal| Point::HallFit(Fate::Refused(refusal))));
+    points.extend((4..=6).map(|refusal| Point::HallFit(Fate::Refused(refusal))));
+    points.extend([Fate::Clear, Fate::Faulted].map(Point::HallHangar));
     points.extend((510..=514).map(Point::Wanted));
     points.extend(sizes());
     for width in Width::ALL {
         points.extend(Spot::ALL.map(|spot| Point::Cast(width, spot)));
     }
     points.extend(Edge::ALL.map(Point::Over));
+    points.extend(Hangar::ALL.map(Point::Hangar));
     let volumes = [
         CapitalEdge::At,
         CapitalEdge::StepOver,
@@ -228,6 +233,11 @@ impl fmt::Display for Point {
             Point::Wanted(count) => write!(out, "{count} wanted skills"),
             Point::Cast(width, spot) => write!(out, "cast to {width:?}: {}", spot.words()),
             Point::Over(edge) => write!(out, "over: {}", edge.words()),
+            Point::Hangar(edge) => out.write_str(edge.words()),
+            Point::HallHangar(fate) => {
+                let hall = Point::HallFit(fate);
+                write!(out, "{hall} with drones over 32 bits")
+            }
             Point::Volume(edge) => write!(out, "an item's volume is {}", edge.words()),
             Point::NameMissing(number) => write!(out, "no id for {}", name(&NAMES, number)),
             Point::Shape(shape) => out.write_str(shape.words()),

@@ -95,13 +95,6 @@ pub fn assert_list(sketch: Sketch, expected: &[Vec<u8>]) {
     assert_list_of(&sketch.catalogue.image(), &sketch.fit.image(), &expected);
 }
 
-/// Asserts the refusal of a sketch's list call.
-pub fn assert_list_refused(sketch: Sketch, refusal: u8) {
-    let sketch = sketch.finish();
-    let expected = Given::Refusal(refusal);
-    assert_list_of(&sketch.catalogue.image(), &sketch.fit.image(), &expected);
-}
-
 /// Asserts the whole skill list of one result of a sketch.
 pub fn assert_skills(sketch: Sketch, result: u32, expected: &[Vec<u8>]) {
     let sketch = sketch.finish();

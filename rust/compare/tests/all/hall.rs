@@ -20,7 +20,8 @@ fn ground() -> Sketch {
         .finish()
 }
 
-/// Clear, faulted, and refused by each of 4 to 7.
+/// Clear, faulted, refused by each of 4 to 6, and two hangars that 32 bits do
+/// not hold, one over its limit and one within it.
 fn fits() -> Vec<Fit> {
     let clear = ground().fit;
     let faulted = Fit {
@@ -39,15 +40,16 @@ fn fits() -> Vec<Fit> {
             .quantity(quantity)
             .state(ACTIVE)
     };
-    let by_7 = stack(stack(ground(), 4_294_967_295), 1).fit;
-    vec![clear, faulted, by_4, by_5, by_6, by_7]
+    let hangar = stack(stack(ground(), 4_294_967_295), 1);
+    let led = hangar.clone().character(MAX_ACTIVE_DRONES, 4_294_967_296.0);
+    vec![clear, faulted, by_4, by_5, by_6, hangar.fit, led.fit]
 }
 
 #[test]
 fn clear_faulted_and_refused_add_to_k() {
     let catalogue = ground().catalogue.image();
     let input = hall_image(&fits(), &Damage::default());
-    assert_hall(&catalogue, &input, 1 + 256 + 65_536 * 4);
+    assert_hall(&catalogue, &input, 2 + 256 * 2 + 65_536 * 3);
     let clear = vec![ground().fit; 64];
     assert_hall(&catalogue, &hall_image(&clear, &Damage::default()), 64);
     let faulted = vec![Fit::default(); 64];

@@ -4,6 +4,7 @@
 use std::collections::BTreeSet;
 
 use crate::common::checkers;
+use compare::case::REFUSALS;
 use compare::record::{self, HALL, LIST, MOST, Record};
 
 const FILE: &[u8] = include_bytes!("../../recorded.bin");
@@ -67,7 +68,8 @@ fn every_rule_refusal_and_call_is_recorded() {
         rules.extend(record.written.chunks(24).map(|entry| entry[1]));
     }
     assert_eq!(rules, (1..=21).collect());
-    assert_eq!(refusals, (0..=10).collect());
+    let given = REFUSALS.map(u64::from).into_iter();
+    assert_eq!(refusals, given.chain([0]).collect());
     for call in ["list", "skill", "hall"] {
         assert!(calls.contains(&(call, true)), "{call} answered");
         assert!(calls.contains(&(call, false)), "{call} refused");

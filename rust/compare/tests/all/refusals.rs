@@ -281,15 +281,52 @@ fn drones(first: u32, second: u32) -> Sketch {
         .state(ACTIVE)
 }
 
+/// Document 02: "Total the stacks without loss and answer." 7 stood for these.
 #[test]
-fn refusal_7_for_two_active_stacks_over_32_bits() {
-    assert_list_refused(drones(4_294_967_295, 1), 7);
+fn two_active_stacks_over_32_bits_are_answered() {
+    assert_list(
+        drones(4_294_967_295, 1),
+        &[resource(5, 4_294_967_296.0, 0.0)],
+    );
+    assert_list(
+        drones(4_294_967_295, 4_294_967_295).character(MAX_ACTIVE_DRONES, 5.0),
+        &[resource(5, 8_589_934_590.0, 5.0)],
+    );
     assert_list(
         drones(4_294_967_294, 1),
         &[resource(5, 4_294_967_295.0, 0.0)],
     );
     assert_list(drones(4_294_967_295, 1).nameless(MAX_ACTIVE_DRONES), &[]);
     assert_skills(drones(4_294_967_295, 1), 0, &[]);
+}
+
+/// "256 stacks of the largest quantity still convert exactly to f64."
+#[test]
+fn as_many_drones_as_a_fit_holds_are_totalled_without_loss() {
+    let mut sketch = drones(4_294_967_295, 4_294_967_295);
+    sketch.fit.items = vec![sketch.fit.items[0]; 256];
+    sketch.fit.results = vec![sketch.fit.results[0].clone(); 256];
+    let total = 1_099_511_627_520.0;
+    assert_eq!(total as u64, (1 << 40) - 256);
+    assert_list(sketch.clone(), &[resource(5, total, 0.0)]);
+    let led = |most: f64| sketch.clone().character(MAX_ACTIVE_DRONES, most);
+    assert_list(led(total), &[]);
+    // 1e-9 of the limit is its slack: 1,099.5 drones.
+    assert_list(led(total - 1_099.0), &[]);
+    assert_list(led(total - 1_100.0), &[resource(5, total, total - 1_100.0)]);
+}
+
+#[test]
+fn a_hangar_is_clear_where_it_is_not_over_its_limit() {
+    for most in [4_294_967_296.0, 1e300, f64::MAX, f64::INFINITY] {
+        let hangar = drones(4_294_967_295, 1).character(MAX_ACTIVE_DRONES, most);
+        assert_list(hangar, &[]);
+    }
+    // A limit of minus infinity is never passed, nor is one that is no number.
+    for most in [f64::NEG_INFINITY, f64::NAN] {
+        let hangar = drones(4_294_967_295, 1).character(MAX_ACTIVE_DRONES, most);
+        assert_list(hangar, &[]);
+    }
 }
 
 #[test]
@@ -392,12 +429,23 @@ fn ids_are_judged_before_fields_and_fields_before_the_result_number() {
 
 #[test]
 fn counting_comes_before_the_buffer() {
-    let drones = drones(4_294_967_295, 1).finish();
     let chain = chain(513).finish();
     for (name, checker) in checkers() {
-        let word = checker.list(&drones.catalogue.image(), &drones.fit.image(), &mut []);
-        assert_eq!(word, refused(7), "{name}");
         let word = checker.skill(&chain.catalogue.image(), &chain.fit.image(), 0, &mut []);
         assert_eq!(word, refused(9), "{name}");
+    }
+}
+
+#[test]
+fn a_hangar_without_room_is_refused_by_10() {
+    let drones = drones(4_294_967_295, 1).finish();
+    let (catalogue, fit) = (drones.catalogue.image(), drones.fit.image());
+    for (name, checker) in checkers() {
+        for length in [0, 23] {
+            let mut out = vec![0xC3; length];
+            let word = checker.list(&catalogue, &fit, &mut out);
+            assert_eq!(word, refused(10), "{name}");
+            assert_eq!(out, vec![0xC3; length], "{name}: nothing is written");
+        }
     }
 }

@@ -98,6 +98,21 @@ fn resources() {
     );
 }
 
+/// As many drones as a fit holds: a total that 32 bits do not.
+#[test]
+fn a_whole_hangar() {
+    let mut fit = FitBuilder::new(587);
+    fit.character(result().with(id(Attribute::MaxActiveDrones), 5.0));
+    for _ in 0..256 {
+        let stack = FitItem::new(2203, Slot::DroneBay).quantity(u32::MAX);
+        fit.item(stack, result());
+    }
+    assert_eq!(
+        said(&catalogue(), &fit),
+        ["Launched drones: 1099511627520 of 5 used"]
+    );
+}
+
 #[test]
 fn racks_and_hardpoints() {
     let mut known = catalogue();

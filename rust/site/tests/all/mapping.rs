@@ -4,7 +4,7 @@
 use std::cell::RefCell;
 use std::collections::BTreeSet;
 
-use compare::reference::{self, Catalogue, Fit};
+use compare::reference::{Catalogue, Fit};
 use fitcheck::{ListOptions, SkillOptions, TypeData};
 use original::{Info, Run, Vector, Violation, eve};
 use site::mapping;
@@ -39,10 +39,9 @@ fn what_a_site_has_is_answered_as_the_original_does() {
             let Ok(fit) = Fit::decode(image) else {
                 continue;
             };
-            // Items and results beyond the pairs are not what a site has.
-            if fit.fit.items.len() != fit.calculation.items.len()
-                || reference::list(&info, &fit).is_err()
-            {
+            // Items and results beyond the pairs are not what a site has. More
+            // drones than 32 bits hold, the original cannot add up.
+            if fit.fit.items.len() != fit.calculation.items.len() || fit.hangar(&info).is_some() {
                 continue;
             }
             let mapped = mapping::fit(&fit.fit, &fit.calculation);

@@ -4,7 +4,7 @@ use super::super::fit::fit;
 use super::super::world::{Role, Style, World};
 use super::table::an_item;
 use crate::case::Room;
-use crate::model::{Base, Catalogue, Fit, Item, Outcome, Skill};
+use crate::model::{Base, Catalogue, Fit, Outcome, Skill};
 use crate::names::{CAPACITY, MAX_ACTIVE_DRONES, REQUIRED, RIG_SIZE};
 use crate::rng::Rng;
 use crate::sketch::*;
@@ -13,8 +13,6 @@ use crate::sketch::*;
 pub struct Ground {
     pub catalogue: Catalogue,
     pub fit: Fit,
-    pub drone: i32,
-    pub hull: i32,
     pub result: u32,
     pub room: Room,
 }
@@ -37,8 +35,6 @@ impl Ground {
         Ground {
             catalogue: sketch.catalogue,
             fit: sketch.fit,
-            drone: 9,
-            hull: SHIP,
             result: 0,
             room: Room::Longer(48),
         }
@@ -54,9 +50,7 @@ impl Ground {
         };
         let world = World::new(rng, style);
         let mut fit = fit(rng, &world, style, 8);
-        let hull = world.a(rng, Role::Hull);
-        fit.ship_type = hull;
-        let drone = world.a(rng, Role::Drone);
+        fit.ship_type = world.a(rng, Role::Hull);
         for outcome in [&mut fit.ship, &mut fit.character] {
             while outcome.attributes.len() < 2 {
                 let id = outcome.attributes.last().map_or(1, |row| row.0 + 1);
@@ -74,33 +68,9 @@ impl Ground {
         Ground {
             catalogue: world.catalogue,
             fit,
-            drone,
-            hull,
             result: 0,
             room: Room::Longer(24 * 700),
         }
-    }
-}
-
-/// Puts stacks of active drones behind the pairs of a hull.
-pub fn launch(ground: &mut Ground, stacks: &[u32]) {
-    let fit = &mut ground.fit;
-    fit.ship_type = ground.hull;
-    let pairs = fit.items.len().min(fit.results.len());
-    fit.items.truncate(pairs);
-    fit.results.truncate(pairs);
-    for quantity in stacks {
-        fit.items.push(Item {
-            type_id: ground.drone,
-            quantity: *quantity,
-            kind: DRONE_BAY,
-            zero: 0,
-            index: 0,
-        });
-        fit.results.push(Outcome {
-            state: ACTIVE,
-            ..Outcome::default()
-        });
     }
 }
 

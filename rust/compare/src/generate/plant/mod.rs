@@ -4,7 +4,7 @@
 mod ground;
 mod table;
 
-use crate::case::{Ask, Case, Plant, rank};
+use crate::case::{Ask, Case, Plant, REFUSALS};
 use crate::rng::Rng;
 
 pub use ground::Ground;
@@ -15,20 +15,17 @@ use table::Dig;
 /// The pairs of refusals that can meet in one call, the first to be given.
 pub fn pairs() -> Vec<(u8, u8)> {
     let mut found = Vec::new();
-    for first in 1..=10 {
-        for second in 1..=10 {
-            if rank(first) < rank(second) && can_meet(first, second) {
-                found.push((first, second));
-            }
-        }
+    for (place, first) in REFUSALS.into_iter().enumerate() {
+        let behind = REFUSALS[place + 1..].iter();
+        let met = behind.filter(|second| can_meet(first, **second));
+        found.extend(met.map(|second| (first, *second)));
     }
     found
 }
 
-/// 7 belongs to the list call, 8 and 9 to the skill call; a result that is
-/// not there wants no skills and lists nothing.
+/// A result that is not there wants no skills and lists nothing.
 fn can_meet(first: u8, second: u8) -> bool {
-    !matches!((first, second), (8, 7) | (7, 9) | (8, 9) | (8, 10))
+    !matches!((first, second), (8, 9 | 10))
 }
 
 /// One plant alone.
@@ -52,7 +49,7 @@ fn planted(rng: &mut Rng, mut ground: Ground, plants: &[(u8, &'static str, Dig)]
         dig(&mut ground, rng);
     }
     let has = |refusal: u8| plants.iter().any(|plant| plant.0 == refusal);
-    let ask = if has(8) || has(9) || (!has(7) && rng.chance(400)) {
+    let ask = if has(8) || has(9) || rng.chance(400) {
         Ask::Skill(ground.result, ground.room)
     } else {
         Ask::List(ground.room)
@@ -78,10 +75,10 @@ mod tests {
     use super::*;
 
     #[test]
-    fn every_refusal_has_a_plant_and_41_pairs_can_meet() {
-        for refusal in 1..=10 {
+    fn every_refusal_has_a_plant_and_34_pairs_can_meet() {
+        for refusal in REFUSALS {
             assert!(PLANTS.iter().any(|plant| plant.0 == refusal));
         }
-        assert_eq!(pairs().len(), 41);
+        assert_eq!(pairs().len(), 34);
     }
 }

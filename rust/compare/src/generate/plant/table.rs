@@ -1,6 +1,6 @@
 //! The plants, one by one.
 
-use super::ground::{Ground, a_base, an_entry, chain, launch};
+use super::ground::{Ground, a_base, an_entry, chain};
 use crate::case::Room;
 use crate::model::{Catalogue, Effect, Fit, Item, Link, Name, Outcome, Skill, Type};
 use crate::rng::Rng;
@@ -237,12 +237,6 @@ pub const PLANTS: &[(u8, &str, Dig)] = &[
         g.result = g.fit.results.len() as u32 + 2
     }),
     (8, "result 4,294,967,295", |g, _| g.result = u32::MAX),
-    (7, "over 32 bits of launched drones", |g, rng| {
-        launch(g, &[4_294_967_295, 1]);
-        if rng.chance(500) {
-            launch(g, &[4_294_967_295, 4_294_967_295, 3]);
-        }
-    }),
     (9, "513 wanted skills", |g, _| chain(g, 513)),
     (9, "600 wanted skills", |g, _| chain(g, 600)),
     (10, "empty buffer", |g, _| {

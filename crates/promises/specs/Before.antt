@@ -1,0 +1,26 @@
+-- The list call as it was before drones were totalled without loss: refusal 7 stood in front of 10.
+use Prim.Native.Nat.{ℕ}
+use mathlib.Core.Bool.{Bool, true, false, _&&_}
+use mathlib.Core.List.{List, _∷_, _++_}
+use lib.Dec.{ltb}
+use Rattle.words.specs.Words.{given}
+use Rattle.numbers.specs.Names as Names
+use Rattle.catalogue.specs.Catalogue.{Catalogue, catalogueOf}
+use Rattle.catalogue.specs.Lookups.{nameId}
+use Rattle.fit.specs.Fit.{Fit, fitOf}
+use Rattle.context.specs.Context.{pairs}
+use Rattle.resource.specs.Resource.{launched}
+use Rattle.validate.specs.Kind.{isHull}
+use Rattle.validate.specs.Validate.{listOf}
+use Rattle.fitcheck.specs.Calls.{Answer, answer, imageRefusals, listRefusals}
+
+-- 7: on a hull, its name present, launched drones over 4,294,967,295
+unfoldable pub tooManyDrones : Catalogue → Fit → Bool
+tooManyDrones c f =
+    isHull c (f .frame .ship) && given (nameId (c .names) Names.maxActiveDrones) false (λ _. true) && ltb 4294967295 (launched (pairs c f))
+
+unfoldable pub listBefore : (catalogue fit buffer : List ℕ) → Answer
+listBefore catalogue fit buffer =
+    let c = catalogueOf catalogue in
+    let f = fitOf fit in
+    answer (imageRefusals catalogue fit ++ (7, tooManyDrones c f) ∷ listRefusals c f buffer) (listOf c f)
