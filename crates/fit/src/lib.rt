@@ -54,6 +54,13 @@ pub fn skill_count(fit: &[u8]) -> usize
     layout::skills(fit)
 }
 
+pub fn item_count(fit: &[u8]) -> usize
+    requires { ⌜ Sound (now fit) ⌝ }
+    ensures { λ r. ⌜ r ≡ itemCount (now (fit .entry)) ⌝ }
+{
+    layout::items(fit)
+}
+
 // The items' results; the ship's and the character's stand before them.
 pub fn result_count(fit: &[u8]) -> usize
     requires { ⌜ Sound (now fit) ⌝ }

@@ -3,13 +3,13 @@ use Prim.Native.Nat.{ℕ, zero, suc, _+_, _*_, _≤_, _<_}
 use native.Mathlib.Nat.{eq-or-lt-of-le, le-of-suc-le-suc}
 use native.Mathlib.Numerals.{add-one}
 use native.Mathlib.Omega.{arith}
-use mathlib.Core.Path.{_≡_, refl}
-use mathlib.Core.Bool.{Bool, true, false, not, _||_, cond}
+use mathlib.Core.Path.{_≡_, refl, ap₂}
+use mathlib.Core.Bool.{Bool, true, false, not, _&&_, _||_, cond}
 use mathlib.Core.List.{List, [], _∷_}
 use mathlib.Core.Logic.{⊎-elim}
 use lib.Dec.{eqb, ltb}
 use lib.ListN.{length, take, drop}
-use borrow.Author.Tests.{lt-ltb, le-ltb, ltb-false, eq-eqb, eqb-true, not-false}
+use borrow.Author.Tests.{lt-ltb, le-ltb, ltb-false, eq-eqb, ne-eqb, eqb-true, not-false}
 use Rattle.words.specs.Words.{table, isEmpty, firstOf}
 use Rattle.numbers.specs.Sizes as Sizes
 use Rattle.numbers.specs.Refusals as Refusals
@@ -17,7 +17,7 @@ use Rattle.words.proofs.Elements.{or-left, or-right}
 use Rattle.words.proofs.Tables.{count-more, count-none}
 use Rattle.catalogue.specs.Catalogue.{Catalogue, catalogueOf}
 use Rattle.catalogue.specs.Refusals.{catalogueRefusals, catalogueRefusal}
-use Rattle.fit.specs.Fit.{fitOf}
+use Rattle.fit.specs.Fit.{fitOf, itemCount, resultCount}
 use Rattle.fit.specs.Refusals.{fitRefusal}
 use Rattle.entry.specs.declared.Entry.{Entry}
 use Rattle.validate.specs.Validate.{listOf}
@@ -96,20 +96,23 @@ module _ (c : Catalogue) (b : List ℕ) where
   unfolding fitRefused
   turned-away h = lt-ltb 0 (fitRefusal b) h
 
-  -- 65,536 where refused, else by the list
-  judged : (r e : Bool) → fitRefused b ≡ r → isEmpty (listOf c (fitOf b)) ≡ e → cond r 65536 (cond e 1 256) ≡ shareOf c b
+  abbrev whole : Bool
+  whole = isEmpty (listOf c (fitOf b)) && eqb (itemCount b) (resultCount b)
+
+  -- 65,536 where refused, else by the list and the two numbers
+  judged : (r w : Bool) → fitRefused b ≡ r → whole ≡ w → cond r 65536 (cond w 1 256) ≡ shareOf c b
   unfolding shareOf isFaulted isClear
-  judged true e p q = rw p
+  judged true w p q = rw p
   judged false true p q = rw (p, q)
   judged false false p q = rw (p, q)
 
   pub share-unread : 0 < fitRefusal b → 65536 ≡ shareOf c b
-  share-unread h = judged true (isEmpty (listOf c (fitOf b))) (turned-away h) refl
+  share-unread h = judged true whole (turned-away h) refl
 
   module _ (e : fitRefusal b ≡ 0) where
-    pub share-clear : length (listOf c (fitOf b)) ≡ 0 → 1 ≡ shareOf c b
+    pub share-clear : length (listOf c (fitOf b)) ≡ 0 → itemCount b ≡ resultCount b → 1 ≡ shareOf c b
     unfolding isEmpty
-    share-clear h = judged false true (accepted e) (go (listOf c (fitOf b)) h)
+    share-clear h q = judged false true (accepted e) (ap₂ _&&_ (go (listOf c (fitOf b)) h) (eq-eqb (itemCount b) (resultCount b) q))
       where
         go : (l : List Entry) → length l ≡ 0 → isEmpty l ≡ true
         go [] h = refl
@@ -119,9 +122,17 @@ module _ (c : Catalogue) (b : List ℕ) where
     unfolding isEmpty
     share-faulted h = judged false false (accepted e) (go (listOf c (fitOf b)) h)
       where
-        go : (l : List Entry) → 0 < length l → isEmpty l ≡ false
+        go : (l : List Entry) → 0 < length l → (isEmpty l && eqb (itemCount b) (resultCount b)) ≡ false
         go [] h = absurd (omega arith)
         go (x ∷ l) h = refl
+
+    -- whatever is listed
+    pub share-unequal : (itemCount b ≡ resultCount b → ⊥) → 256 ≡ shareOf c b
+    share-unequal h = judged false false (accepted e) (go (isEmpty (listOf c (fitOf b))) (ne-eqb (itemCount b) (resultCount b) h))
+      where
+        go : (l : Bool) {q : Bool} → q ≡ false → (l && q) ≡ false
+        go true p = p
+        go false p = refl
 
 -- ---- the word, one fit more at a time
 module _ (c : Catalogue) (f : ℕ → List ℕ) where

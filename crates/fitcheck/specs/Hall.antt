@@ -1,7 +1,8 @@
--- Document 01, "Hall number": u32 K, K lengths, then K fits end to end; how many are clear, faulted and refused.
+-- Document 01, "Hall number": u32 K, K lengths, then K fits end to end; how many are clear, faulted and refused. What clear means is
+-- document 02's P6.
 use Prim.Native.Nat.{ℕ, zero, suc, _+_, _*_, _≤_}
 use mathlib.Core.Path.{_≡_}
-use mathlib.Core.Bool.{Bool, false, not, _||_, cond}
+use mathlib.Core.Bool.{Bool, false, not, _&&_, _||_, cond}
 use mathlib.Core.List.{List, [], _∷_, _++_}
 use lib.Dec.{eqb, ltb}
 use lib.ListN.{length, take, drop}
@@ -11,7 +12,7 @@ use Rattle.numbers.specs.Refusals as Refusals
 use Rattle.image.specs.Bytes.{u32At}
 use Rattle.catalogue.specs.Catalogue.{Catalogue, catalogueOf}
 use Rattle.catalogue.specs.Refusals.{catalogueRefusals}
-use Rattle.fit.specs.Fit.{fitOf}
+use Rattle.fit.specs.Fit.{fitOf, itemCount, resultCount}
 use Rattle.fit.specs.Refusals.{fitRefusal}
 use Rattle.validate.specs.Validate.{listOf}
 
@@ -48,8 +49,9 @@ unfoldable pub fitRefused : List ℕ → Bool
 fitRefused b = ltb 0 (fitRefusal b)
 
 module _ (c : Catalogue) where
+  -- nothing is listed, and there are as many results as items: rules look at pairs, so all of it was read
   unfoldable pub isClear : List ℕ → Bool
-  isClear b = cond (fitRefused b) false (isEmpty (listOf c (fitOf b)))
+  isClear b = cond (fitRefused b) false (isEmpty (listOf c (fitOf b)) && eqb (itemCount b) (resultCount b))
 
   -- any other
   unfoldable pub isFaulted : List ℕ → Bool

@@ -77,6 +77,9 @@ fn share(catalogue: &[u8], fit: &[u8], hints: &mut [u32]) -> u64
     if 0 < fit_refusals::number(fit) {
         return REFUSED; // 4 to 6
     }
+    if fit::item_count(fit) != fit::result_count(fit) {
+        return FAULTED; // whatever is listed: not all of it is read
+    }
     let facts = context::gather(catalogue, fit, hints);
     let mut none = [0u8; 0];
     if validate::validate(catalogue, fit, &facts, hints, &mut none) == 0 {

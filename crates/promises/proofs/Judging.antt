@@ -4,17 +4,17 @@ use Prim.Native.Nat.{ℕ, zero, suc, _+_, _*_, _/_, _%_, _≤_, _<_}
 use native.Mathlib.Decide.{decLe}
 use native.Mathlib.Omega.{arith}
 use mathlib.Core.Path.{_≡_, refl, sym, ap, ap₂, _∙_, subst}
-use mathlib.Core.Bool.{Bool, true, false, not, _||_, cond}
+use mathlib.Core.Bool.{Bool, true, false, not, _&&_, _||_, cond}
 use mathlib.Core.List.{List, [], _∷_, _++_}
 use mathlib.Core.Logic.{_⊎_, _↔_, inl, inr}
-use lib.Dec.{T, T-not, not-T, ltb, lt→ltb, nltb→le}
+use lib.Dec.{T, T-not, not-T, eqb, eqb→eq, ltb, lt→ltb, nltb→le}
 use lib.ListN.{length, take, drop}
-use borrow.Author.Tests.{lt-ltb, le-ltb}
+use borrow.Author.Tests.{lt-ltb, le-ltb, eq-eqb}
 use Rattle.words.specs.Words.{only, countOf, isEmpty, firstOf}
 use Rattle.words.proofs.Tables.{length-table}
 use Rattle.catalogue.specs.Catalogue.{Catalogue, catalogueOf}
 use Rattle.catalogue.specs.Refusals.{catalogueRefusals}
-use Rattle.fit.specs.Fit.{fitOf}
+use Rattle.fit.specs.Fit.{fitOf, itemCount, resultCount}
 use Rattle.fit.specs.Refusals.{fitRefusals, fitRefusal}
 use Rattle.entry.specs.declared.Entry.{Entry}
 use Rattle.validate.specs.Validate.{listOf}
@@ -52,7 +52,7 @@ count-parts p q r h (x ∷ l) =
 
 parts : (c : Catalogue) (b : List ℕ) → bit (isClear c b) + bit (isFaulted c b) + bit (fitRefused b) ≡ 1
 unfolding bit isClear isFaulted
-parts c b = go (fitRefused b) (isEmpty (listOf c (fitOf b)))
+parts c b = go (fitRefused b) (isEmpty (listOf c (fitOf b)) && eqb (itemCount b) (resultCount b))
   where
     go : (r e : Bool) → bit (cond r false e) + bit (not (cond r false e || r)) + bit r ≡ 1
     go true e = refl
@@ -142,10 +142,11 @@ module _ (catalogue input : List ℕ) where
   unfolding hallCall catalogueRefusals
   hall-answers = go (firstOf (hallConditions catalogue input)) refl
 
-empty-is : {A : Type 0} (l : List A) → T (isEmpty l) ↔ (length l ≡ 0)
+-- an empty list and two equal numbers
+whole-is : {A : Type 0} (l : List A) (m n : ℕ) → T (isEmpty l && eqb m n) ↔ ((length l ≡ 0) × (m ≡ n))
 unfolding isEmpty
-empty-is [] = (λ _. refl, λ _. tt)
-empty-is (x ∷ l) = (λ h. absurd h, λ h. absurd (omega arith))
+whole-is [] m n = (λ h. (refl, eqb→eq m n h), λ h. subst T (sym (eq-eqb m n (h .1))) tt)
+whole-is (x ∷ l) m n = (λ h. absurd h, λ h. absurd (let e = h .0 in omega arith))
 
 or-left : (b : Bool) → T b → T (b || false)
 or-left true t = tt
@@ -162,6 +163,10 @@ module _ (catalogue fit buffer : List ℕ) (fine : None (catalogueConditions cat
 
   abbrev es : List Entry
   es = listOf cat (fitOf fit)
+
+  -- nothing listed, as many results as items
+  abbrev whole : Bool
+  whole = isEmpty es && eqb (itemCount fit) (resultCount fit)
 
   -- those of the fit itself: refusals 4 to 6
   abbrev ownConditions : Conditions
@@ -186,6 +191,13 @@ module _ (catalogue fit buffer : List ℕ) (fine : None (catalogueConditions cat
   abbrev o : Outcome
   o = outcome buffer (listCall catalogue fit buffer)
 
+  -- what the call and the two numbers say of a clear fit, and of a faulted one
+  abbrev Clear : Type 0
+  Clear = (refusal o ≡ 0) × (count o ≡ 0) × (itemCount fit ≡ resultCount fit)
+
+  abbrev Faulted : Type 0
+  Faulted = (refusal o ≡ 0) × ((0 < count o) ⊎ (itemCount fit ≡ resultCount fit → ⊥))
+
   answered : None ownConditions → 24 * length es ≤ length buffer → (refusal o ≡ 0) × (count o ≡ length es)
   answered n h = let a = A .answered .1 (long-enough h n) in (a, A .counted a)
 
@@ -200,20 +212,25 @@ module _ (catalogue fit buffer : List ℕ) (fine : None (catalogueConditions cat
   unfolding isClear isFaulted
   passed n r = record { clear = (to-clear, from-clear); turned-away = (λ t. absurd (subst T r t), away); faulted = λ b. (to-faulted b, from-faulted b) }
     where
-      clear-is : isClear cat fit ≡ isEmpty es
-      clear-is = ap (λ (b : Bool). cond b false (isEmpty es)) r
+      clear-is : isClear cat fit ≡ whole
+      clear-is = ap (λ (b : Bool). cond b false whole) r
 
-      faulted-is : isFaulted cat fit ≡ not (isEmpty es || false)
-      faulted-is = ap (λ (b : Bool). not (cond b false (isEmpty es) || b)) r
+      faulted-is : isFaulted cat fit ≡ not (whole || false)
+      faulted-is = ap (λ (b : Bool). not (cond b false whole || b)) r
 
-      to-clear : T (isClear cat fit) → (refusal o ≡ 0) × (count o ≡ 0)
+      to-clear : T (isClear cat fit) → Clear
       to-clear t =
-          let z = empty-is es .0 (subst T clear-is t) in
+          let w = whole-is es (itemCount fit) (resultCount fit) .0 (subst T clear-is t) in
+          let z = w .0 in
+          let q = w .1 in
           let a = answered n (omega arith) in
-          (a .0, a .1 ∙ z)
+          (a .0, let e = a .1 in omega arith, omega arith)
 
-      from-clear : (refusal o ≡ 0) × (count o ≡ 0) → T (isClear cat fit)
-      from-clear h = subst T (sym clear-is) (empty-is es .1 (elim (either n) [ inl a ↦ sym (a .1) ∙ h .1 | inr b ↦ absurd (let k = h .0 in omega arith) ]))
+      none-listed : Clear → length es ≡ 0
+      none-listed h = elim (either n) [ inl a ↦ (let e = a .1 in let k = h .1 in omega arith) | inr b ↦ absurd (let k = h .0 in omega arith) ]
+
+      from-clear : Clear → T (isClear cat fit)
+      from-clear h = subst T (sym clear-is) (whole-is es (itemCount fit) (resultCount fit) .1 (none-listed h, let q = h .2 in omega arith))
 
       away : (4 ≤ refusal o) × (refusal o ≤ 6) → T (fitRefused fit)
       away h = absurd (elim (either n) [ inl a ↦ (let k = h .0 in let l = a .0 in omega arith) | inr b ↦ (let k = h .1 in omega arith) ])
@@ -221,17 +238,29 @@ module _ (catalogue fit buffer : List ℕ) (fine : None (catalogueConditions cat
       room : 123384 ≤ length buffer → 24 * length es ≤ length buffer
       room b = let k = list-short fit (unfold fitRefusals in n .0) cat in omega arith
 
-      to-faulted : 123384 ≤ length buffer → T (isFaulted cat fit) → (refusal o ≡ 0) × (0 < count o)
-      to-faulted b t =
-          let a = answered n (room b) in
-          let z : length es ≡ 0 → ⊥ = λ e. T-not (isEmpty es || false) (subst T faulted-is t) (or-left (isEmpty es) (empty-is es .1 e)) in
-          (a .0, let e = a .1 in omega arith)
+      not-both : T (isFaulted cat fit) → length es ≡ 0 → itemCount fit ≡ resultCount fit → ⊥
+      not-both t z q = T-not (whole || false) (subst T faulted-is t) (or-left whole (whole-is es (itemCount fit) (resultCount fit) .1 (z, q)))
 
-      from-faulted : 123384 ≤ length buffer → (refusal o ≡ 0) × (0 < count o) → T (isFaulted cat fit)
-      from-faulted b h =
-          let a = answered n (room b) in
-          subst T (sym faulted-is)
-          (not-T (isEmpty es || false) (λ t. let z = empty-is es .0 (or-false (isEmpty es) t) in let p = h .1 in let e = a .1 in omega arith))
+      to-faulted : 123384 ≤ length buffer → T (isFaulted cat fit) → Faulted
+      to-faulted b t = (a .0, go (decLe 1 (length es)))
+        where
+          a : (refusal o ≡ 0) × (count o ≡ length es)
+          a = answered n (room b)
+
+          go : Dec (1 ≤ length es) → (0 < count o) ⊎ (itemCount fit ≡ resultCount fit → ⊥)
+          go (yes h) = inl (let e = a .1 in omega arith)
+          go (no h) = inr λ q. not-both t (omega arith) (omega arith)
+
+      from-faulted : 123384 ≤ length buffer → Faulted → T (isFaulted cat fit)
+      from-faulted b h = subst T (sym faulted-is) (not-T (whole || false) whole-not)
+        where
+          whole-not : T (whole || false) → ⊥
+          whole-not t =
+              let w = whole-is es (itemCount fit) (resultCount fit) .0 (or-false whole t) in
+              let e = answered n (room b) .1 in
+              let z = w .0 in
+              let k = w .1 in
+              elim (h .1) [ inl p ↦ omega arith | inr q ↦ q (omega arith) ]
 
   turned : (k : ℕ) → First k ownConditions → fitRefused fit ≡ true → Judged catalogue fit buffer o
   unfolding isClear isFaulted fitRefusals
@@ -242,10 +271,10 @@ module _ (catalogue fit buffer : List ℕ) (fine : None (catalogueConditions cat
   }
     where
       clear-is : isClear cat fit ≡ false
-      clear-is = ap (λ (b : Bool). cond b false (isEmpty es)) r
+      clear-is = ap (λ (b : Bool). cond b false whole) r
 
       faulted-is : isFaulted cat fit ≡ false
-      faulted-is = ap (λ (b : Bool). not (cond b false (isEmpty es) || b)) r
+      faulted-is = ap (λ (b : Bool). not (cond b false whole || b)) r
 
       among : (4 ≤ k) × (k ≤ 6)
       among = first-between 4 6 k ownConditions (omega arith) f

@@ -98,6 +98,11 @@ fitted =
     ++ words (7 ∷ 4 ∷ [])
     ++ words (0 ∷ 0x3FF00000 ∷ 0 ∷ 0x40220000 ∷ [])
 
+-- ship 1 with so many items of type 9 in its hold and so many results: nothing is listed
+abbrev loaded : ℕ → ℕ → List ℕ
+loaded items results =
+    words (0 ∷ items ∷ results ∷ 0 ∷ 1 ∷ 0 ∷ 0 ∷ []) ++ each (replicate items 11) (λ slot. words (9 ∷ 1 ∷ slot ∷ [])) ++ replicate (4 * results + 8) 0
+
 -- so many skills, items and results, all of zeros
 abbrev sized : ℕ → ℕ → ℕ → List ℕ
 sized skills items results = words (skills ∷ items ∷ results ∷ 0 ∷ 0 ∷ 0 ∷ 0 ∷ []) ++ replicate (5 * skills + 12 * items + 4 * results + 8) 0
@@ -172,6 +177,20 @@ CALLS =
     ∷ (SkillCall small fitted 0 [], Returns 0 [])
     -- a hall of three: clear, faulted, refused
     ∷ (HallCall small (words (3 ∷ 36 ∷ 36 ∷ 1 ∷ []) ++ flying ++ empty ++ (0 ∷ [])), Number (1 + 256 + 65536))
+    -- an empty list is clear with as many results as items alone
+    ∷ (ListCall small (loaded 1 0) [], Returns 0 [])
+    ∷ (ListCall small (loaded 0 1) [], Returns 0 [])
+    ∷ (HallCall small (words (1 ∷ 52 ∷ []) ++ loaded 1 1), Number 1)
+    ∷ (HallCall small (words (1 ∷ 48 ∷ []) ++ loaded 1 0), Number 256)
+    ∷ (HallCall small (words (1 ∷ 40 ∷ []) ++ loaded 0 1), Number 256)
+    -- two items more than results: those of ship and character are not counted
+    ∷ (HallCall small (words (1 ∷ 76 ∷ []) ++ loaded 3 1), Number 256)
+    -- among others; with an entry it is faulted too, and refused where its bytes are
+    ∷ (
+      HallCall small (words (5 ∷ 48 ∷ 36 ∷ 36 ∷ 40 ∷ 1 ∷ []) ++ loaded 1 0 ++ flying ++ empty ++ loaded 0 1 ++ (0 ∷ [])),
+      Number (1 + 256 * 3 + 65536),
+    )
+    ∷ (HallCall small (words (2 ∷ 48 ∷ 48 ∷ []) ++ holding 0 0 0 ++ holding 12 0 0), Number (256 + 65536))
     ∷ (HallCall small (words (0 ∷ [])), Number 0)
     ∷ (HallCall small (replicate 3 0), Number (4 * 4294967296))
     ∷ (HallCall small (words (1 ∷ 36 ∷ []) ++ replicate 35 0), Number (4 * 4294967296))

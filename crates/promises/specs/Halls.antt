@@ -2,11 +2,12 @@
 use Prim.Native.Nat.{ℕ, _+_, _/_, _%_, _≤_, _<_}
 use mathlib.Core.Path.{_≡_}
 use mathlib.Core.List.{List, [], _∷_, _++_}
-use mathlib.Core.Logic.{_↔_}
+use mathlib.Core.Logic.{_⊎_, _↔_}
 use lib.Dec.{T}
 use lib.ListN.{length}
 use Rattle.words.specs.Words.{countOf}
 use Rattle.catalogue.specs.Catalogue.{catalogueOf}
+use Rattle.fit.specs.Fit.{itemCount, resultCount}
 use Rattle.fitcheck.specs.Hall.{fitCount, fits, badInput, isClear, isFaulted, fitRefused}
 use Rattle.promises.specs.Answers.{Outcome, refusal, count, Conditions, catalogueConditions, First, None}
 
@@ -35,9 +36,11 @@ pub record HallAnswers (catalogue input : List ℕ) (word : ℕ) : Type 0 where
   pub total : word / 4294967296 ≡ 0 → clearIn word + faultedIn word + refusedIn word ≡ fitCount input
   pub few : word / 4294967296 ≡ 0 → fitCount input ≤ 64
 
--- a fit in the hall, beside its own list call with any buffer: clear where that answers with no entry, refused where that refuses with 4 to 6
+-- a fit in the hall, beside its own list call with any buffer: clear where that answers with no entry and there are as many results as items,
+-- refused where that refuses with 4 to 6
 pub record Judged (catalogue fit buffer : List ℕ) (o : Outcome) : Type 0 where
-  pub clear : T (isClear (catalogueOf catalogue) fit) ↔ ((refusal o ≡ 0) × (count o ≡ 0))
+  pub clear : T (isClear (catalogueOf catalogue) fit) ↔ ((refusal o ≡ 0) × (count o ≡ 0) × (itemCount fit ≡ resultCount fit))
   pub turned-away : T (fitRefused fit) ↔ ((4 ≤ refusal o) × (refusal o ≤ 6))
-  -- faulted where it answers with entries, if the buffer has room for the longest list
-  pub faulted : 123384 ≤ length buffer → T (isFaulted (catalogueOf catalogue) fit) ↔ ((refusal o ≡ 0) × (0 < count o))
+  -- faulted where it answers with entries, or with unequal numbers, if the buffer has room for the longest list
+  pub faulted : 123384 ≤ length buffer
+      → T (isFaulted (catalogueOf catalogue) fit) ↔ ((refusal o ≡ 0) × ((0 < count o) ⊎ (itemCount fit ≡ resultCount fit → ⊥)))

@@ -118,8 +118,8 @@ TooMany = (c : Catalogue) (r : Result) → T (tooMany 512 c r) ↔ MoreWanted 51
 abbrev pub HallCall : Type 0
 HallCall = (catalogue input : List ℕ) → HallAnswers catalogue input (hallReturned (hallCall catalogue input))
 
--- Where the catalogue is not refused, a fit is clear exactly where its list call answers with no entry, refused exactly where that refuses
--- with 4 to 6, and faulted where it lists entries.
+-- Where the catalogue is not refused, a fit is clear exactly where its list call answers with no entry and it has as many results as items,
+-- refused exactly where that refuses with 4 to 6, and faulted where it lists entries or has unequal numbers.
 abbrev pub HallFits : Type 0
 HallFits = (catalogue fit buffer : List ℕ) → None (catalogueConditions catalogue) → Judged catalogue fit buffer (listOutcome catalogue fit buffer)
 

@@ -1,5 +1,5 @@
-//! A catalogue of a few types, two fits of a Rifter, and what is wrong with
-//! them in sentences.
+//! A catalogue of a few types, fits of a Rifter, and what is wrong with them in
+//! sentences.
 //!
 //! With a folder behind it, `cargo run --example rifter -- FOLDER`, it also
 //! writes the catalogue, the names and the fits there, for the command
@@ -104,7 +104,7 @@ fn catalogue() -> Result<Vec<u8>, BuildError> {
 
 /// A Rifter with three guns and as many damage controls as asked for. The
 /// loads are what a calculation of the fit would give.
-fn rifter(damage_controls: u8) -> Result<Vec<u8>, BuildError> {
+fn rifter(damage_controls: u8) -> FitBuilder {
     let wanting = |state: State, skill: i32, level: f64| {
         ItemResult::new(state)
             .with(REQUIRED_SKILL, f64::from(skill))
@@ -136,18 +136,28 @@ fn rifter(damage_controls: u8) -> Result<Vec<u8>, BuildError> {
             wanting(State::Online, HULL_UPGRADES, 4.0).with(MAX_GROUP_FITTED, 1.0),
         );
     }
+    fit
+}
+
+/// A Rifter with two damage controls in one slot, the second of which was
+/// never calculated: it has no result, so no rule looks at it.
+fn half() -> Result<Vec<u8>, BuildError> {
+    let mut fit = rifter(1);
+    fit.item_without_result(FitItem::new(DAMAGE_CONTROL, Slot::Low(0)));
     fit.build()
 }
 
-/// The catalogue, the names, the fits, and one that was cut short on its way.
+/// The catalogue, the names, the fits, one that was calculated half, and one
+/// that was cut short on its way.
 pub fn write(folder: &Path) -> Result<(), Box<dyn Error>> {
     let fits = folder.join("fits");
     fs::create_dir_all(&fits)?;
     fs::write(folder.join("types.bin"), catalogue()?)?;
     fs::write(folder.join("names.txt"), NAMES)?;
-    fs::write(fits.join("one.fit"), rifter(1)?)?;
-    fs::write(fits.join("two.fit"), rifter(2)?)?;
-    fs::write(fits.join("cut.fit"), &rifter(1)?[..100])?;
+    fs::write(fits.join("one.fit"), rifter(1).build()?)?;
+    fs::write(fits.join("two.fit"), rifter(2).build()?)?;
+    fs::write(fits.join("half.fit"), half()?)?;
+    fs::write(fits.join("cut.fit"), &rifter(1).build()?[..100])?;
     Ok(())
 }
 
@@ -155,7 +165,7 @@ pub fn write(folder: &Path) -> Result<(), Box<dyn Error>> {
 pub fn say() -> Result<String, Box<dyn Error>> {
     let catalogue = catalogue()?;
     let names = Names::parse(NAMES)?;
-    let fits = [rifter(1)?, rifter(2)?];
+    let fits = [rifter(1).build()?, rifter(2).build()?];
     let mut text = String::new();
     for (fit, with) in fits
         .iter()

@@ -47,7 +47,9 @@ uint64_t fit_skill(const uint8_t *catalogue, size_t catalogue_length,
                    uint8_t *out, size_t out_length);
 
 /* How many fits are clear to fly, faulted and refused. The input: u32 number
- * of fits, their lengths (u32), then the fits end to end. */
+ * of fits, their lengths (u32), then the fits end to end. A fit is clear where
+ * its list is empty and it has as many results as items; an empty list with
+ * unequal numbers is faulted. */
 uint64_t fit_hall(const uint8_t *catalogue, size_t catalogue_length,
                   const uint8_t *input, size_t input_length);
 

@@ -1,10 +1,11 @@
 //! The three calls over slices.
 
+use std::fmt;
 use std::ops::AddAssign;
 
 use crate::{
-    ENTRY_BYTES, Entry, FIT_BYTES, FITS_PER_CALL, ListOptions, MOST_ENTRIES, MOST_SKILLS, Refusal,
-    SkillOptions, exported,
+    ENTRY_BYTES, Entry, FIT_BYTES, FITS_PER_CALL, FitImage, ListOptions, MOST_ENTRIES, MOST_SKILLS,
+    Refusal, SkillOptions, Unpaired, exported,
 };
 
 /// How many entries the first try has room for; few fits break more rules.
@@ -14,7 +15,8 @@ const FIRST_ROOM: usize = 64;
 const LAST_ROOM: usize = 1 << 20;
 
 /// Every rule that the fit breaks, in the order of the original's `validate`.
-/// An empty list means that the fit is clear to fly.
+/// With an empty list the fit is clear to fly where it has as many results as
+/// items: rules look at pairs, and [`FitImage::unpaired`] says what is left.
 ///
 /// The catalogue is the type data, the fit the ship with its items and
 /// results, both in the bytes of document 01; see [`CatalogueBuilder`] and
@@ -174,9 +176,9 @@ fn listed(catalogue: &[u8], fit: &[u8], options: &ListOptions<'_>) -> Result<Vec
 /// How many fits are clear to fly, faulted and refused; see [`hall`].
 #[derive(Debug, Clone, Copy, Default, PartialEq, Eq)]
 pub struct Hall {
-    /// Fits whose list is empty.
+    /// Fits whose list is empty and that have as many results as items.
     pub clear: usize,
-    /// Fits whose list has entries.
+    /// Fits whose list has entries, or of which not all was checked.
     pub faulted: usize,
     /// Fits that are refused, by 4 to 6.
     pub refused: usize,
@@ -194,6 +196,10 @@ impl AddAssign for Hall {
 /// How many of the fits are clear to fly, faulted and refused. The three
 /// numbers add up to the number of fits.
 ///
+/// Clear means that all of a fit was checked: one that has items without a
+/// result, or results without an item, is faulted even where its list is
+/// empty. [`verdicts`] says which these are and why, in a sentence.
+///
 /// The library takes 64 fits in a call; more are split into calls of 64 and
 /// the numbers added up. With no fits the catalogue is judged all the same.
 ///
@@ -204,6 +210,7 @@ impl AddAssign for Hall {
 /// ```
 /// use fitcheck::{Hall, Refusal};
 ///
+/// // Ship 0 is no hull; 35 bytes are no fit.
 /// let hall = fitcheck::hall(&[0; 20], &[&[0; 36], &[0; 35]])?;
 /// assert_eq!(hall, Hall { clear: 0, faulted: 1, refused: 1 });
 /// assert_eq!(fitcheck::hall(&[0; 20], &[])?, Hall::default());
@@ -223,19 +230,59 @@ pub fn hall(catalogue: &[u8], fits: &[&[u8]]) -> Result<Hall, Refusal> {
     }
 }
 
-/// What became of one fit; see [`verdicts`].
+/// What became of one fit; see [`verdicts`]. As text it says so in words, with
+/// the reason where a fit is refused or was not checked whole.
 #[non_exhaustive]
 #[derive(Debug, Clone, Copy, PartialEq, Eq)]
 pub enum Verdict {
-    /// It breaks no rule.
+    /// It breaks no rule, and all of it was checked.
     Clear,
-    /// It breaks rules.
+    /// It breaks rules, or not all of it was checked.
     Faulted {
         /// How many entries its list has.
         entries: usize,
+        /// What no rule looked at. Where there are no entries, the fit is
+        /// faulted for this.
+        unpaired: Option<Unpaired>,
     },
     /// It is no fit, for this reason: 4 to 6.
     Refused(Refusal),
+}
+
+impl Verdict {
+    /// Of a fit that is not refused, with so many entries in its list.
+    fn answered(entries: usize, unpaired: Option<Unpaired>) -> Verdict {
+        match (entries, unpaired) {
+            (0, None) => Verdict::Clear,
+            (entries, unpaired) => Verdict::Faulted { entries, unpaired },
+        }
+    }
+}
+
+impl fmt::Display for Verdict {
+    fn fmt(&self, formatter: &mut fmt::Formatter<'_>) -> fmt::Result {
+        match self {
+            Verdict::Clear => formatter.write_str("clear"),
+            Verdict::Faulted { entries, unpaired } => {
+                write!(formatter, "faulted, {}", counted_entries(*entries))?;
+                match unpaired {
+                    Some(unpaired) => write!(formatter, "; {unpaired}"),
+                    None => Ok(()),
+                }
+            }
+            Verdict::Refused(refusal) => {
+                write!(formatter, "refused by {}: {refusal}", refusal.number())
+            }
+        }
+    }
+}
+
+/// A number of entries in words.
+pub(crate) fn counted_entries(count: usize) -> String {
+    match count {
+        1 => "1 entry".to_string(),
+        count => format!("{count} entries"),
+    }
 }
 
 /// What became of each fit, in their order: [`hall`] one by one.
@@ -245,21 +292,35 @@ pub enum Verdict {
 /// The catalogue's refusal, 1 to 3, whatever the fits.
 ///
 /// ```
-/// use fitcheck::{Refusal, Verdict};
+/// use fitcheck::{
+///     CatalogueBuilder, FitBuilder, FitItem, Refusal, Slot, Unpaired, Verdict,
+/// };
 ///
-/// let verdicts = fitcheck::verdicts(&[0; 20], &[&[0; 36], &[0; 35]])?;
-/// assert_eq!(verdicts[0], Verdict::Faulted { entries: 1 });
-/// assert_eq!(verdicts[1], Verdict::Refused(Refusal::FitLength));
-/// # Ok::<(), Refusal>(())
+/// let catalogue = CatalogueBuilder::new().type_info(587, 25, 6, None).build()?;
+/// let clear = FitBuilder::new(587).build()?;
+/// let unread = FitBuilder::new(587)
+///     .item_without_result(FitItem::new(2048, Slot::Low(0)))
+///     .build()?;
+/// let verdicts = fitcheck::verdicts(&catalogue, &[&clear, &unread, &[0; 36], &[0; 35]])?;
+/// assert_eq!(verdicts[0], Verdict::Clear);
+/// let unpaired = Some(Unpaired::Items(1));
+/// assert_eq!(verdicts[1], Verdict::Faulted { entries: 0, unpaired });
+/// assert_eq!(
+///     verdicts[1].to_string(),
+///     "faulted, 0 entries; 1 item has no result, so not all of it was checked",
+/// );
+/// assert_eq!(verdicts[2], Verdict::Faulted { entries: 1, unpaired: None });
+/// assert_eq!(verdicts[3], Verdict::Refused(Refusal::FitLength));
+/// # Ok::<(), Box<dyn std::error::Error>>(())
 /// ```
 pub fn verdicts(catalogue: &[u8], fits: &[&[u8]]) -> Result<Vec<Verdict>, Refusal> {
     hall(catalogue, &[])?;
     fits.iter()
         .map(|fit| match listed(catalogue, fit, &ListOptions::new()) {
-            Ok(bytes) if bytes.is_empty() => Ok(Verdict::Clear),
-            Ok(bytes) => Ok(Verdict::Faulted {
-                entries: bytes.len() / ENTRY_BYTES,
-            }),
+            Ok(bytes) => {
+                let unpaired = FitImage::new(fit).and_then(|fit| fit.unpaired());
+                Ok(Verdict::answered(bytes.len() / ENTRY_BYTES, unpaired))
+            }
             Err(refusal @ (Refusal::FitLength | Refusal::FitOrder | Refusal::FitField)) => {
                 Ok(Verdict::Refused(refusal))
             }

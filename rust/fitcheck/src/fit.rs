@@ -75,7 +75,7 @@ impl Default for ItemResult {
 /// Skills and each result's attributes may come in any order; items keep
 /// theirs, and an entry's index is the item's place. An item comes with its
 /// result: rules look at items that have one. More of one than of the other is
-/// possible too, behind those.
+/// possible too, behind those; see [`Unpaired`](crate::Unpaired).
 ///
 /// ```
 /// use fitcheck::{BuildError, FitBuilder, FitItem, ItemResult, Slot, State};
@@ -157,14 +157,14 @@ impl FitBuilder {
     }
 
     /// Adds an item without a result, behind all that have one. No rule looks
-    /// at it.
+    /// at it, so the fit is not clear.
     pub fn item_without_result(&mut self, item: FitItem) -> &mut Self {
         self.items.push(item);
         self
     }
 
     /// Adds a result without an item, behind all that have one. Its skills can
-    /// be asked for.
+    /// be asked for; no rule looks at it, so the fit is not clear.
     pub fn result_without_item(&mut self, result: ItemResult) -> &mut Self {
         self.results.push(result);
         self

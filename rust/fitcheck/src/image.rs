@@ -1,7 +1,7 @@
 //! What the images hold, as far as a sentence about them needs it.
 
 use crate::missing::{Missing, lacking};
-use crate::{Attribute, CATALOGUE_BYTES, FitItem, FitPart, Mark, Slot, SlotType};
+use crate::{Attribute, CATALOGUE_BYTES, FitItem, FitPart, Mark, Slot, SlotType, Unpaired};
 
 /// Reads which names have an id in a catalogue image, and which marks its
 /// effects have.
@@ -140,6 +140,12 @@ impl<'a> FitImage<'a> {
     /// How many items have a result: rules look at these alone.
     pub fn pairs(&self) -> usize {
         self.items.min(self.results)
+    }
+
+    /// The items without a result or the results without an item, if there are
+    /// any: a fit that has some is not clear.
+    pub fn unpaired(&self) -> Option<Unpaired> {
+        Unpaired::of(self.items, self.results)
     }
 
     /// The item at a place from 0; none where there is no such item or its

@@ -15,11 +15,11 @@
 
 use std::fmt::{self, Display, Formatter, Write};
 
-use crate::{Entry, Refusal, Rule, Target, Unchecked, Verdict};
+use crate::{Entry, Refusal, Rule, Target, Unchecked, Unpaired, Verdict};
 
 /// The version of the shapes. It rises where a field goes away or means
 /// something else; fields, rules and refusals may be added without.
-pub const VERSION: u32 = 1;
+pub const VERSION: u32 = 2;
 
 /// A JSON value. As text it stands on one line.
 #[non_exhaustive]
@@ -135,10 +135,17 @@ pub fn verdict(file: &str, verdict: &Verdict) -> Json {
     let mut fields = vec![("file", Json::text(file))];
     fields.extend(match verdict {
         Verdict::Clear => vec![("status", Json::text("clear"))],
-        Verdict::Faulted { entries } => vec![
-            ("status", Json::text("faulted")),
-            ("entries", Json::count(*entries)),
-        ],
+        Verdict::Faulted {
+            entries,
+            unpaired: left,
+        } => {
+            let mut faulted = vec![
+                ("status", Json::text("faulted")),
+                ("entries", Json::count(*entries)),
+            ];
+            faulted.extend(left.map(|left| ("unpaired", unpaired(left))));
+            faulted
+        }
         Verdict::Refused(number) => vec![
             ("status", Json::text("refused")),
             ("refusal", refusal(*number)),
@@ -160,6 +167,20 @@ pub fn unchecked(unchecked: &[Unchecked]) -> Json {
         ])
     };
     Json::List(unchecked.iter().map(one).collect())
+}
+
+/// How many items have no result and how many results no item, one of which is
+/// 0, and the sentence.
+pub fn unpaired(unpaired: Unpaired) -> Json {
+    let (items, results) = match unpaired {
+        Unpaired::Items(count) => (count, 0),
+        Unpaired::Results(count) => (0, count),
+    };
+    Json::Object(vec![
+        ("items", Json::count(items)),
+        ("results", Json::count(results)),
+        ("sentence", Json::text(unpaired.to_string())),
+    ])
 }
 
 /// A refusal by number and sentence.

@@ -97,6 +97,8 @@ mod slot;
 pub mod text;
 #[forbid(unsafe_code)]
 mod type_data;
+#[forbid(unsafe_code)]
+mod unpaired;
 
 pub use attribute::Attribute;
 pub use call::{Hall, Verdict, hall, list, list_into, skills, skills_into, verdicts};
@@ -115,6 +117,7 @@ pub use report::Report;
 pub use rule::{GroupLimit, Resource, Rule, SlotKind, Target};
 pub use slot::{Slot, SlotType, State};
 pub use type_data::{TypeData, TypeInfo, type_ids_of};
+pub use unpaired::Unpaired;
 
 /// Bytes of one entry.
 pub const ENTRY_BYTES: usize = 24;

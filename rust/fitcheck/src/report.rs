@@ -1,12 +1,15 @@
 //! What is to be said of one fit, whole.
 
 use crate::json::{self, Json};
+use crate::call::counted_entries;
 use crate::{
     CatalogueImage, Entry, Explainer, FitImage, ListOptions, Missing, Refusal, SkillOptions,
+    Unpaired,
 };
 
-/// What is to be said of one fit: its list, the skills that each of its
-/// results lacks, and what the catalogue leaves unchecked.
+/// What is to be said of one fit: its list, what of it no rule looked at, the
+/// skills that each of its results lacks, and what the catalogue leaves
+/// unchecked.
 ///
 /// ```
 /// use fitcheck::{Explainer, ListOptions, Names, Report, SkillOptions};
@@ -25,6 +28,8 @@ use crate::{
 pub struct Report {
     /// The list.
     pub entries: Vec<Entry>,
+    /// The items without a result, or the results without an item.
+    pub unpaired: Option<Unpaired>,
     /// What each result lacks, by its number, or why that cannot be told.
     pub skills: Vec<Result<Vec<Entry>, Refusal>>,
     /// What the catalogue lacks.
@@ -44,10 +49,12 @@ impl Report {
         of_skills: &SkillOptions,
     ) -> Result<Report, Refusal> {
         let entries = crate::list(catalogue, fit, of_list)?;
-        let results = FitImage::new(fit).map_or(0, |fit| fit.results() as u32 + 2);
+        let image = FitImage::new(fit);
+        let results = image.map_or(0, |fit| fit.results() as u32 + 2);
         let skills = (0..results).map(|result| crate::skills(catalogue, fit, result, of_skills));
         Ok(Report {
             entries,
+            unpaired: image.and_then(|fit| fit.unpaired()),
             skills: skills.collect(),
             missing: CatalogueImage::new(catalogue)
                 .map(|catalogue| catalogue.missing())
@@ -55,26 +62,23 @@ impl Report {
         })
     }
 
-    /// Whether the list is empty. Skills may be lacking all the same.
+    /// Whether the list is empty and all of the fit was checked. Skills may be
+    /// lacking all the same.
     pub fn is_clear(&self) -> bool {
-        self.entries.is_empty()
+        self.entries.is_empty() && self.unpaired.is_none()
     }
 
-    /// The list and the skills in sentences, a line each; what repeats stands
-    /// once. What is missing is not said here.
+    /// The list, what was not checked and the skills in sentences, a line each;
+    /// what repeats stands once. What is missing is not said here.
     pub fn text(&self, explainer: &Explainer<'_>) -> String {
-        let mut lines = vec![match self.entries.len() {
-            0 => "clear: no rule is broken".to_string(),
-            1 => "faulted: 1 entry".to_string(),
-            count => format!("faulted: {count} entries"),
+        let mut lines = vec![match self.is_clear() {
+            true => "clear: no rule is broken".to_string(),
+            false => format!("faulted: {}", counted_entries(self.entries.len())),
         }];
         let indented = |sentence: String| format!("  {sentence}");
-        lines.extend(
-            explainer
-                .explain_all(&self.entries)
-                .into_iter()
-                .map(indented),
-        );
+        let sentences = explainer.explain_all(&self.entries).into_iter();
+        let unpaired = self.unpaired.map(|unpaired| unpaired.to_string());
+        lines.extend(sentences.chain(unpaired).map(indented));
 
         let mut lacking = Vec::new();
         let mut refused = Vec::new();
@@ -129,8 +133,9 @@ impl Report {
         fields.extend([
             ("unchecked", json::unchecked(&self.missing.unchecked())),
             ("entries", Json::List(entries.collect())),
-            ("skills", Json::List(skills.collect())),
         ]);
+        fields.extend(self.unpaired.map(|it| ("unpaired", json::unpaired(it))));
+        fields.push(("skills", Json::List(skills.collect())));
         Json::Object(fields)
     }
 }

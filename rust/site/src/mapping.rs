@@ -66,10 +66,18 @@ pub fn fit(fit: &Fit, calculation: &Calculation) -> FitBuilder {
     builder
         .ship(result(&calculation.ship))
         .character(result(&calculation.character));
-    // A calculation has as many items as its fit, in the same order.
-    for (item, outcome) in fit.items.iter().zip(&calculation.items) {
+    // A calculation has as many items as its fit, in the same order. Should it
+    // ever have fewer or more, none is dropped: the fit is then not clear.
+    let mut outcomes = calculation.items.iter();
+    for item in &fit.items {
         let fitted = FitItem::new(item.type_id, slot(item.slot)).quantity(item.quantity);
-        builder.item(fitted, result(outcome));
+        match outcomes.next() {
+            Some(outcome) => builder.item(fitted, result(outcome)),
+            None => builder.item_without_result(fitted),
+        };
+    }
+    for outcome in outcomes {
+        builder.result_without_item(result(outcome));
     }
     builder
 }

@@ -30,7 +30,7 @@ const TABLES: [&[Make]; 5] = [
 /// are, and how each is made.
 type Row = (fn() -> usize, fn(usize) -> Case);
 
-const MADE: [Row; 8] = [
+const MADE: [Row; 9] = [
     (
         || plant::PLANTS.len(),
         |number| plant::alone(&mut Rng::new(number as u64), plant::Ground::small(), number),
@@ -44,6 +44,7 @@ const MADE: [Row; 8] = [
         },
     ),
     (|| hall::CORNERS, hall::corner),
+    (|| hall::UNEQUAL, hall::unequal),
     (|| tables::COUNT, tables::case),
     (
         || 5,
@@ -58,7 +59,7 @@ const MADE: [Row; 8] = [
 /// them, and of the planted refusals, pairs of them and hall inputs.
 pub fn parts() -> [Range<usize>; 3] {
     let written: usize = TABLES.iter().map(|table| table.len()).sum();
-    let made: usize = MADE[..3].iter().map(|(count, _)| count()).sum();
+    let made: usize = MADE[..4].iter().map(|(count, _)| count()).sum();
     [
         0..written,
         written - chains::CASES.len()..written,

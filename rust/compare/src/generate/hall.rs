@@ -2,11 +2,12 @@
 
 use super::fit::fit;
 use super::world::{Role, Style, World};
-use crate::case::{Ask, Case};
+use crate::case::{Ask, Case, Room};
 use crate::model::{Damage, Fit, Item, Outcome};
 use crate::names::MAX_ACTIVE_DRONES;
 use crate::rng::Rng;
 use crate::sketch::{ACTIVE, CARGO, CATEGORY_DRONE, DRONE_BAY, Sketch};
+use crate::tally::size::UNREAD;
 
 /// How a hall input's frame may be broken; each gives refusal 4 where the
 /// catalogue is in order.
@@ -59,17 +60,15 @@ pub fn hall(rng: &mut Rng) -> Case {
     case
 }
 
-/// A fit that is clear, likely faulted, or refused by one of 4 to 6.
+/// A fit that is clear, faulted for unequal numbers alone, likely faulted, or
+/// refused by one of 4 to 6.
 fn one(rng: &mut Rng, world: &World, style: Style) -> Fit {
     let mut made = match rng.below(3) {
-        0 => Fit {
-            ship_type: world.a(rng, Role::Hull),
-            ..Fit::default()
-        },
+        0 => bare(rng, world),
         1 if rng.chance(50) => fit(rng, world, style, 200),
         _ => fit(rng, world, style, 6),
     };
-    match rng.below(12) {
+    match rng.below(16) {
         0 => made.damage.extra.push(0),
         1 => made.damage.cut = rng.below(60),
         2 => made.ship.attributes = vec![(5, 0), (5, 0)],
@@ -104,7 +103,40 @@ fn one(rng: &mut Rng, world: &World, style: Style) -> Fit {
                 ..Item::default()
             },
         ),
+        // Of one kind more than of the other.
+        7 | 8 => {
+            for _ in 0..1 + rng.below(3) {
+                made.items.push(Item {
+                    type_id: world.a(rng, Role::Cargo),
+                    quantity: 1,
+                    kind: rng.below(12) as u8,
+                    ..Item::default()
+                });
+            }
+        }
+        9 | 10 => {
+            let more = 1 + rng.below(3);
+            let most = made.items.len().max(made.results.len());
+            made.results.resize(most + more, Outcome::default());
+        }
         _ => {}
+    }
+    made
+}
+
+/// A hull with nothing on it, or a few pairs of nothing in its hold.
+fn bare(rng: &mut Rng, world: &World) -> Fit {
+    let mut made = Fit {
+        ship_type: world.a(rng, Role::Hull),
+        ..Fit::default()
+    };
+    for _ in 0..rng.below(3) {
+        made.items.push(Item {
+            type_id: world.a(rng, Role::Cargo),
+            kind: CARGO,
+            ..Item::default()
+        });
+        made.results.push(Outcome::default());
     }
     made
 }
@@ -217,3 +249,53 @@ pub fn corner(number: usize) -> Case {
 
 /// How many corners there are.
 pub const CORNERS: usize = 22;
+
+/// Fits that list nothing, with as many items and results as the number says,
+/// unequal or not: alone, then beside fits of every other kind.
+pub fn unequal(number: usize) -> Case {
+    let ground = Sketch::hull().known(9, 100, CATEGORY_DRONE);
+    let hull = ground.fit.clone();
+    let holding = |items: u32, results: u32| {
+        let mut fit = hull.clone();
+        fit.items = vec![
+            Item {
+                type_id: 9,
+                quantity: 1,
+                kind: CARGO,
+                ..Item::default()
+            };
+            items as usize
+        ];
+        fit.results = vec![Outcome::default(); results as usize];
+        fit
+    };
+    let mut broken = holding(2, 1);
+    broken.mode_flag = 2;
+    // Ship 0 is no hull.
+    let mut listed = holding(1, 2);
+    listed.ship_type = 0;
+    let rest = number.checked_sub(UNREAD.len());
+    let fits = match rest {
+        None => {
+            let (items, results) = UNREAD[number];
+            vec![holding(items, results)]
+        }
+        Some(0) => vec![holding(1, 1)],
+        Some(1) => vec![holding(256, 256)],
+        Some(2) => vec![hull.clone(), holding(3, 2), broken, listed, holding(2, 2)],
+        Some(3) => vec![broken, holding(2, 3), Fit::default(), holding(1, 1), hull],
+        Some(4) => vec![holding(1, 0); 64],
+        Some(5) => vec![holding(0, 1); 64],
+        Some(_) => vec![listed, holding(0, 1), holding(1, 0), broken],
+    };
+    Case {
+        title: "fits with as many items as results, and with more of one".to_string(),
+        catalogue: ground.finish().catalogue,
+        fits,
+        asks: vec![Ask::Hall, Ask::List(Room::Exact), Ask::List(Room::Longer(24))],
+        ..Case::default()
+    }
+}
+
+/// How many of these there are.
+pub const UNEQUAL: usize = UNREAD.len() + 7;

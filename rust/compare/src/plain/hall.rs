@@ -92,18 +92,35 @@ fn judge(catalogue: &Catalogue, image: &[u8], flaw: Flaw) -> Verdict {
         if flaw.has(Fault::HallHangarRefused) && resource::is_hangar(&context) {
             return Err(7);
         }
-        list(catalogue, &fit, flaw)
+        Ok((list(catalogue, &fit, flaw)?, is_whole(&fit, flaw)))
     });
-    match listed {
-        Err(_) if flaw.has(Fault::HallRefusedFaulted) => Verdict::Faulted,
-        Err(_) => Verdict::Refused,
-        Ok(entries) if entries.is_empty() => Verdict::Clear,
-        Ok(entries) if entries[0][1] == 19 && flaw.has(Fault::HallNoHullRefused) => {
-            Verdict::Refused
-        }
-        Ok(entries) if entries.len() > 100 && flaw.has(Fault::HallLongListRefused) => {
-            Verdict::Refused
-        }
-        Ok(_) => Verdict::Faulted,
+    let (entries, is_whole) = match listed {
+        Err(_) if flaw.has(Fault::HallRefusedFaulted) => return Verdict::Faulted,
+        Err(_) => return Verdict::Refused,
+        Ok(judged) => judged,
+    };
+    match entries.first() {
+        None if is_whole => Verdict::Clear,
+        None if flaw.has(Fault::HallUnreadRefused) => Verdict::Refused,
+        Some(_) if !is_whole && flaw.has(Fault::HallUnequalRefused) => Verdict::Refused,
+        Some(first) if first[1] == 19 && flaw.has(Fault::HallNoHullRefused) => Verdict::Refused,
+        Some(_) if entries.len() > 100 && flaw.has(Fault::HallLongListRefused) => Verdict::Refused,
+        _ => Verdict::Faulted,
+    }
+}
+
+/// Whether a fit has as many results as items.
+fn is_whole(fit: &Fit, flaw: Flaw) -> bool {
+    let (items, results) = (fit.items(), fit.results());
+    match () {
+        () if flaw.has(Fault::HallUnreadClear) => true,
+        () if flaw.has(Fault::HallMoreItemsClear) => fit.pairs() == results,
+        () if flaw.has(Fault::HallMoreResultsClear) => fit.pairs() == items,
+        () if flaw.has(Fault::HallOneMoreClear) => items.abs_diff(results) <= 1,
+        () if flaw.has(Fault::HallShipCounted) => items == results || items == results + 2,
+        () if flaw.has(Fault::HallSizesU8) => items as u8 == results as u8,
+        () if flaw.has(Fault::HallNoPairsClear) => items == results || fit.pairs() == 0,
+        () if flaw.has(Fault::HallPairsFaulted) => items == 0 && results == 0,
+        () => items == results,
     }
 }

@@ -10,6 +10,8 @@ mod encode;
 mod fit;
 mod words;
 
+use std::cmp::Ordering;
+
 use original::{Rule, Run, Target, Violation};
 
 use crate::checker::{Checker, ENTRY, Entry, refused};
@@ -161,18 +163,53 @@ pub fn hall_fits(input: &[u8]) -> Result<Vec<&[u8]>, Refusal> {
 #[derive(Clone, Copy, Debug, PartialEq, Eq, PartialOrd, Ord)]
 pub enum Fate {
     Clear,
-    Faulted,
+    /// Its list has entries. Of which it has more besides, items or results.
+    Faulted(Option<More>),
+    /// Its list is empty, and it has more items than results or fewer.
+    Unread {
+        items: u32,
+        results: u32,
+    },
     Refused(Refusal),
+}
+
+/// Of which of the two a fit has more.
+#[derive(Clone, Copy, Debug, PartialEq, Eq, PartialOrd, Ord)]
+pub enum More {
+    Items,
+    Results,
+}
+
+impl More {
+    pub fn of(items: u32, results: u32) -> Option<More> {
+        match items.cmp(&results) {
+            Ordering::Less => Some(More::Results),
+            Ordering::Equal => None,
+            Ordering::Greater => Some(More::Items),
+        }
+    }
 }
 
 /// What becomes of each fit of a hall input.
 pub fn fates(catalogue: &Catalogue, input: &[u8]) -> Result<Vec<Fate>, Refusal> {
-    let fate = |image: &[u8]| match Fit::decode(image).map(|fit| list(catalogue, &fit)) {
+    let fate = |image: &[u8]| match Fit::decode(image) {
+        Ok(fit) => fate(catalogue, &fit),
         Err(refusal) => Fate::Refused(refusal),
-        Ok(listed) if listed.entries.is_empty() => Fate::Clear,
-        Ok(_) => Fate::Faulted,
     };
     Ok(hall_fits(input)?.into_iter().map(fate).collect())
+}
+
+/// What becomes of a decoded fit. Its items and the results of items are
+/// counted here: the original looks at pairs alone.
+fn fate(catalogue: &Catalogue, fit: &Fit) -> Fate {
+    let items = fit.fit.items.len() as u32;
+    let results = fit.calculation.items.len() as u32;
+    let listed = list(catalogue, fit);
+    match listed.entries.is_empty() {
+        false => Fate::Faulted(More::of(items, results)),
+        true if items != results => Fate::Unread { items, results },
+        true => Fate::Clear,
+    }
 }
 
 /// The hall numbers over a decoded catalogue.
@@ -186,7 +223,7 @@ pub fn numbers(fates: &[Fate]) -> Hall {
     for fate in fates {
         match fate {
             Fate::Clear => numbers.clear += 1,
-            Fate::Faulted => numbers.faulted += 1,
+            Fate::Faulted(_) | Fate::Unread { .. } => numbers.faulted += 1,
             Fate::Refused(_) => numbers.refused += 1,
         }
     }

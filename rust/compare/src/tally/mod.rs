@@ -11,10 +11,10 @@ use std::collections::BTreeMap;
 use crate::case::{Ask, Case, Lists};
 use crate::checker::{ENTRY, Entry};
 use crate::grown;
-use crate::reference::{self, Catalogue, Fate, Fit, Listed};
+use crate::reference::{self, Catalogue, Fate, Fit, Listed, More};
 
 pub use edge::{Hangar, Shape, Spot};
-pub use point::{Call, Point, RoomKind};
+pub use point::{Beside, Call, Point, RoomKind};
 
 use size::{Block, LONGEST_LIST};
 
@@ -176,6 +176,12 @@ impl Tally {
     pub fn hall(&mut self, fates: &[Fate], length: usize) {
         for fate in fates {
             self.meet(Point::HallFit(*fate));
+            if let Fate::Unread { items, results } = *fate
+                && let Some(more) = More::of(items, results)
+                && let Some(beside) = Beside::of(fates)
+            {
+                self.meet(Point::HallUnread(more, beside));
+            }
         }
         self.meet(Point::HallInput(length as u32));
     }

@@ -5,13 +5,13 @@ use std::fmt;
 use super::edge::{CapitalEdge, Edge, Hangar, Shape, Spot};
 use super::size::{
     AMOUNTS, Block, Counting, HELD, Holder, IdOf, LARGEST_HALL, LIST_BUFFERS, LONGEST_LIST, Part,
-    Place, RESULTS, Region, SKILL_BUFFERS,
+    Place, RESULTS, Region, SKILL_BUFFERS, UNREAD,
 };
 use crate::case::{Lists, Plant, Room};
 use crate::generate::plant;
 use crate::names::NAMES;
 use crate::numbers::Width;
-use crate::reference::Fate;
+use crate::reference::{Fate, More};
 use crate::words::{KINDS, LIMITS, RACKS, RESOURCES, RULES, STATES};
 
 #[derive(Clone, Copy, Debug, PartialEq, Eq, PartialOrd, Ord)]
@@ -31,6 +31,8 @@ pub enum Point {
     Room(Call, RoomKind),
     HallFits(u32),
     HallFit(Fate),
+    /// A fit with an empty list and unequal numbers, and what else the hall has.
+    HallUnread(More, Beside),
     Wanted(u32),
     /// So many of what a fit holds, in an answered call.
     Held(Part, u32),
@@ -82,6 +84,38 @@ impl Call {
         match lists.result {
             None => Call::List,
             Some(_) => Call::Skill,
+        }
+    }
+}
+
+/// What stands in a hall beside a fit.
+#[derive(Clone, Copy, Debug, PartialEq, Eq, PartialOrd, Ord)]
+pub enum Beside {
+    Nothing,
+    /// A clear fit, one with entries, and a refused one.
+    AllKinds,
+}
+
+impl Beside {
+    /// Of a fit among these.
+    pub fn of(fates: &[Fate]) -> Option<Beside> {
+        let has = |kind: fn(&Fate) -> bool| fates.iter().any(kind);
+        match fates {
+            [_] => Some(Beside::Nothing),
+            _ if has(|fate| *fate == Fate::Clear)
+                && has(|fate| matches!(fate, Fate::Faulted(_)))
+                && has(|fate| matches!(fate, Fate::Refused(_))) =>
+            {
+                Some(Beside::AllKinds)
+            }
+            _ => None,
+        }
+    }
+
+    fn words(self) -> &'static str {
+        match self {
+            Beside::Nothing => "alone",
+            Beside::AllKinds => "among clear, faulted and refused ones",
         }
     }
 }
@@ -147,9 +181,16 @@ pub fn required() -> Vec<Point> {
         points.extend(rooms.map(|room| Point::Room(call, room)));
     }
     points.extend([0, 1, 63, 64, 65].map(Point::HallFits));
-    points.extend([Fate::Clear, Fate::Faulted].map(Point::HallFit));
+    points.push(Point::HallFit(Fate::Clear));
+    let faulted = [None, Some(More::Items), Some(More::Results)];
+    points.extend(faulted.map(|more| Point::HallFit(Fate::Faulted(more))));
+    points.extend(UNREAD.map(|(items, results)| Point::HallFit(Fate::Unread { items, results })));
+    for more in [More::Items, More::Results] {
+        let beside = [Beside::Nothing, Beside::AllKinds];
+        points.extend(beside.map(|beside| Point::HallUnread(more, beside)));
+    }
     points.extend((4..=6).map(|refusal| Point::HallFit(Fate::Refused(refusal))));
-    points.extend([Fate::Clear, Fate::Faulted].map(Point::HallHangar));
+    points.extend([Fate::Clear, Fate::Faulted(None)].map(Point::HallHangar));
     points.extend((510..=514).map(Point::Wanted));
     points.extend(sizes());
     for width in Width::ALL {
@@ -198,6 +239,15 @@ fn sizes() -> Vec<Point> {
     points
 }
 
+impl More {
+    fn words(self) -> &'static str {
+        match self {
+            More::Items => "more items than results",
+            More::Results => "more results than items",
+        }
+    }
+}
+
 impl fmt::Display for Call {
     fn fmt(&self, out: &mut fmt::Formatter) -> fmt::Result {
         out.write_str(match self {
@@ -226,9 +276,18 @@ impl fmt::Display for Point {
             Point::Room(call, room) => write!(out, "{call} with entries, {}", room.words()),
             Point::HallFits(count) => write!(out, "hall of {count} fits"),
             Point::HallFit(Fate::Clear) => out.write_str("hall: a clear fit"),
-            Point::HallFit(Fate::Faulted) => out.write_str("hall: a faulted fit"),
+            Point::HallFit(Fate::Faulted(None)) => out.write_str("hall: a faulted fit"),
+            Point::HallFit(Fate::Faulted(Some(more))) => {
+                write!(out, "hall: a faulted fit with {}", more.words())
+            }
+            Point::HallFit(Fate::Unread { items, results }) => {
+                write!(out, "hall: no entry, F = {items} and R = {results}")
+            }
             Point::HallFit(Fate::Refused(refusal)) => {
                 write!(out, "hall: a fit refused by {refusal}")
+            }
+            Point::HallUnread(more, beside) => {
+                write!(out, "hall: no entry, {}, {}", more.words(), beside.words())
             }
             Point::Wanted(count) => write!(out, "{count} wanted skills"),
             Point::Cast(width, spot) => write!(out, "cast to {width:?}: {}", spot.words()),

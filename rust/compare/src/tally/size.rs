@@ -39,6 +39,21 @@ pub const AMOUNTS: [f64; 8] = [
     4_294_967_296.0,
 ];
 
+/// Items and results of fits that list nothing: none of one kind; one or two
+/// more (the ship and the character have a result each); as many as may be.
+pub const UNREAD: [(u32, u32); 10] = [
+    (1, 0),
+    (2, 0),
+    (3, 1),
+    (256, 0),
+    (256, 255),
+    (0, 1),
+    (0, 2),
+    (1, 3),
+    (0, 256),
+    (255, 256),
+];
+
 /// The bytes of a hall input of 64 fits that hold as much as they may.
 pub const LARGEST_HALL: u32 = 23_632_388;
 

@@ -1,7 +1,9 @@
 //! The hall number: document 01's three counts and its refusals.
 
 use crate::common::checkers;
-use compare::checker::refused;
+use compare::cases;
+use compare::checker::{Checker, refused};
+use compare::fixed;
 use compare::model::{Catalogue, Damage, Effect, Fit, hall_image};
 use compare::names::MAX_ACTIVE_DRONES;
 use compare::sketch::*;
@@ -58,6 +60,120 @@ fn clear_faulted_and_refused_add_to_k() {
         &hall_image(&faulted, &Damage::default()),
         64 * 256,
     );
+}
+
+/// A hull with so many items in its hold and so many results, which lists
+/// nothing.
+fn holding(items: usize, results: usize) -> Fit {
+    let mut sketch = ground();
+    for _ in 0..items {
+        sketch = sketch.unpaired(9, CARGO, 0);
+    }
+    for _ in 0..results {
+        sketch = sketch.result();
+    }
+    sketch.fit
+}
+
+/// "From now on a fit is clear exactly when its list is empty and it has as
+/// many results as items. With an empty list and unequal numbers it is faulted."
+#[test]
+fn clear_means_as_many_results_as_items() {
+    let catalogue = ground().catalogue.image();
+    for (items, results) in [
+        (0, 0),
+        (1, 1),
+        (3, 3),
+        (256, 256),
+        (1, 0),
+        (2, 0),
+        (3, 1),
+        (256, 0),
+        (256, 255),
+        (0, 1),
+        (0, 2),
+        (1, 3),
+        (0, 256),
+        (255, 256),
+    ] {
+        let fit = holding(items, results);
+        for (name, checker) in checkers() {
+            let word = checker.list(&catalogue, &fit.image(), &mut []);
+            assert_eq!(word, 0, "{name}: the list itself does not change");
+        }
+        let number = if items == results { 1 } else { 256 };
+        let alone = hall_image(std::slice::from_ref(&fit), &Damage::default());
+        assert_hall(&catalogue, &alone, number);
+        let among = [fits(), vec![fit], fits()].concat();
+        let kinds = 2 * (2 + 256 * 2 + 65_536 * 3);
+        assert_hall(
+            &catalogue,
+            &hall_image(&among, &Damage::default()),
+            kinds + number,
+        );
+    }
+}
+
+/// A refused fit is refused and one with entries is faulted, whatever the
+/// numbers.
+#[test]
+fn unequal_numbers_change_no_other_fate() {
+    let catalogue = ground().catalogue.image();
+    for (items, results) in [(2, 1), (1, 2)] {
+        let mut listed = holding(items, results);
+        listed.ship_type = 1;
+        let mut broken = holding(items, results);
+        broken.mode_flag = 2;
+        for (fit, number) in [(listed, 256), (broken, 65_536)] {
+            assert_hall(&catalogue, &hall_image(&[fit], &Damage::default()), number);
+        }
+    }
+}
+
+/// What a hall says of one fit, from that fit's own list call and the two
+/// sizes in its image.
+fn share(checker: &dyn Checker, catalogue: &[u8], fit: &[u8]) -> u64 {
+    let mut room = vec![0; 123_384];
+    let word = checker.list(catalogue, fit, &mut room);
+    let size = |at: usize| u32::from_le_bytes(fit[at..at + 4].try_into().unwrap());
+    match word {
+        _ if word >> 32 != 0 => 65_536,
+        0 if size(4) == size(8) => 1,
+        _ => 256,
+    }
+}
+
+/// The promise, of each checker by itself: a fit is clear, faulted or refused
+/// beside its own list call, and the three numbers add up to K.
+#[test]
+fn a_hall_is_what_the_lists_of_its_fits_say() {
+    for (name, checker) in checkers() {
+        let (mut halls, mut unread) = (0, 0);
+        let fixed = fixed::count() as u64;
+        for number in (0..fixed - fixed::LONG as u64).chain(fixed..fixed + 600) {
+            let case = cases::case(5, number);
+            let catalogue = case.catalogue.image();
+            if case.fits.len() > 64 || checker.hall(&catalogue, &[0; 4]) != 0 {
+                continue;
+            }
+            let images: Vec<Vec<u8>> = case.fits.iter().map(Fit::image).collect();
+            let mut sum = 0;
+            for (fit, image) in case.fits.iter().zip(&images) {
+                let share = share(checker.as_ref(), &catalogue, image);
+                let alone = hall_image(std::slice::from_ref(fit), &Damage::default());
+                assert_eq!(checker.hall(&catalogue, &alone), share, "{name}, {number}");
+                let list = checker.list(&catalogue, image, &mut []);
+                unread += usize::from(share == 256 && list == 0);
+                sum += share;
+            }
+            let hall = checker.hall(&catalogue, &hall_image(&case.fits, &Damage::default()));
+            assert_eq!(hall, sum, "{name}, case {number}");
+            let added = hall % 256 + hall / 256 % 256 + hall / 65_536;
+            assert_eq!(added, images.len() as u64, "{name}, case {number}");
+            halls += 1;
+        }
+        assert!(halls > 500 && unread > 100, "{name}: {halls}, {unread}");
+    }
 }
 
 #[test]

@@ -200,7 +200,7 @@ fn document_01s_smallest_images() {
 
     let ran = fitcheck(&["explain", "--json", &catalogue, &fit]);
     let (begins, ends) = (
-        "{\"version\":1,\"status\":\"faulted\",\"unchecked\":[{\"rule\":\"resource\",\
+        "{\"version\":2,\"status\":\"faulted\",\"unchecked\":[{\"rule\":\"resource\",\
          \"what\":\"resources (CPU)\",\"names\":[\"cpuLoad\",\"cpuOutput\"],\"marks\":[]},",
         "],\"entries\":[{\"target\":{\"type\":\"ship\"},\
          \"rule\":{\"type\":\"not_a_hull\"},\"sentence\":\"type 0 is not a ship, structure or \
@@ -266,7 +266,7 @@ fn a_faulted_fit_in_sentences_with_names() {
         value.names(),
         ["version", "status", "unchecked", "entries", "skills"]
     );
-    assert_eq!(value.get("version").number(), 1.0);
+    assert_eq!(value.get("version").number(), 2.0);
     assert!(value.get("unchecked").list().is_empty());
     assert_eq!(value.get("status").text(), "faulted");
     let entries = value.get("entries").list();
@@ -291,6 +291,122 @@ fn a_faulted_fit_in_sentences_with_names() {
     assert_eq!(lacking.get("type_id").number(), 3394.0);
     assert_eq!(lacking.get("required").number(), 4.0);
     assert_eq!(lacking.get("level").number(), 0.0);
+}
+
+/// A Rifter with so many damage controls in the first low slots and so many
+/// results: without a slot of their own they would be faulted.
+fn unequal(items: u8, results: u8) -> Vec<u8> {
+    let online = || ItemResult::new(State::Online);
+    let mut fit = FitBuilder::new(587);
+    fit.ship(online().with(12, 8.0));
+    for number in 0..items.max(results) {
+        let item = FitItem::new(2048, Slot::Low(number));
+        match (number < items, number < results) {
+            (true, true) => fit.item(item, online()),
+            (true, false) => fit.item_without_result(item),
+            _ => fit.result_without_item(online()),
+        };
+    }
+    fit.build().unwrap()
+}
+
+#[test]
+fn a_fit_of_which_not_all_was_checked_is_faulted_and_says_why() {
+    let folder = folder("unequal");
+    let (types, faulted) = faulted();
+    let catalogue = put(&folder, "types.bin", &types);
+    for (items, results, sentence, numbers) in [
+        (4, 1, "3 items have no result", (3.0, 0.0)),
+        (3, 2, "1 item has no result", (1.0, 0.0)),
+        (0, 2, "2 results have no item", (0.0, 2.0)),
+        (4, 5, "1 result has no item", (0.0, 1.0)),
+    ] {
+        let sentence = format!("{sentence}, so not all of it was checked");
+        let fit = put(&folder, "unequal.fit", &unequal(items, results));
+        let ran = fitcheck(&["explain", &catalogue, &fit]);
+        assert_eq!(
+            ran.out,
+            format!("faulted: 0 entries\n  {sentence}\nskills: none is lacking\n")
+        );
+        assert_eq!(ran.status, 3);
+        let ran = fitcheck(&["explain", &catalogue, &fit, "--json"]);
+        assert_eq!(ran.status, 3);
+        let value = Value::parse(&ran.out);
+        assert_eq!(value.get("status").text(), "faulted");
+        assert!(value.get("entries").list().is_empty());
+        let unpaired = value.get("unpaired");
+        assert_eq!(unpaired.names(), ["items", "results", "sentence"]);
+        let shown = (
+            unpaired.get("items").number(),
+            unpaired.get("results").number(),
+        );
+        assert_eq!(shown, numbers);
+        assert_eq!(unpaired.get("sentence").text(), sentence);
+    }
+    // As many of both.
+    let fit = put(&folder, "equal.fit", &unequal(4, 4));
+    let ran = fitcheck(&["explain", &catalogue, &fit]);
+    assert_eq!(
+        (ran.status, ran.out.as_str()),
+        (0, "clear: no rule is broken\nskills: none is lacking\n")
+    );
+
+    // Where there are entries, it is said behind them.
+    let mut broken = FitBuilder::new(588);
+    broken.item_without_result(FitItem::new(2048, Slot::Low(0)));
+    let broken = broken.build().unwrap();
+    let path = put(&folder, "broken.fit", &broken);
+    let ran = fitcheck(&["explain", &catalogue, &path]);
+    assert_eq!(
+        ran.out,
+        "faulted: 1 entry\n  \
+         type 588 is not a ship, structure or container, so nothing can be fitted to it\n  \
+         1 item has no result, so not all of it was checked\n\
+         skills: none is lacking\n"
+    );
+    assert_eq!(ran.status, 3);
+
+    // In a hall, among others.
+    let hall = folder.join("fits");
+    fs::create_dir(&hall).unwrap();
+    put(&hall, "a.fit", &unequal(2, 2));
+    put(&hall, "b.fit", &unequal(4, 1));
+    put(&hall, "c.fit", &unequal(0, 1));
+    put(&hall, "d.fit", &broken);
+    put(&hall, "e.fit", &faulted);
+    put(&hall, "f.fit", &[0; 35]);
+    let hall = hall.to_str().unwrap();
+    let ran = fitcheck(&["hall", &catalogue, hall]);
+    assert_eq!(
+        ran.out,
+        format!(
+            "a.fit: clear\n\
+             b.fit: faulted, 0 entries; 3 items have no result, so not all of it was checked\n\
+             c.fit: faulted, 0 entries; 1 result has no item, so not all of it was checked\n\
+             d.fit: faulted, 1 entry; 1 item has no result, so not all of it was checked\n\
+             e.fit: faulted, 3 entries\n\
+             f.fit: refused by 4: {}\n\
+             1 clear, 4 faulted, 1 refused\n",
+            Refusal::FitLength
+        )
+    );
+    assert_eq!(ran.status, 0);
+    let ran = fitcheck(&["hall", &catalogue, hall, "--json"]);
+    let value = Value::parse(&ran.out);
+    assert_eq!(value.get("clear").number(), 1.0);
+    assert_eq!(value.get("faulted").number(), 4.0);
+    let fits = value.get("fits").list();
+    assert_eq!(fits[0].names(), ["file", "status"]);
+    for (fit, entries) in fits[1..4].iter().zip([0.0, 0.0, 1.0]) {
+        assert_eq!(fit.names(), ["file", "status", "entries", "unpaired"]);
+        assert_eq!(fit.get("status").text(), "faulted");
+        assert_eq!(fit.get("entries").number(), entries);
+    }
+    assert_eq!(
+        fits[1].get("unpaired").get("sentence").text(),
+        "3 items have no result, so not all of it was checked"
+    );
+    assert_eq!(fits[4].names(), ["file", "status", "entries"]);
 }
 
 /// Document 01: over 512 distinct wanted skills is refusal 9 of that result.

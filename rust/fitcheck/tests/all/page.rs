@@ -212,11 +212,16 @@ fn the_objects_in_json_have_the_fields_that_the_page_lists() {
     assert_eq!(explained.get("skills").list()[0].names(), words(one));
     assert_eq!(words(other), ["result", "refusal"]);
 
+    let half = shown(&["explain", "types.bin", "fits/half.fit"]);
+    assert_eq!(half.names(), row("`explain`, not all of it checked"));
+    assert_eq!(half.get("unpaired").names(), row("`unpaired`"));
+
     let hall = shown(&["hall", "types.bin", "fits"]);
     assert_eq!(hall.names(), row("`hall`"));
     for (fit, kind) in hall.get("fits").list().iter().zip([
         "one of `fits`, refused",
         "one of `fits`, that cannot be read",
+        "one of `fits`, not all of it checked",
         "one of `fits`, clear",
         "one of `fits`, faulted",
     ]) {

@@ -3,14 +3,19 @@
 use compare::checker::Checker;
 use compare::model::{Damage, hall_image};
 use compare::reference::Original;
-use fitcheck::{CatalogueBuilder, FitBuilder, Hall, ListOptions, Refusal, Verdict};
+use fitcheck::{
+    CatalogueBuilder, FitBuilder, FitItem, Hall, ItemResult, ListOptions, Refusal, Slot, Unpaired,
+    Verdict,
+};
 
 use crate::common::{images, numbers, slices};
 
-/// Type 587 is a ship; every other type is unknown.
+/// Type 587 is a ship and 34 a mineral without a volume; every other type is
+/// unknown.
 fn catalogue() -> Vec<u8> {
     CatalogueBuilder::new()
         .type_info(587, 25, 6, None)
+        .type_info(34, 18, 4, None)
         .build()
         .unwrap()
 }
@@ -23,33 +28,127 @@ fn faulted() -> Vec<u8> {
     FitBuilder::new(588).build().unwrap()
 }
 
+/// A fit with an empty list: so many items in its hold, and so many results.
+fn held(items: usize, results: usize) -> Vec<u8> {
+    let item = FitItem::new(34, Slot::Cargo);
+    let mut fit = FitBuilder::new(587);
+    for number in 0..items.max(results) {
+        match (number < items, number < results) {
+            (true, true) => fit.item(item, ItemResult::default()),
+            (true, false) => fit.item_without_result(item),
+            _ => fit.result_without_item(ItemResult::default()),
+        };
+    }
+    fit.build().unwrap()
+}
+
 #[test]
 fn more_than_64_fits_are_counted_too() {
     for count in [0, 1, 63, 64, 65, 128, 129, 200] {
         let fits: Vec<Vec<u8>> = (0..count)
-            .map(|number| match number % 5 {
+            .map(|number| match number % 7 {
                 0 => clear(),
                 1 | 2 => faulted(),
+                3 => held(number, number + 1),
+                4 => held(number / 2 + 1, number / 2),
                 _ => vec![0; 35],
             })
             .collect();
         let hall = fitcheck::hall(&catalogue(), &slices(&fits)).unwrap();
         let of = |classes: &[usize]| {
-            let counted = (0..count).filter(|number| classes.contains(&(number % 5)));
+            let counted = (0..count).filter(|number| classes.contains(&(number % 7)));
             counted.count()
         };
         let expected = Hall {
             clear: of(&[0]),
-            faulted: of(&[1, 2]),
-            refused: of(&[3, 4]),
+            faulted: of(&[1, 2, 3, 4]),
+            refused: of(&[5, 6]),
         };
         assert_eq!(hall, expected, "{count} fits");
     }
 }
 
+/// An empty list is clear where the numbers are equal, and faulted where they
+/// are not: alone, and beside one of every other kind.
+#[test]
+fn unequal_numbers_are_faulted_and_said() {
+    for (items, results) in [
+        (0, 0),
+        (0, 1),
+        (0, 2),
+        (0, 256),
+        (1, 0),
+        (1, 1),
+        (1, 3),
+        (2, 0),
+        (2, 1),
+        (3, 1),
+        (255, 256),
+        (256, 0),
+        (256, 255),
+        (256, 256),
+    ] {
+        let fit = held(items, results);
+        let listed = fitcheck::list(&catalogue(), &fit, &ListOptions::new());
+        assert_eq!(listed, Ok(Vec::new()), "{items} items, {results} results");
+        let verdict = match items.cmp(&results) {
+            std::cmp::Ordering::Equal => Verdict::Clear,
+            std::cmp::Ordering::Greater => Verdict::Faulted {
+                entries: 0,
+                unpaired: Some(Unpaired::Items(items - results)),
+            },
+            std::cmp::Ordering::Less => Verdict::Faulted {
+                entries: 0,
+                unpaired: Some(Unpaired::Results(results - items)),
+            },
+        };
+        assert_eq!(
+            fitcheck::verdicts(&catalogue(), &[&fit]),
+            Ok(vec![verdict]),
+            "{items} items, {results} results"
+        );
+        let clear_ones = usize::from(verdict == Verdict::Clear);
+        let alone = Hall {
+            clear: clear_ones,
+            faulted: 1 - clear_ones,
+            refused: 0,
+        };
+        assert_eq!(fitcheck::hall(&catalogue(), &[&fit]), Ok(alone));
+        let among = [clear(), faulted(), fit, vec![0; 35], clear()];
+        let mut numbers = alone;
+        numbers += Hall {
+            clear: 2,
+            faulted: 1,
+            refused: 1,
+        };
+        assert_eq!(fitcheck::hall(&catalogue(), &slices(&among)), Ok(numbers));
+    }
+}
+
+/// Where there are entries, what was not checked is said beside their number.
+#[test]
+fn unequal_numbers_are_said_beside_entries_too() {
+    let fit = FitBuilder::new(588)
+        .item_without_result(FitItem::new(34, Slot::Cargo))
+        .build()
+        .unwrap();
+    let verdict = fitcheck::verdicts(&catalogue(), &[&fit]).unwrap()[0];
+    assert_eq!(
+        verdict,
+        Verdict::Faulted {
+            entries: 1,
+            unpaired: Some(Unpaired::Items(1))
+        }
+    );
+    assert_eq!(
+        verdict.to_string(),
+        "faulted, 1 entry; 1 item has no result, so not all of it was checked"
+    );
+}
+
 #[test]
 fn the_numbers_are_the_originals_and_the_verdicts_add_up_to_them() {
-    let mut fits_seen = 0;
+    let (mut fits_seen, mut unread) = (0, [0, 0]);
     for case in numbers(400) {
         let (catalogue, fits) = images(31, case);
         // A hall input without fits shows whether the catalogue is refused.
@@ -66,12 +165,29 @@ fn the_numbers_are_the_originals_and_the_verdicts_add_up_to_them() {
         for (image, verdict) in fits.iter().zip(verdicts.unwrap()) {
             let mut room = vec![0; 24 * fitcheck::MOST_ENTRIES];
             let word = Original.list(&catalogue, image, &mut room);
+            // F and R as they stand in the image.
+            let size = |at: usize| u32::from_le_bytes(image[at..at + 4].try_into().unwrap());
             let expected = match (word >> 32, word as usize) {
+                (0, entries) if size(4) > size(8) => Verdict::Faulted {
+                    entries,
+                    unpaired: Some(Unpaired::Items((size(4) - size(8)) as usize)),
+                },
+                (0, entries) if size(4) < size(8) => Verdict::Faulted {
+                    entries,
+                    unpaired: Some(Unpaired::Results((size(8) - size(4)) as usize)),
+                },
                 (0, 0) => Verdict::Clear,
-                (0, entries) => Verdict::Faulted { entries },
+                (0, entries) => Verdict::Faulted {
+                    entries,
+                    unpaired: None,
+                },
                 (number, _) => Verdict::Refused(Refusal::from_number(number as u32).unwrap()),
             };
             assert_eq!(verdict, expected, "case {case}");
+            if word == 0 {
+                unread[0] += usize::from(size(4) > size(8));
+                unread[1] += usize::from(size(4) < size(8));
+            }
             match verdict {
                 Verdict::Clear => sum.clear += 1,
                 Verdict::Faulted { .. } => sum.faulted += 1,
@@ -82,6 +198,7 @@ fn the_numbers_are_the_originals_and_the_verdicts_add_up_to_them() {
         assert_eq!(hall, Ok(sum), "case {case}");
     }
     assert!(fits_seen > 1_000, "{fits_seen} fits");
+    assert!(unread.iter().all(|count| *count > 10), "{unread:?} unread");
 }
 
 #[test]

@@ -28,7 +28,7 @@ fn type_ids(image: &[u8]) -> BTreeSet<i32> {
 
 #[test]
 fn what_a_site_has_is_answered_as_the_original_does() {
-    let (mut fits_seen, mut entries, mut lacking) = (0, 0, 0);
+    let (mut fits_seen, mut entries, mut lacking, mut unequal) = (0, 0, 0, 0);
     for case in numbers(300) {
         let (catalogue_image, fits) = images(61, case);
         let Ok(info) = Catalogue::decode(&catalogue_image) else {
@@ -39,9 +39,8 @@ fn what_a_site_has_is_answered_as_the_original_does() {
             let Ok(fit) = Fit::decode(image) else {
                 continue;
             };
-            // Items and results beyond the pairs are not what a site has. More
-            // drones than 32 bits hold, the original cannot add up.
-            if fit.fit.items.len() != fit.calculation.items.len() || fit.hangar(&info).is_some() {
+            // More drones than 32 bits hold, the original cannot add up.
+            if fit.hangar(&info).is_some() {
                 continue;
             }
             let mapped = mapping::fit(&fit.fit, &fit.calculation);
@@ -74,11 +73,13 @@ fn what_a_site_has_is_answered_as_the_original_does() {
             }
             fits_seen += 1;
             entries += found.len();
+            // Those beyond the pairs are in the image too: it is the same one.
+            unequal += usize::from(fit.fit.items.len() != fit.calculation.items.len());
         }
     }
     assert!(
-        fits_seen > 300 && entries > 1_000 && lacking > 500,
-        "{fits_seen} fits, {entries} entries, {lacking} lacking"
+        fits_seen > 300 && entries > 1_000 && lacking > 500 && unequal > 30,
+        "{fits_seen} fits, {entries} entries, {lacking} lacking, {unequal} unequal"
     );
 }
 

@@ -1,11 +1,13 @@
--- `hall::share` meets its contract: refusals 4 to 6, then the list.
+-- `hall::share` meets its contract: refusals 4 to 6, items and results in unequal numbers, then the list.
 use native.Mathlib.Omega.{arith}
 use mathlib.Core.Path.{_≡_}
 use Rattle.catalogue.specs.Catalogue.{catalogueOf}
+use Rattle.fit.specs.Fit.{itemCount, resultCount}
 use Rattle.fit.specs.Refusals.{fitRefusal}
+use Rattle.fit.specs.Sound.{Sound}
 use Rattle.fit.proofs.Soundness.{sound}
 use Rattle.entry.proofs.Wrote.{wrote-count}
-use Rattle.fitcheck.proofs.HallLaws.{share-unread, share-clear, share-faulted}
+use Rattle.fitcheck.proofs.HallLaws.{share-unread, share-unequal, share-clear, share-faulted}
 use borrow.Author.Needs.{needs}
 use Rattle.fitcheck.proofs.hall.share.Statement.{statement}
 use Rattle.fitcheck.proofs.hall.share.Tie as tie
@@ -19,26 +21,51 @@ returns c =
 accepted : (c : tie.Else1) → fitRefusal (c .before .before .before .before .before .args .fit .now) ≡ 0
 accepted c = omega (arith, c .before .number .ensures, c .if1 .left)
 
-gather-requires : tie.Need-gather-requires
-gather-requires c κs =
-    let e = c .before in
-    (e .before .before .before .before .before .pre, sound _ (accepted e))
+image-sound : (c : tie.Else1) → Sound (c .before .before .before .before .before .args .fit .now)
+image-sound c = sound _ (accepted c)
+
+item-count-requires : tie.Need-item-count-requires
+item-count-requires c κs = image-sound c
+
+result-count-requires : tie.Need-result-count-requires
+result-count-requires c κs = image-sound (c .before)
+
+unequal : (c : tie.Then2) → let b = c .before .before .before .before .before .before .before .before .args .fit .now in
+    itemCount b ≡ resultCount b → ⊥
+unequal c q = omega (arith, c .before .before .item-count .ensures, c .before .result-count .ensures, c .if2 .taken)
 
 returns-2 : tie.Need-returns-2
 returns-2 c =
-    let v = c .before .before .before .before in
-    let e = v .before .before .before .before .before .before .before .before in
+    let e = c .before .before .before in
     let a = e .before .before .before .before .before .args in
-    let n = wrote-count (v .validate .ensures .0) in
-    (share-clear (catalogueOf (a .catalogue .now)) (a .fit .now) (accepted e) (omega (arith, n, c .if2 .taken)), omega arith)
+    (share-unequal (catalogueOf (a .catalogue .now)) (a .fit .now) (accepted e) (unequal c), omega arith)
+
+-- past the two numbers
+equal : (c : tie.Else2) → let b = c .before .before .before .before .before .before .before .before .args .fit .now in
+    itemCount b ≡ resultCount b
+equal c = omega (arith, c .before .before .item-count .ensures, c .before .result-count .ensures, c .if2 .left)
+
+gather-requires : tie.Need-gather-requires
+gather-requires c κs =
+    let e = c .before .before .before .before in
+    (e .before .before .before .before .before .pre, image-sound e)
 
 returns-3 : tie.Need-returns-3
 returns-3 c =
     let v = c .before .before .before .before in
-    let e = v .before .before .before .before .before .before .before .before in
+    let t = v .before .before .before .before .before .before .before .before in
+    let e = t .before .before .before in
     let a = e .before .before .before .before .before .args in
     let n = wrote-count (v .validate .ensures .0) in
-    (share-faulted (catalogueOf (a .catalogue .now)) (a .fit .now) (accepted e) (omega (arith, n, c .if2 .left)), omega arith)
+    (share-clear (catalogueOf (a .catalogue .now)) (a .fit .now) (accepted e) (omega (arith, n, c .if3 .taken)) (equal t), omega arith)
+
+returns-4 : tie.Need-returns-4
+returns-4 c =
+    let v = c .before .before .before .before in
+    let e = v .before .before .before .before .before .before .before .before .before .before .before in
+    let a = e .before .before .before .before .before .args in
+    let n = wrote-count (v .validate .ensures .0) in
+    (share-faulted (catalogueOf (a .catalogue .now)) (a .fit .now) (accepted e) (omega (arith, n, c .if3 .left)), omega arith)
 
 pub share-spec : {M : Type 1} → statement M
 share-spec =
@@ -46,10 +73,13 @@ share-spec =
     (tie.spec
     (λ c κs. search needs)
     returns
+    item-count-requires
+    result-count-requires
+    returns-2
     gather-requires
     (λ c. search needs)
     (λ c κs. search needs)
     (λ c. search needs)
-    returns-2
+    returns-3
     (λ c. search needs)
-    returns-3)
+    returns-4)

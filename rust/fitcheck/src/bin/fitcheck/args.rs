@@ -21,11 +21,14 @@ Usage: fitcheck explain CATALOGUE FIT [--names FILE] [--json]
 
 explain  One fit: every rule that it breaks, in a sentence each, and the skills
          that the ship, the character and each item want and the character
-         lacks. What repeats is said once.
+         lacks. What repeats is said once. Items without a result are said too,
+         as no rule looks at them, and so are results without an item: a fit
+         that has some is not clear.
 hall     Every file of a folder, in the order of the names' bytes: clear,
-         faulted with the number of entries, or refused with the reason; then
-         the three numbers. A file that cannot be read is said and passed over,
-         as are folders in it and names that begin with a dot.
+         faulted with the number of entries and what was not checked, or
+         refused with the reason; then the three numbers. A file that cannot be
+         read is said and passed over, as are folders in it and names that
+         begin with a dot.
 pack     A fit in words, as docs/CALLING.md describes them, made into the
          images FIT.bin and types.bin, with names.txt beside them.
 
@@ -43,7 +46,8 @@ that lacks names or effects leaves rules unchecked: which, a warning says.
               \"-Infinity\".
 --            Everything behind it is a path.
 
-Status: 0  explain: the fit is clear (skills may be lacking);
+Status: 0  explain: the fit is clear, which is that no rule is broken and all
+           of it was checked (skills may be lacking);
            hall: all files counted, whatever the numbers; pack: written
         1  refused, or a file cannot be read or written
         2  wrong usage

@@ -82,8 +82,9 @@ fn counted(
     let refused = |refusal| format!("the catalogue, taken before, is refused: {refusal}");
     let numbers = fitcheck::hall(catalogue, &images).map_err(refused)?;
     let verdicts = fitcheck::verdicts(catalogue, &images).map_err(refused)?;
-    // The numbers are the hall call's own, the lines are the list call's.
-    // Both are proved; whoever reads them side by side gets no two stories.
+    // The numbers are the hall call's own, the lines are the list call's and
+    // the image's two sizes. The calls are proved; whoever reads them side by
+    // side gets no two stories.
     if added(&verdicts) != numbers {
         return Err(Trouble::Given(format!(
             "the hall call gives {numbers:?}, the lists {:?}: the library is not the proved one",
@@ -124,11 +125,7 @@ fn added(verdicts: &[Verdict]) -> Hall {
 /// One fit in words: what became of it, or why it was not read.
 fn fit_words(verdict: Result<&Verdict, &str>) -> String {
     match verdict {
-        Ok(Verdict::Clear) => "clear".to_string(),
-        Ok(Verdict::Faulted { entries: 1 }) => "faulted, 1 entry".to_string(),
-        Ok(Verdict::Faulted { entries }) => format!("faulted, {entries} entries"),
-        Ok(Verdict::Refused(refusal)) => format!("refused by {}: {refusal}", refusal.number()),
-        Ok(other) => format!("{other:?}"),
+        Ok(verdict) => verdict.to_string(),
         Err(reason) => format!("cannot be read: {reason}"),
     }
 }
