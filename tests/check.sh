@@ -2,34 +2,8 @@
 # Runs ./check on folders of files and compares what it prints, byte for byte; then what it does with what is no file, and
 # how it builds its program. Its last line is 'N passed, M failed'; it exits non-zero where anything failed.
 set -u
-root=$(cd "$(dirname "$0")/.." && pwd -P) || exit 2
-room=$(mktemp -d) || exit 2
-trap 'rm -rf "$room"' EXIT
-passed=0
-failed=0
-
-# verdict NAME STATUS: counts one case
-verdict() {
-    if [ "$2" -eq 0 ]; then
-        passed=$((passed + 1))
-    else
-        failed=$((failed + 1))
-        echo "$1: FAILED"
-    fi
-}
-
-# prints NAME FOLDER FILE: ./check on the folder ends well and prints what the file has
-prints() {
-    "$root/check" "$2" >"$room/wrote" 2>"$room/said"
-    status=$?
-    [ -s "$room/said" ] && sed "s/^/$1: /" "$room/said"
-    if [ "$status" -eq 0 ] && cmp -s "$room/wrote" "$3"; then
-        verdict "$1" 0
-    else
-        diff "$3" "$room/wrote" | head -n 10
-        verdict "$1" 1
-    fi
-}
+script=check
+. "$(dirname "$0")/programs.sh"
 
 # zeros NAME TYPES FIT TEXT: files of so many zero bytes, or none for -, and the text that document 01 gives
 zeros() {
@@ -38,11 +12,11 @@ zeros() {
     [ "$3" = - ] || head -c "$3" /dev/zero >"$room/$1/fit.bin"
     # shellcheck disable=SC2059
     printf "$4" >"$room/$1.expected"
-    prints "$1" "$room/$1" "$room/$1.expected"
+    gives "$1" "$room/$1" "$room/$1.expected"
 }
 
 for sample in clear faulted hangar refused; do
-    prints "samples/$sample" "$root/samples/$sample" "$root/samples/$sample/expected"
+    gives "samples/$sample" "$root/samples/$sample" "$root/samples/$sample/expected"
 done
 
 zeros '20 and 36 zero bytes' 20 36 '0 0 19 0 0 0 0 0\ncount 1\n'
@@ -96,7 +70,7 @@ full() {
             one()
             for (k = 0; k < 256; k++) { two(); one(); one(); one(); one(); one() }
         }')" >"$room/$1/fit.bin"
-    prints "$1" "$room/$1" "$room/$1.expected"
+    gives "$1" "$room/$1" "$room/$1.expected"
 }
 
 # NotASkill; NotAModule and SlotTaken, pair by pair; RigSize; ShipRestricted; MaxGroup in its three states; MaxType
@@ -114,26 +88,13 @@ echo 'refused 10' >"$room/2731 entries.expected"
 full '2731 entries' 683
 
 # the worked bytes of docs/FORMAT.md, and what the page says that is printed of them
-page=$root/docs/FORMAT.md
-# hex NAME: the bytes of that block of the page
-hex() {
-    # shellcheck disable=SC2059
-    printf "$(awk -v opening="\`\`\`hex $1" '
-        function digit(c) { return index("0123456789ABCDEF", c) - 1 }
-        /^```/ { inside = $0 == opening; next }
-        inside {
-            split($0, cells, "|")
-            n = split(cells[2], bytes, " ")
-            for (k = 1; k <= n; k++) printf "\\%03o", 16 * digit(substr(bytes[k], 1, 1)) + digit(substr(bytes[k], 2, 1))
-        }' "$page")"
-}
 mkdir "$room/page"
 hex catalogue >"$room/page/types.bin"
 hex fit >"$room/page/fit.bin"
 awk '/^```/ { inside = $0 == "```text printed"; next } inside' "$page" >"$room/page.expected"
 [ -s "$room/page.expected" ]
 verdict 'docs/FORMAT.md has what is printed' $?
-prints 'docs/FORMAT.md' "$room/page" "$room/page.expected"
+gives 'docs/FORMAT.md' "$room/page" "$room/page.expected"
 
 # the folder is the caller's, and where none is named the one that it is run in
 (cd "$root/samples" && ../check clear) | cmp -s - "$root/samples/clear/expected"
@@ -150,84 +111,19 @@ mkdir "$room/nothing"
     grep -q 'no types.bin' "$room/said" && grep -q 'no fit.bin' "$room/said" && grep -q 'samples/faulted' "$room/said"
 verdict 'no folder named and no files' $?
 
-# says NAME STATUS WORDS COMMAND..: the command ends with the status, prints nothing, and says the words
-says() {
-    name=$1
-    status=$2
-    words=$3
-    shift 3
-    timeout 60 "$@" >"$room/wrote" 2>"$room/said"
-    [ $? -eq "$status" ] && [ ! -s "$room/wrote" ] && grep -qF -- "$words" "$room/said"
-    verdict "$name" $?
-}
-
-says 'a folder that is not there' 2 'no such folder' "$root/check" "$room/none"
-says 'a file in place of a folder' 2 'no such folder' "$root/check" "$root/crates.txt"
-says 'an empty name' 2 'no such folder' "$root/check" ''
-says 'two folders' 2 'usage:' "$root/check" "$room" "$room"
-says 'an option that is not one' 2 'no such option: --types' "$root/check" --types
-
-# images NAME IMAGE: a folder of that name with the clear sample's images, but for that one
-images() {
-    mkdir -p "$room/$1"
-    cp "$root/samples/clear/types.bin" "$root/samples/clear/fit.bin" "$room/$1"
-    rm "$room/$1/$2"
-}
-
-# what is there and cannot be read is not absent
+lines "$root/samples/clear" "$root/samples/faulted"
+"$root/check" --help | grep -q fit.bin
+verdict '--help tells of both files' $?
 for image in types.bin fit.bin; do
-    images "folder $image" "$image"
-    mkdir "$room/folder $image/$image"
-    says "$image is a folder" 1 "$image in the folder" "$root/check" "$room/folder $image"
-    images "astray $image" "$image"
-    ln -s nowhere "$room/astray $image/$image"
-    says "$image is a link to nothing" 1 'cannot be read: No such file' "$root/check" "$room/astray $image"
-    images "loop $image" "$image"
-    ln -s "$image" "$room/loop $image/$image"
-    says "$image is a link to itself" 1 'cannot be read: Too many levels' "$root/check" "$room/loop $image"
-    # opens, and fails when it is read
-    images "error $image" "$image"
-    ln -s /proc/self/mem "$room/error $image/$image"
-    says "$image fails while it is read" 1 'cannot be read: Input/output error' "$root/check" "$room/error $image"
-    # root may read every file
-    if [ "$(id -u)" -ne 0 ]; then
-        images "locked $image" "$image"
-        cp "$root/samples/clear/$image" "$room/locked $image"
-        chmod 000 "$room/locked $image/$image"
-        says "$image is locked" 1 'cannot be read: Permission denied' "$root/check" "$room/locked $image"
-    fi
-    # a pipe is read to its end, however late and in however many pieces
-    images "pipe $image" "$image"
-    mkfifo "$room/pipe $image/$image"
-    # shellcheck disable=SC2094
-    (sleep 0.2 && head -c 100 && sleep 0.2 && cat) <"$root/samples/clear/$image" >"$room/pipe $image/$image" &
-    timeout 60 "$root/check" "$room/pipe $image" >"$room/wrote" 2>"$room/said" &&
-        cmp -s "$room/wrote" "$root/samples/clear/expected" && grep -q "$image is a pipe" "$room/said"
-    verdict "$image is a pipe" $?
+    unreadable "$image" "$root/samples/clear" "$root/samples/clear/expected"
 done
-
-# an answer that cannot be written is not a success
-for words in "$root/samples/clear" "$root/samples/faulted" --help --version; do
-    "$root/check" "$words" >/dev/full 2>"$room/said"
-    [ $? -eq 1 ] && [ -s "$room/said" ]
-    verdict "a full disk, $words" $?
-done
-"$root/check" "$root/samples/clear" >&- 2>"$room/said"
-[ $? -eq 1 ] && grep -q 'could not be written' "$room/said"
-verdict 'no standard output' $?
-
-"$root/check" --version >"$room/wrote" 2>"$room/said" &&
-    grep -qE '^check [0-9]+[.][0-9]+[.][0-9]+( [(].+[)])?$' "$room/wrote" && [ ! -s "$room/said" ]
-verdict '--version' $?
-"$root/check" --help >"$room/wrote" 2>"$room/said" &&
-    grep -q types.bin "$room/wrote" && grep -q fit.bin "$room/wrote" && [ ! -s "$room/said" ]
-verdict '--help' $?
 
 # The build, in a repository of its own whose rt proves nothing: each crate is shown as it is proved, sources that have
 # changed are built again and others are not, and where nothing comes of it the status says so.
 home=$room/repository
-mkdir -p "$home/crates/words/src" "$room/kit"
+mkdir -p "$home/crates/words/src" "$home/crates/program" "$room/kit"
 cp "$root/check" "$home"
+cp "$root/crates/program/program.sh" "$home/crates/program"
 touch -d '1 hour ago' "$home/crates.txt" "$home/crates/words/src/lib.rt"
 cat >"$room/kit/rt" <<'EOF'
 #!/bin/sh
@@ -249,7 +145,7 @@ built() {
 
 shown='rt: words proved (1 s)'
 mkdir "$room/tools"
-for tool in cat dirname find head readlink; do
+for tool in cat dirname find head mktemp readlink rm; do
     ln -s "$(command -v "$tool")" "$room/tools"
 done
 says 'no rt' 2 'rt, the command of the Rattle kit, is not on the PATH' env PATH="$room/tools" "$home/check" "$root/samples/clear"
@@ -267,5 +163,4 @@ built 'a source has changed' "check: sources have changed
 $shown"
 built 'built again already' ''
 
-echo "$passed passed, $failed failed"
-[ "$failed" -eq 0 ]
+finish

@@ -6,7 +6,7 @@ use lib.IntN.{ℤ}
 use lib.Ieee.{Float}
 use Rattle.words.specs.Words.{table}
 use Rattle.image.specs.Bytes.{u32At, i32At}
-use Rattle.floats.specs.Floats.{f32At}
+use Rattle.floats.specs.Floats.{f32At, f64At}
 
 abbrev pub Id : Type 0
 Id = ℤ
@@ -81,9 +81,13 @@ module _ (b : List ℕ) where
   abbrev pub basesAt : ℕ
   basesAt = linksAt + 8 * linkCount
 
+  -- where the values of the bases begin, behind all other blocks and the keys of the bases
+  abbrev pub baseValuesAt : ℕ
+  baseValuesAt = basesAt + 4 * baseCount
+
   -- the length that the sizes say
   abbrev pub sizeOf : ℕ
-  sizeOf = basesAt + 12 * baseCount
+  sizeOf = basesAt + 16 * baseCount
 
   -- record i of each block
   abbrev pub nameAt : ℕ → Name
@@ -102,8 +106,8 @@ module _ (b : List ℕ) where
 
   abbrev pub baseAt : ℕ → Base
   baseAt i =
-      let v = basesAt + 4 * baseCount + 8 * i in
-      record { type = i32At b (basesAt + 4 * i); attribute = i32At b v; value = f32At b (v + 4) }
+      let v = baseValuesAt + 12 * i in
+      record { type = i32At b (basesAt + 4 * i); attribute = i32At b v; value = f64At b (v + 4) }
 
   unfoldable pub catalogueOf : Catalogue
   catalogueOf = record {

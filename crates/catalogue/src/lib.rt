@@ -16,7 +16,7 @@ ghost use Rattle.keys.specs.Keys.{Sorted, Parts, foundOf};
 ghost use Rattle.floats.specs.Floats.{zeroF, f32At};
 ghost use Rattle.floats.specs.Values.{valueOf};
 ghost use Rattle.catalogue.specs.Catalogue.{catalogueOf, sizeOf, nameCount, effectCount, typeCount, linkCount, baseCount};
-ghost use Rattle.catalogue.specs.Catalogue.{namesAt, effectsAt, typesAt, linksAt, basesAt, effectAt, typeAt, linkAt};
+ghost use Rattle.catalogue.specs.Catalogue.{namesAt, effectsAt, typesAt, linksAt, basesAt, baseValuesAt, effectAt, typeAt, linkAt};
 ghost use Rattle.catalogue.specs.Lookups.{nameId, typeOf, effectMark, rackOf, hardpointOf};
 ghost use Rattle.catalogue.specs.Sound.{Sound};
 ghost use Rattle.catalogue.specs.Answers.{idOf, markOf, infoOf, infoOfType, slotOf};
@@ -78,7 +78,7 @@ pub struct Block {
     pub n: usize,
 }
 
-// ---- where the blocks are
+// ---- where the blocks are, in an image that has room for all but the values of the bases
 
 pub fn count(catalogue: &[u8], at: usize) -> usize
     requires { ⌜ at + 4 ≤ length (now catalogue) ⌝ }
@@ -88,7 +88,7 @@ pub fn count(catalogue: &[u8], at: usize) -> usize
 }
 
 pub fn names(catalogue: &[u8]) -> Block
-    requires { ⌜ length (now catalogue) ≡ sizeOf (now catalogue) ⌝ }
+    requires { ⌜ baseValuesAt (now catalogue) ≤ length (now catalogue) ⌝ }
     ensures { λ r. ⌜ (r .at ≡ namesAt (now (catalogue .entry))) × (r .n ≡ nameCount (now (catalogue .entry))) ⌝ }
 {
     Block {
@@ -98,7 +98,7 @@ pub fn names(catalogue: &[u8]) -> Block
 }
 
 pub fn effects(catalogue: &[u8]) -> Block
-    requires { ⌜ length (now catalogue) ≡ sizeOf (now catalogue) ⌝ }
+    requires { ⌜ baseValuesAt (now catalogue) ≤ length (now catalogue) ⌝ }
     ensures { λ r. ⌜ (r .at ≡ effectsAt (now (catalogue .entry))) × (r .n ≡ effectCount (now (catalogue .entry))) ⌝ }
 {
     let b = names(catalogue);
@@ -109,7 +109,7 @@ pub fn effects(catalogue: &[u8]) -> Block
 }
 
 pub fn types(catalogue: &[u8]) -> Block
-    requires { ⌜ length (now catalogue) ≡ sizeOf (now catalogue) ⌝ }
+    requires { ⌜ baseValuesAt (now catalogue) ≤ length (now catalogue) ⌝ }
     ensures { λ r. ⌜ (r .at ≡ typesAt (now (catalogue .entry))) × (r .n ≡ typeCount (now (catalogue .entry))) ⌝ }
 {
     let b = effects(catalogue);
@@ -120,7 +120,7 @@ pub fn types(catalogue: &[u8]) -> Block
 }
 
 pub fn links(catalogue: &[u8]) -> Block
-    requires { ⌜ length (now catalogue) ≡ sizeOf (now catalogue) ⌝ }
+    requires { ⌜ baseValuesAt (now catalogue) ≤ length (now catalogue) ⌝ }
     ensures { λ r. ⌜ (r .at ≡ linksAt (now (catalogue .entry))) × (r .n ≡ linkCount (now (catalogue .entry))) ⌝ }
 {
     let b = types(catalogue);
@@ -131,7 +131,7 @@ pub fn links(catalogue: &[u8]) -> Block
 }
 
 pub fn bases(catalogue: &[u8]) -> Block
-    requires { ⌜ length (now catalogue) ≡ sizeOf (now catalogue) ⌝ }
+    requires { ⌜ baseValuesAt (now catalogue) ≤ length (now catalogue) ⌝ }
     ensures { λ r. ⌜ (r .at ≡ basesAt (now (catalogue .entry))) × (r .n ≡ baseCount (now (catalogue .entry))) ⌝ }
 {
     let b = links(catalogue);
@@ -415,8 +415,8 @@ pub fn base_value(catalogue: &[u8], span: Span, attribute: i32) -> Value
     let to = span.to;
     let mut i = span.from;
     while i < to {
-        if is_id(catalogue, at + 8 * i, attribute) {
-            return Value::Given(floats::f32_wide_at(catalogue, at + 8 * i + 4));
+        if is_id(catalogue, at + 12 * i, attribute) {
+            return Value::Given(floats::f64_at(catalogue, at + 12 * i + 4));
         }
         i += 1;
     }

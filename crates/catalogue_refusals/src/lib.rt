@@ -4,27 +4,34 @@ use catalogue::Verdict;
 use numbers::refusals;
 use numbers::sizes;
 ghost use mathlib.Core.Path.{_≡_};
-ghost use Prim.Native.Nat.{ℕ, _+_, _*_, _<_, _≤_};
+ghost use Prim.Native.Nat.{ℕ, _+_, _*_, _^_, _<_, _≤_};
 ghost use lib.ListN.{length};
 ghost use lib.Dec.{ltb};
 ghost use lib.Signed.{ltZ, leZ};
 ghost use Rattle.words.specs.Words.{table, anyOf, inOrder};
 ghost use Rattle.image.specs.Bytes.{u32At, i32At};
-ghost use Rattle.catalogue.specs.Catalogue.{catalogueOf, sizeOf};
+ghost use Rattle.catalogue.specs.Catalogue.{catalogueOf, basesAt, baseValuesAt, sizeOf};
 ghost use Rattle.catalogue.specs.Refusals.{badLength, badOrder, badField, catalogueRefusal};
 ghost use Rattle.catalogue.specs.Answers.{numberOf};
 
-// The length that the sizes say. No sum of five sizes of 32 bits wraps.
-fn size_of(catalogue: &[u8]) -> usize
+// Where the sizes say that the bases begin. No sum of five sizes of 32 bits wraps.
+pub fn bases_at(catalogue: &[u8]) -> usize
     requires { ⌜ 20 ≤ length (now catalogue) ⌝ }
-    ensures { λ r. ⌜ r ≡ sizeOf (now (catalogue .entry)) ⌝ }
+    ensures { λ r. ⌜ (r ≡ basesAt (now (catalogue .entry))) × (r < 2 ^ 40) ⌝ }
 {
     20
         + 8 * catalogue::count(catalogue, 0)
         + 8 * catalogue::count(catalogue, 4)
         + 20 * catalogue::count(catalogue, 8)
         + 8 * catalogue::count(catalogue, 12)
-        + 12 * catalogue::count(catalogue, 16)
+}
+
+// The length that the sizes say.
+fn size_of(catalogue: &[u8]) -> usize
+    requires { ⌜ 20 ≤ length (now catalogue) ⌝ }
+    ensures { λ r. ⌜ r ≡ sizeOf (now (catalogue .entry)) ⌝ }
+{
+    bases_at(catalogue) + 16 * catalogue::count(catalogue, 16)
 }
 
 // Refusal 1.
@@ -61,9 +68,9 @@ fn never_descend(catalogue: &[u8], b: Block) -> bool
     keys::never_descend(catalogue::keys_of(catalogue, b), b.n)
 }
 
-// Refusal 2.
-fn bad_order(catalogue: &[u8]) -> bool
-    requires { ⌜ length (now catalogue) ≡ sizeOf (now catalogue) ⌝ }
+// Refusal 2. It reads no value of a base.
+pub fn bad_order(catalogue: &[u8]) -> bool
+    requires { ⌜ baseValuesAt (now catalogue) ≤ length (now catalogue) ⌝ }
     ensures { λ r. ⌜ r ≡ badOrder (catalogueOf (now (catalogue .entry))) ⌝ }
 {
     if !ascend_unsigned(catalogue, catalogue::names(catalogue)) {
@@ -96,9 +103,9 @@ fn any_above(b: &[u8], at: usize, n: usize, step: usize, limit: u32) -> bool
     found
 }
 
-// Refusal 3.
-fn bad_field(catalogue: &[u8]) -> bool
-    requires { ⌜ length (now catalogue) ≡ sizeOf (now catalogue) ⌝ }
+// Refusal 3. It reads no base.
+pub fn bad_field(catalogue: &[u8]) -> bool
+    requires { ⌜ baseValuesAt (now catalogue) ≤ length (now catalogue) ⌝ }
     ensures { λ r. ⌜ r ≡ badField (catalogueOf (now (catalogue .entry))) ⌝ }
 {
     let n = catalogue::names(catalogue);

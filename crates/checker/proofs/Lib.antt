@@ -1,4 +1,2 @@
--- Laws of text put into a buffer.
-pub mod Putting
-pub mod Decimal
+-- Laws of the text that is printed.
 pub mod Room

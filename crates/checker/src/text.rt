@@ -1,58 +1,20 @@
 // A list call's answer as text: specs/Text.antt.
 use numbers::sizes;
 ghost use mathlib.Core.Path.{_≡_};
-ghost use mathlib.Core.List.{[], _∷_};
 ghost use Prim.Native.Nat.{_+_, _*_, _/_, _%_, _<_, _≤_, _^_};
 ghost use lib.ListN.{length, take};
 ghost use Rattle.image.specs.Bytes.{u8At, u32At};
 ghost use Rattle.io.specs.Counts.{Counts};
-ghost use Rattle.checker.specs.Put.{Put};
+ghost use Rattle.program.specs.Put.{Put};
 ghost use Rattle.checker.specs.Text as Text;
-ghost use Rattle.checker.specs.Text.{decimal, textOf};
-
-fn byte(text: &mut [u8], at: usize, x: u8) -> usize
-    requires { ⌜ at < length (now text) ⌝ }
-    ensures { λ r. ⌜ Put (now (text .entry)) at (now (text .exit)) r (x ∷ []) ⌝ }
-{
-    text[at] = x;
-    at + 1
-}
-
-fn copy(text: &mut [u8], at: usize, from: &[u8]) -> usize
-    requires { ⌜ at + length (now from) ≤ length (now text) ⌝ }
-    ensures { λ r. ⌜ Put (now (text .entry)) at (now (text .exit)) r (now (from .entry)) ⌝ }
-{
-    let mut i = 0;
-    while i < from.len() {
-        text[at + i] = from[i];
-        i += 1;
-    }
-    at + i
-}
-
-fn number(text: &mut [u8], at: usize, n: u64) -> usize
-    requires { ⌜ at + 20 ≤ length (now text) ⌝ }
-    ensures { λ r. ⌜ Put (now (text .entry)) at (now (text .exit)) r (decimal n) ⌝ }
-{
-    let mut digits = [0u8; 20];
-    let k = io::decimal(n, &mut digits);
-    copy(text, at, &digits[..k])
-}
+ghost use Rattle.checker.specs.Text.{textOf};
 
 fn spaced(text: &mut [u8], at: usize, n: u64) -> usize
     requires { ⌜ at + 21 ≤ length (now text) ⌝ }
     ensures { λ r. ⌜ Put (now (text .entry)) at (now (text .exit)) r (Text.spaced n) × (r ≤ at + 21) ⌝ }
 {
-    let end = number(text, at, n);
-    byte(text, end, b' ')
-}
-
-fn ended(text: &mut [u8], at: usize, n: u64) -> usize
-    requires { ⌜ at + 21 ≤ length (now text) ⌝ }
-    ensures { λ r. ⌜ Put (now (text .entry)) at (now (text .exit)) r (Text.ended n) × (r ≤ at + 21) ⌝ }
-{
-    let end = number(text, at, n);
-    byte(text, end, b'\n')
+    let end = program::number(text, at, n);
+    program::byte(text, end, b' ')
 }
 
 fn byte_at(b: &[u8], at: usize) -> u64
@@ -88,7 +50,7 @@ fn payload(text: &mut [u8], at: usize, b: &[u8], place: usize) -> usize
     let second = spaced(text, at, word_at(b, place + 8));
     let third = spaced(text, second, word_at(b, place + 12));
     let fourth = spaced(text, third, word_at(b, place + 16));
-    ended(text, fourth, word_at(b, place + 20))
+    program::ended(text, fourth, word_at(b, place + 20))
 }
 
 fn line(text: &mut [u8], at: usize, b: &[u8], i: usize) -> usize
@@ -121,11 +83,10 @@ fn closing(text: &mut [u8], at: usize, refusal: u64, count: u64) -> usize
     ensures { λ r. ⌜ Put (now (text .entry)) at (now (text .exit)) r (Text.closing refusal count) × (r ≤ at + 29) ⌝ }
 {
     if 0 < refusal {
-        let end = copy(text, at, b"refused ");
-        return ended(text, end, refusal);
+        return program::refused(text, at, refusal);
     }
-    let end = copy(text, at, b"count ");
-    ended(text, end, count)
+    let end = program::copy(text, at, b"count ");
+    program::ended(text, end, count)
 }
 
 fn text_of(text: &mut [u8], word: u64, b: &[u8]) -> usize

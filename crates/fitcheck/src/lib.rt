@@ -1,4 +1,4 @@
-// The three calls, exported on numbers and byte slices: document 01, "Refusals in their order" and "Hall number".
+// The calls, exported on numbers and byte slices: document 01, "Refusals in their order" and "Hall number"; document 02.
 mod hall;
 
 use numbers::refusals;
@@ -21,6 +21,7 @@ ghost use Rattle.fitcheck.specs.Calls.{answer, imageRefusals, listRefusa
 ghost use Rattle.fitcheck.specs.Calls.{listCall, skillCall, returned, buffered};
 ghost use Rattle.fitcheck.specs.Gave.{Gave, lent};
 ghost use Rattle.fitcheck.specs.Hall.{hallCall, hallReturned};
+ghost use Rattle.fitcheck.specs.Widen.{widenCall, outputWord, filled};
 
 // The bytes of the longest list: a buffer that holds it holds any list, and need not be counted for.
 const ANY_LIST: usize = sizes::ENTRY_SIZE * validate::MOST_ENTRIES;
@@ -169,10 +170,29 @@ pub extern "C" fn fit_hall(catalogue: &[u8], input: &[u8]) -> u64
     hall::word(catalogue, input)
 }
 
+// The widening: an old catalogue, whose base values are f32, in the new form.
+#[no_mangle]
+pub extern "C" fn fit_widen(old: &[u8], out: &mut [u8]) -> u64
+    ensures { λ r.
+        let call = widenCall (now (old .entry)) (now (out .entry)) in
+        ⌜ (r ≡ outputWord call) × (now (out .exit) ≡ filled (now (out .entry)) call) ⌝ }
+{
+    let first = widening::number(old);
+    if 0 < first {
+        return refused(first);
+    }
+    let size = widening::wide_size(old);
+    if out.len() < size {
+        return refused(refusals::TOO_SHORT);
+    }
+    widening::widen(old, out);
+    size as u64
+}
+
 // The number of this set of calls and images, in the symbol's name: a caller written for another set does not link.
 #[no_mangle]
-pub extern "C" fn fit_interface_1() -> u64
-    ensures { λ r. ⌜ r ≡ 1 ⌝ }
+pub extern "C" fn fit_interface_2() -> u64
+    ensures { λ r. ⌜ r ≡ 2 ⌝ }
 {
-    1
+    2
 }

@@ -1,11 +1,12 @@
 -- Bytes of numbers, and bytes stored in a list: lengths, numbers side by side, stores one after the other.
 use mathlib.Core.Path.{_≡_, refl, ap, sym, _∙_}
 use mathlib.Core.List.{List, [], _∷_, _++_}
-use Prim.Native.Nat.{ℕ, zero, suc, _+_, _*_, _/_, _%_, _^_, _<_}
+use Prim.Native.Nat.{ℕ, zero, suc, _+_, _*_, _/_, _%_, _^_, _≤_, _<_}
 use native.Mathlib.Nat.{suc-add, zero-add, pow-succ', mul-assoc}
+use native.Mathlib.Numerals.{add-one}
 use native.Mathlib.Omega.{arith}
-use lib.ListN.{length, set, length-set, length-append}
-use lib.Seq.{set-at, append-snoc}
+use lib.ListN.{length, getD, set, take, drop, length-set, length-append, length-drop, take-append-drop}
+use lib.Seq.{set-at, append-snoc, take-suc, drop-drop, length-take-le}
 use Rattle.image.specs.Bytes.{le, put}
 
 pub length-le : (n x : ℕ) → length (le n x) ≡ n
@@ -44,6 +45,13 @@ put-append l i [] ws = ap (λ (k : ℕ). put l k ws) (omega arith)
 put-append l i (v ∷ vs) ws =
     put-append (set l i v) (i + 1) vs ws ∙ ap (λ (k : ℕ). put (put (set l i v) (i + 1) vs) k ws) (omega arith)
 
+-- one more byte of vs
+pub put-next : (l : List ℕ) (at : ℕ) (vs : List ℕ) (i : ℕ) → i < length vs → set (put l at (take i vs)) (at + i) (getD vs i 0) ≡ put l at (take (i + 1) vs)
+put-next l at vs i h =
+    ap (λ (k : ℕ). set (put l at (take i vs)) (at + k) (getD vs i 0)) (sym (length-take-le i vs (omega arith)))
+    ∙ sym (put-append l at (take i vs) (getD vs i 0 ∷ []))
+    ∙ ap (put l at) (sym (ap (λ (k : ℕ). take k vs) (add-one i) ∙ take-suc vs i 0 h))
+
 -- over m, which stands between p and q and is as long as vs
 pub put-between : (p m q vs : List ℕ) (n : ℕ) → length p ≡ n → length m ≡ length vs → put (p ++ (m ++ q)) n vs ≡ p ++ (vs ++ q)
 put-between p [] q [] n h e = refl
@@ -53,6 +61,17 @@ put-between p (x ∷ m) q (v ∷ vs) n h e =
     ap (λ (l : List ℕ). put l (n + 1) vs) (set-at p x (m ++ q) v n h ∙ sym (append-snoc p v (m ++ q)))
     ∙ put-between (p ++ (v ∷ [])) m q vs (n + 1) (length-append p (v ∷ []) ∙ omega (arith, h)) (omega (arith, e))
     ∙ append-snoc p v (vs ++ q)
+
+-- what stands before and behind stays as it was
+pub put-parts : (l : List ℕ) (at : ℕ) (vs : List ℕ) → at + length vs ≤ length l → put l at vs ≡ take at l ++ (vs ++ drop (at + length vs) l)
+put-parts l at vs h =
+    let n = length vs in
+    let d : n ≤ length (drop at l) = omega (arith, length-drop at l) in
+    let parts : take at l ++ (take n (drop at l) ++ drop (at + n) l) ≡ l =
+    ap (λ (q : List ℕ). take at l ++ (take n (drop at l) ++ q)) (sym (drop-drop n at l))
+    ∙ ap (λ (q : List ℕ). take at l ++ q) (take-append-drop n (drop at l)) ∙ take-append-drop at l in
+    ap (λ (m : List ℕ). put m at vs) (sym parts)
+    ∙ put-between (take at l) (take n (drop at l)) (drop (at + n) l) vs at (length-take-le at l (omega arith)) (length-take-le n (drop at l) d)
 
 -- three runs of eight bytes, one after the other, are one run
 pub put-three : (l l₁ l₂ l₃ : List ℕ) (at : ℕ) (xs ys zs : List ℕ) → length xs ≡ 8 → length ys ≡ 8

@@ -119,6 +119,18 @@ pub fn part(b: &[u8], at: usize, n: usize) -> &[u8]
     &b[at..end]
 }
 
+// The bytes of another slice from a place on.
+pub fn copy(out: &mut [u8], at: usize, from: &[u8])
+    requires { ⌜ at + length (now from) ≤ length (now out) ⌝ }
+    ensures { λ r. ⌜ now (out .exit) ≡ put (now (out .entry)) at (now (from .entry)) ⌝ }
+{
+    let mut i = 0;
+    while i < from.len() {
+        out[at + i] = from[i];
+        i += 1;
+    }
+}
+
 // The four bytes of x from a place on.
 pub fn put_u32(out: &mut [u8], at: usize, x: u32)
     requires { ⌜ at + 4 ≤ length (now out) ⌝ }

@@ -1,5 +1,5 @@
 -- What a call gives, from the first of its conditions that holds. By cases on that number.
-use Prim.Native.Nat.{ℕ, zero, suc, _+_, _*_, _-_, _^_, _≤_, _<_, suc-le-suc, zero-le}
+use Prim.Native.Nat.{ℕ, zero, suc, _+_, _*_, _-_, _/_, _^_, _≤_, _<_, suc-le-suc, zero-le}
 use native.Mathlib.Nat.{le-of-suc-le-suc, not-suc-le-zero}
 use native.Mathlib.Omega.{arith}
 use mathlib.Core.Path.{_≡_, refl, ap, _∙_}
@@ -11,9 +11,9 @@ use Rattle.words.specs.Words.{each, firstOf}
 use Rattle.entry.specs.declared.Entry.{Entry}
 use Rattle.entry.specs.Entries.{entryBytes, written}
 use Rattle.fitcheck.specs.Calls.{answerBy, answer, buffered, returned}
-use Rattle.fitcheck.proofs.First.{Numbered, first-small}
+use Rattle.fitcheck.proofs.First.{Numbered}
 use Rattle.promises.specs.Answers.{outcome, Conditions, None, Answers}
-use Rattle.promises.proofs.Conditions.{first-is, is-first, none-is, is-none}
+use Rattle.promises.proofs.Conditions.{is-none, word-refused, word-answered, word-numbered}
 use Rattle.promises.proofs.Entries.{entry-at, entries-length}
 
 -- ---- an element by its place
@@ -37,10 +37,11 @@ module _ (l : Conditions) (numbered : Numbered 10 l) (es : List Entry) (before :
       let s = small n in
       let r = room n in
       let w = entries-length es in
+      let q : firstOf l ≡ length es / 4294967296 = omega arith in
       record {
-        refused = λ m p. (λ h. absurd (omega arith), λ h. absurd (let q = first-is m l h in omega arith));
-        answered = (λ h. n, λ h. omega arith);
-        numbered = omega arith;
+        refused = word-refused l numbered (length es) q;
+        answered = word-answered l numbered (length es) q;
+        numbered = word-numbered l numbered (length es) q;
         nothing = λ p. absurd (omega arith);
         counted = λ h. omega arith;
         entries = λ h i x q.
@@ -56,11 +57,11 @@ module _ (l : Conditions) (numbered : Numbered 10 l) (es : List Entry) (before :
         length-kept = length-append (each es entryBytes) (drop (24 * length es) before) ∙ (let d = length-drop (24 * length es) before in omega arith);
       }
   go (suc k) e =
-      let s = first-small 10 l numbered in
+      let q : firstOf l ≡ suc k * 4294967296 / 4294967296 = omega arith in
       record {
-        refused = λ m p. (λ h. is-first m p l (let q : suc k ≡ m = omega arith in e ∙ q), λ h. (let q = first-is m l h in omega arith));
-        answered = (λ h. absurd (omega arith), λ h. absurd (let q = none-is l h in omega arith));
-        numbered = omega arith;
+        refused = word-refused l numbered (suc k * 4294967296) q;
+        answered = word-answered l numbered (suc k * 4294967296) q;
+        numbered = word-numbered l numbered (suc k * 4294967296) q;
         nothing = λ p. (omega arith, refl);
         counted = λ h. absurd (omega arith);
         entries = λ h. absurd (omega arith);

@@ -1,13 +1,13 @@
 -- Numbers with conditions: which is the first that holds. By cases on the conditions, one after the other.
-use Prim.Native.Nat.{ℕ, _≤_, _<_, pred}
+use Prim.Native.Nat.{ℕ, _/_, _≤_, _<_, pred}
 use native.Mathlib.Omega.{arith}
-use mathlib.Core.Path.{_≡_, refl}
+use mathlib.Core.Path.{_≡_, refl, sym, _∙_}
 use mathlib.Core.Bool.{Bool, true, false, not, cond}
 use mathlib.Core.List.{[], _∷_, _++_}
-use mathlib.Core.Logic.{_⊎_, inl, inr}
+use mathlib.Core.Logic.{_⊎_, inl, inr, _↔_}
 use lib.Dec.{T}
 use Rattle.words.specs.Words.{firstOf}
-use Rattle.fitcheck.proofs.First.{Numbered}
+use Rattle.fitcheck.proofs.First.{Numbered, first-small}
 use Rattle.promises.specs.Answers.{Conditions, First, None}
 
 pub first-is : (n : ℕ) (l : Conditions) → First n l → firstOf l ≡ n
@@ -47,6 +47,17 @@ is-none (x ∷ l) h e = go (x .1) (is-none l (h .2)) e
     go : (b : Bool) → (firstOf l ≡ 0 → None l) → cond b (x .0) (firstOf l) ≡ 0 → T (not b) × None l
     go true f e = absurd (omega arith)
     go false f e = (tt, f e)
+
+-- ---- a word whose upper half is the first number
+module _ (l : Conditions) (numbered : Numbered 10 l) (w : ℕ) (e : firstOf l ≡ w / 4294967296) where
+  pub word-refused : (n : ℕ) → 0 < n → (w / 4294967296 ≡ n) ↔ First n l
+  word-refused n p = (λ h. is-first n p l (e ∙ h), λ h. sym e ∙ first-is n l h)
+
+  pub word-answered : (w / 4294967296 ≡ 0) ↔ None l
+  word-answered = (λ h. is-none l numbered (e ∙ h), λ h. sym e ∙ none-is l h)
+
+  pub word-numbered : w / 4294967296 ≤ 10
+  word-numbered = omega (arith, e, first-small 10 l numbered)
 
 -- ---- conditions behind others
 pub prefix-first : (n : ℕ) (l m : Conditions) → First n l → First n (l ++ m)

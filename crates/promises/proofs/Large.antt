@@ -172,9 +172,9 @@ by-length : (b : List ℕ) (n : ℕ) → length b ≡ n → badLength b ≡ ltb 
 unfolding badLength
 by-length b n e = ap (λ (k : ℕ). ltb 16777216 k || not (eqb k (Catalogue.sizeOf b))) e
 
-catalogue-at : badLength (linked 2097148 1) ≡ false
+catalogue-at : badLength (linked 2097147 1) ≡ false
 unfolding u32At each
-catalogue-at = by-length (linked 2097148 1) 16777216 (long (words (0 ∷ 0 ∷ 0 ∷ 2097148 ∷ 1 ∷ [])) 16777196)
+catalogue-at = by-length (linked 2097147 1) 16777216 (long (words (0 ∷ 0 ∷ 1 ∷ 2097147 ∷ 0 ∷ [])) 16777196)
 
 catalogue-above : badLength (linked 2097150 0) ≡ true
 unfolding u32At each

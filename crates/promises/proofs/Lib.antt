@@ -18,6 +18,7 @@ pub mod Judging
 pub mod Opened
 pub mod Large
 pub mod Seven
+pub mod Widening
 pub mod Edges
 pub mod Deciding
 pub mod Keeping

@@ -8,6 +8,8 @@ use Rattle.floats.specs.Floats.{f32At, f64At, f64Bits, abs, over}
 use Rattle.catalogue.specs.Catalogue.{catalogueOf}
 use Rattle.catalogue.specs.Refusals as Catalogue
 use Rattle.catalogue.specs.Lookups.{nameId, typeOf, groupOf, categoryOf, volumeOf, effectMark, marks, lastMark, rackOf, hardpointOf, baseValue}
+use Rattle.widening.specs.Old.{oldCatalogueOf, oldBadLength, oldRefusals}
+use Rattle.widening.specs.Widen.{wideBits, wideValue, wideValues, widened}
 use Rattle.fit.specs.Fit.{modeOf, resultAt, startAt, fitOf}
 use Rattle.fit.specs.Refusals as Fit
 use Rattle.fit.specs.Lookups.{value, amount, trained}
@@ -25,6 +27,7 @@ use Rattle.validate.specs.Validate.{hullRules, listWith, listOf}
 use Rattle.skill.specs.Skill.{required, demandOf, demands, ofResult, ofSkill, note, noted, skillAt, met, walkWithin, tooMany, entryOf, skillList}
 use Rattle.fitcheck.specs.Calls.{answerBy, answer, tooShort, listCall, skillCall, buffered, returned}
 use Rattle.fitcheck.specs.Hall.{fitStart, fits, badInput, fitRefused, isClear, isFaulted, hallBy, hallCall, hallReturned}
+use Rattle.fitcheck.specs.Widen.{outputBy, output, filled, outputWord, noRoom, widenCall}
 use Rattle.promises.specs.Before.{tooManyDrones, listBefore}
 use Rattle.promises.specs.Cases.{known, outcomeOf}
 
@@ -96,10 +99,14 @@ open-hall : Unit {0}
 unfolding fitStart fits badInput fitRefused isClear isFaulted hallBy hallCall hallReturned
 open-hall = tt
 
+open-widening : Unit {0}
+unfolding oldCatalogueOf oldBadLength oldRefusals wideBits wideValue wideValues widened outputBy output filled outputWord noRoom widenCall
+open-widening = tt
+
 open-rules : Unit {0}
 unfolding open-kinds open-resources open-slots open-slot-checks open-items open-standup open-limits open-skills
 open-rules = tt
 
 unfoldable pub opened : Unit {0}
-unfolding known outcomeOf open-floats open-words open-catalogue open-fit open-bytes open-refusals open-rules open-calls open-hall
+unfolding known outcomeOf open-floats open-words open-catalogue open-fit open-bytes open-refusals open-rules open-calls open-hall open-widening
 opened = tt

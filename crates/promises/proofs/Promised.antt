@@ -12,6 +12,7 @@ use Rattle.promises.proofs.Wanting.{more-wanted, skill-lists}
 use Rattle.promises.proofs.Judging.{hall-answers, judged}
 use Rattle.promises.proofs.Opened.{opened}
 use Rattle.promises.proofs.Seven.{no-seven, list-as-before, drones-exact}
+use Rattle.promises.proofs.Widening.{widen-answers, widen-decodes, widen-stands}
 use Rattle.promises.proofs.Edges.{edges}
 
 names : Names
@@ -36,6 +37,9 @@ promised = record {
   too-many = more-wanted 512;
   hall-call = hall-answers;
   hall-fits = judged;
+  widen-answers = widen-answers;
+  widen-decodes = widen-decodes;
+  widen-stands = widen-stands;
   names = names;
   edges = edges;
 }

@@ -67,9 +67,9 @@ abbrev marked : ℕ → List ℕ
 marked mark = words (0 ∷ 1 ∷ 0 ∷ 0 ∷ 0 ∷ 5 ∷ mark ∷ [])
 
 -- names 20, 22, 76 and 77 with the attributes 6, 7, 4 and 5; effect 3, a Medium slot; type 1, a ship, and type 9, a module with that effect,
--- of volume 2.5, which wants skill 8 at 2
-abbrev pub small : List ℕ
-small =
+-- of volume 2.5, which wants a skill at a level: two f64, their lower halves first
+abbrev wanting : (skill level : ℕ × ℕ) → List ℕ
+wanting skill level =
     words (4 ∷ 1 ∷ 2 ∷ 1 ∷ 2 ∷ [])
     ++ words (20 ∷ 22 ∷ 76 ∷ 77 ∷ [])
     ++ words (6 ∷ 7 ∷ 4 ∷ 5 ∷ [])
@@ -79,7 +79,11 @@ small =
     ++ words (50 ∷ 7 ∷ 1 ∷ 0x40200000 ∷ [])
     ++ words (9 ∷ 3 ∷ [])
     ++ words (9 ∷ 9 ∷ [])
-    ++ words (4 ∷ 0x41000000 ∷ 5 ∷ 0x40000000 ∷ [])
+    ++ words (4 ∷ skill .0 ∷ skill .1 ∷ 5 ∷ level .0 ∷ level .1 ∷ [])
+
+-- skill 8 at 2
+abbrev pub small : List ℕ
+small = wanting (0, 0x40200000) (0, 0x40000000)
 
 -- a fit of ship 0 with nothing; one of ship 1 with nothing
 abbrev pub empty : List ℕ
@@ -196,4 +200,16 @@ CALLS =
     ∷ (HallCall small (words (1 ∷ 36 ∷ []) ++ replicate 35 0), Number (4 * 4294967296))
     ∷ (HallCall small (words (65 ∷ []) ++ replicate 260 0), Number (4 * 4294967296))
     ∷ (HallCall (replicate 3 0) (replicate 3 0), Number 4294967296)
+    -- base values that no f32 has: skill 16,777,217 at just below 5, and skill just below 8 at just above 2
+    ∷ (
+      SkillCall (wanting (0x10000000, 0x41700000) (0xFFFFFFFF, 0x4013FFFF)) fitted 2 (replicate 25 7),
+      Returns 1 (words (0x00000B01 ∷ 0 ∷ 16777217 ∷ 4 ∷ 0 ∷ 0 ∷ []) ++ (7 ∷ [])),
+    )
+    ∷ (
+      SkillCall (wanting (0xFFFFFFFF, 0x401FFFFF) (1, 0x40000000)) fitted 2 (replicate 25 7),
+      Returns 1 (words (0x00000B01 ∷ 0 ∷ 7 ∷ 2 ∷ 0 ∷ 0 ∷ []) ++ (7 ∷ [])),
+    )
+    -- an old catalogue with a base is no new one
+    ∷ listRefuses (words (0 ∷ 0 ∷ 0 ∷ 0 ∷ 1 ∷ []) ++ replicate 12 0) empty 1
+    ∷ listAnswers (words (0 ∷ 0 ∷ 0 ∷ 0 ∷ 1 ∷ []) ++ replicate 16 0) empty
     ∷ []

@@ -6,9 +6,11 @@ use lib.IntN.{ℤ, pos, negsuc}
 use lib.Ieee.{Float, fin}
 use Rattle.words.specs.Words.{from, firstOf}
 use Rattle.numbers.specs.Names.{requiredSkill1, requiredSkill1Level, requiredSkill2, requiredSkill2Level}
+use Rattle.image.specs.Bytes.{le}
 use Rattle.floats.specs.Floats.{zeroF, ofNat, toU, toI32, over}
 use Rattle.catalogue.specs.Catalogue.{Id, TypeData, Link, Base, Catalogue}
 use Rattle.catalogue.specs.Refusals.{badLength}
+use Rattle.widening.specs.Widen.{wideBits}
 use Rattle.fit.specs.Fit.{Attribute, Item, Result, Fit}
 use Rattle.fit.specs.Refusals.{badSize}
 use Rattle.entry.specs.declared.Entry.{Entry}
@@ -17,6 +19,7 @@ use Rattle.validate.specs.Validate.{listOf}
 use Rattle.skill.specs.Skill.{Demand, wantedSkills, tooMany, skillList}
 use Rattle.fitcheck.specs.Calls.{returned, buffered, skillRefusals, listCall, skillCall}
 use Rattle.fitcheck.specs.Hall.{hallCall, hallReturned}
+use Rattle.fitcheck.specs.Widen.{outputWord, filled, widenCall}
 use Rattle.promises.specs.Before.{listBefore}
 
 -- ---- a catalogue: types with their groups and categories in the game
@@ -205,6 +208,9 @@ pub data Input : Type 0 where
   HallCall : (catalogue input : List ℕ) → Input
   -- the list call as it was before
   ListBefore : (catalogue fit buffer : List ℕ) → Input
+  -- the bits of an f32, widened; the widening call
+  Single : ℕ → Input
+  WidenCall : (old buffer : List ℕ) → Input
 
 pub data Expected : Type 0 where
   Number : ℕ → Expected
@@ -235,6 +241,8 @@ outcomeOf (ListCall catalogue fit buffer) = let a = listCall catalogue fit buffe
 outcomeOf (SkillCall catalogue fit result buffer) = let a = skillCall catalogue fit result buffer in Returns (returned a) (buffered buffer a)
 outcomeOf (HallCall catalogue input) = Number (hallReturned (hallCall catalogue input))
 outcomeOf (ListBefore catalogue fit buffer) = let a = listBefore catalogue fit buffer in Returns (returned a) (buffered buffer a)
+outcomeOf (Single n) = Number (wideBits (le 4 n) 0)
+outcomeOf (WidenCall old buffer) = let o = widenCall old buffer in Returns (outputWord o) (filled buffer o)
 
 abbrev pub Case : Type 0
 Case = Input × Expected

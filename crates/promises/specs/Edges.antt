@@ -1,5 +1,5 @@
 -- Document 01, "Edges, those marked * proved": one table of inputs and outcomes. First the starred edges, then a case for and against every
--- rule, entries and calls in bytes, and every part of every refusal.
+-- rule, entries and calls in bytes, every part of every refusal, and what widens to what.
 use Prim.Native.Nat.{ℕ}
 use mathlib.Core.Path.{_≡_}
 use mathlib.Core.Bool.{true, false}
@@ -19,6 +19,7 @@ use Rattle.promises.specs.Cases.{Number, Integer, Holds, HoldsOf, Entrie
 use Rattle.promises.specs.RuleCases.{KINDS, RESOURCES, SLOTS, ITEMS, CROWDS, ORDER}
 use Rattle.promises.specs.CallCases.{ENTRIES, CALLS}
 use Rattle.promises.specs.RefusalCases.{LENGTHS, KEYS, FIELDS, SIZES, IDS, RANGES, DRONES, NUMBERS, BUFFERS, FIRSTS, LARGE, ZEROS}
+use Rattle.promises.specs.WidenCases.{VALUES, WIDENED}
 
 -- ---- skills
 -- skills 1 and 2 demand each other: 2 at 1, and 1 at 4
@@ -101,7 +102,8 @@ SKILLS =
 abbrev pub PARTS : List (List Case)
 PARTS =
     STARRED ∷ SKILLS ∷ KINDS ∷ RESOURCES ∷ SLOTS ∷ ITEMS ∷ CROWDS ∷ ORDER ∷ ENTRIES ∷ CALLS
-    ∷ LENGTHS ∷ KEYS ∷ FIELDS ∷ SIZES ∷ IDS ∷ RANGES ∷ DRONES ∷ NUMBERS ∷ BUFFERS ∷ FIRSTS ∷ LARGE ∷ ZEROS ∷ []
+    ∷ LENGTHS ∷ KEYS ∷ FIELDS ∷ SIZES ∷ IDS ∷ RANGES ∷ DRONES ∷ NUMBERS ∷ BUFFERS ∷ FIRSTS ∷ LARGE ∷ ZEROS
+    ∷ VALUES ∷ WIDENED ∷ []
 
 abbrev pub EDGES : List Case
 EDGES = each PARTS λ part. part

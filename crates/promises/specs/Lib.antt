@@ -7,9 +7,11 @@ pub mod GrownCase
 pub mod KeptCases
 pub mod Walks
 pub mod Halls
+pub mod Widens
 pub mod Names
 pub mod Edges
 pub mod Cases
 pub mod RuleCases
 pub mod CallCases
 pub mod RefusalCases
+pub mod WidenCases

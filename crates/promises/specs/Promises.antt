@@ -1,7 +1,7 @@
--- Every promise, whole, with no proof in it; `proofs/Promised.antt` has the theorem. The calls are `listCall`, `skillCall` and `hallCall` of
--- fitcheck/specs, functions of bytes, and the exported functions are proved equal to them: the word by `returned`, `hallReturned`, the
--- buffer by `buffered`. Read `Answers`, `Compare`, `GrownCase`, `KeptCases`, `Walks`, `Halls`, `Edges` beside this file, and
--- validate/specs for the list.
+-- Every promise, whole, with no proof in it; `proofs/Promised.antt` has the theorem. The calls are `listCall`, `skillCall`, `hallCall` and
+-- `widenCall` of fitcheck/specs, functions of bytes, and the exported functions are proved equal to them: the word by `returned`,
+-- `hallReturned`, `outputWord`, the buffer by `buffered`, `filled`. Read `Answers`, `Compare`, `GrownCase`, `KeptCases`, `Walks`, `Halls`,
+-- `Widens`, `Edges` beside this file, and validate/specs for the list.
 use Prim.Native.Nat.{ℕ, _/_, _≤_}
 use mathlib.Core.Path.{_≡_}
 use mathlib.Core.Bool.{false, not}
@@ -13,6 +13,8 @@ use lib.Ieee.Exact.{HasValue}
 use Rattle.words.specs.Words.{from}
 use Rattle.floats.specs.Floats.{ofNat}
 use Rattle.catalogue.specs.Catalogue.{Catalogue, catalogueOf}
+use Rattle.widening.specs.Old.{oldCatalogueOf}
+use Rattle.widening.specs.Widen.{widened}
 use Rattle.fit.specs.Fit.{Item, Result, Fit, fitOf}
 use Rattle.fit.specs.Refusals.{badSize}
 use Rattle.context.specs.Context.{pairs}
@@ -21,13 +23,14 @@ use Rattle.validate.specs.Validate.{listOf}
 use Rattle.skill.specs.Skill.{tooMany, skillList}
 use Rattle.fitcheck.specs.Calls.{listCall, skillCall}
 use Rattle.fitcheck.specs.Hall.{hallCall, hallReturned}
-use Rattle.promises.specs.Answers.{Outcome, outcome, refusal, catalogueConditions, listConditions, skillConditions, None, Answers}
+use Rattle.promises.specs.Answers.{Outcome, outcome, refusal, count, catalogueConditions, listConditions, skillConditions, None, Answers}
 use Rattle.promises.specs.Before.{listBefore}
 use Rattle.promises.specs.Compare.{Bytes, Grown, AddedVolumes, Kept}
 use Rattle.promises.specs.GrownCase.{grownBy, Example}
 use Rattle.promises.specs.KeptCases.{Tables}
 use Rattle.promises.specs.Walks.{MoreWanted, SkillsOf}
 use Rattle.promises.specs.Halls.{HallAnswers, Judged}
+use Rattle.promises.specs.Widens.{widenOutcome, widenConditions, Fills, written, Stands}
 use Rattle.promises.specs.Names.{numbered, nameNumbers}
 use Rattle.promises.specs.Edges.{EDGES, Agree}
 
@@ -123,6 +126,20 @@ HallCall = (catalogue input : List ℕ) → HallAnswers catalogue input (hallRet
 abbrev pub HallFits : Type 0
 HallFits = (catalogue fit buffer : List ℕ) → None (catalogueConditions catalogue) → Judged catalogue fit buffer (listOutcome catalogue fit buffer)
 
+-- P10. Of any bytes, the widening call gives the first refusal whose condition holds, and no other byte than the new catalogue's own
+-- changes; where no condition holds, it gives the widened catalogue.
+abbrev pub WidenAnswers : Type 0
+WidenAnswers = (old buffer : List ℕ) → Fills (widenConditions old buffer) (widened old) buffer (widenOutcome old buffer)
+
+-- What it writes decodes to the old catalogue's records.
+abbrev pub WidenDecodes : Type 0
+WidenDecodes = (old buffer : List ℕ) → refusal (widenOutcome old buffer) ≡ 0 → catalogueOf (written (widenOutcome old buffer)) ≡ oldCatalogueOf old
+
+-- So, where it has at most 16,777,216 bytes, it is not refused, and the list and every skill list under it are those under the old one.
+abbrev pub WidenStands : Type 0
+WidenStands = (old buffer : List ℕ) → refusal (widenOutcome old buffer) ≡ 0 → count (widenOutcome old buffer) ≤ 16777216
+    → Stands old (written (widenOutcome old buffer))
+
 -- Every name has its number of document 01, and the tables go through them in order: 0 to 87, none twice and none left out.
 abbrev pub Names : Type 0
 Names = (map (λ n. n .0) numbered ≡ map (λ n. n .1) numbered) × (nameNumbers ≡ from 0 88)
@@ -151,5 +168,8 @@ pub record Promises : Type 0 where
   pub too-many : TooMany
   pub hall-call : HallCall
   pub hall-fits : HallFits
+  pub widen-answers : WidenAnswers
+  pub widen-decodes : WidenDecodes
+  pub widen-stands : WidenStands
   pub names : Names
   pub edges : Edges

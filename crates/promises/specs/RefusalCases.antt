@@ -37,12 +37,12 @@ abbrev pub LENGTHS : List Case
 LENGTHS =
     listRefuses [] empty 1
     ∷ listRefuses (replicate 19 0) empty 1
-    -- 8 for a name, 8 for an effect, 20 for a type, 8 for a link, 12 for a base
+    -- 8 for a name, 8 for an effect, 20 for a type, 8 for a link, 16 for a base
     ∷ exactly (blocks 1 0 0 0 0) 8
     ++ exactly (blocks 0 1 0 0 0) 8
     ++ exactly (blocks 0 0 1 0 0) 20
     ++ exactly (blocks 0 0 0 1 0) 8
-    ++ exactly (blocks 0 0 0 0 1) 12
+    ++ exactly (blocks 0 0 0 0 1) 16
     -- 536,870,912 names are 4,294,967,296 bytes, and not none
     ++ listRefuses (blocks 536870912 0 0 0 0 0) empty 1
     ∷ []
@@ -59,7 +59,7 @@ abbrev links : ℕ → ℕ → List ℕ
 links a b = words (0 ∷ 0 ∷ 0 ∷ 2 ∷ 0 ∷ a ∷ b ∷ []) ++ replicate 8 0
 
 abbrev bases : ℕ → ℕ → List ℕ
-bases a b = words (0 ∷ 0 ∷ 0 ∷ 0 ∷ 2 ∷ a ∷ b ∷ []) ++ replicate 16 0
+bases a b = words (0 ∷ 0 ∷ 0 ∷ 0 ∷ 2 ∷ a ∷ b ∷ []) ++ replicate 24 0
 
 abbrev pub KEYS : List Case
 KEYS =
@@ -99,7 +99,7 @@ KEYS =
     ∷ listAnswers (words (2 ∷ 0 ∷ 0 ∷ 0 ∷ 0 ∷ 5 ∷ 6 ∷ 9 ∷ 9 ∷ [])) empty
     ∷ listAnswers (words (0 ∷ 2 ∷ 0 ∷ 0 ∷ 0 ∷ 5 ∷ 6 ∷ 8 ∷ 0 ∷ [])) empty
     ∷ listAnswers (words (0 ∷ 0 ∷ 0 ∷ 2 ∷ 0 ∷ 5 ∷ 5 ∷ 9 ∷ 4 ∷ [])) empty
-    ∷ listAnswers (words (0 ∷ 0 ∷ 0 ∷ 0 ∷ 2 ∷ 5 ∷ 5 ∷ 9 ∷ 0 ∷ 4 ∷ 0 ∷ [])) empty
+    ∷ listAnswers (words (0 ∷ 0 ∷ 0 ∷ 0 ∷ 2 ∷ 5 ∷ 5 ∷ 9 ∷ 0 ∷ 0 ∷ 4 ∷ 0 ∷ 0 ∷ [])) empty
     ∷ []
 
 -- ---- 3: the catalogue's fields
@@ -120,13 +120,13 @@ FIELDS =
     ∷ listAnswers (words (0 ∷ 2 ∷ 0 ∷ 0 ∷ 0 ∷ 5 ∷ 6 ∷ 0 ∷ 8 ∷ [])) empty
     ∷ listRefuses (words (0 ∷ 2 ∷ 0 ∷ 0 ∷ 0 ∷ 5 ∷ 6 ∷ 0 ∷ 9 ∷ [])) empty 3
     ∷ listRefuses (words (0 ∷ 2 ∷ 0 ∷ 0 ∷ 0 ∷ 5 ∷ 6 ∷ 0xFFFFFFFF ∷ 0 ∷ [])) empty 3
-    -- ids, groups, categories and bits of f32 are any: a NaN's volume under either flag, and a NaN's base value
+    -- ids, groups, categories and bits of floats are any: a NaN's volume under either flag, and a NaN's base value with a payload
     ∷ listAnswers
     (words (0 ∷ 0 ∷ 2 ∷ 0 ∷ 0 ∷ 5 ∷ 6 ∷ [])
     ++ words (0xFFFFFFFF ∷ 0xFFFFFFFF ∷ 1 ∷ 0x7FC00000 ∷ [])
     ++ words (0x7FFFFFFF ∷ 0x80000000 ∷ 0 ∷ 0xFFFFFFFF ∷ []))
     empty
-    ∷ listAnswers (words (0 ∷ 0 ∷ 0 ∷ 0 ∷ 1 ∷ 0xFFFFFFFF ∷ 0xFFFFFFFF ∷ 0x7FC00000 ∷ [])) empty
+    ∷ listAnswers (words (0 ∷ 0 ∷ 0 ∷ 0 ∷ 1 ∷ 0xFFFFFFFF ∷ 0xFFFFFFFF ∷ 1 ∷ 0xFFF80000 ∷ [])) empty
     ∷ []
 
 -- ---- 4: the fit's sizes
@@ -340,9 +340,9 @@ FIRSTS =
     ∷ []
 
 -- ---- the large ones: conditions of images and of walks that are too long to be written out
--- so many links, and one base or none; a catalogue's length is a multiple of 4, so that 16,777,220 is the next above 16,777,216
-abbrev pub linked : (links bases : ℕ) → List ℕ
-linked l b = blocks 0 0 0 l b (8 * l + 12 * b)
+-- so many links, and one type or none; a catalogue's length is a multiple of 4, so that 16,777,220 is the next above 16,777,216
+abbrev pub linked : (links types : ℕ) → List ℕ
+linked l t = blocks 0 0 t l 0 (20 * t + 8 * l)
 
 -- the ship has so many attributes
 abbrev pub laden : ℕ → List ℕ
@@ -368,7 +368,7 @@ flown r ids = record {
 abbrev pub LARGE : List Case
 LARGE =
     -- 1: 16,777,216 bytes, and 16,777,220
-    (BadLength (linked 2097148 1), Holds false)
+    (BadLength (linked 2097147 1), Holds false)
     ∷ (BadLength (linked 2097150 0), Holds true)
     -- 4: A = 30,000, and 30,001
     ∷ (BadSize (laden 30000), Holds false)

@@ -1,7 +1,8 @@
-// Replays the original's recorded answers against the three calls, with no Rust at hand. data/recorded.bin is the file
+// Replays the recorded answers against the calls, with no Rust at hand. data/recorded.bin is the file
 // rust/compare/recorded.bin; RECORDED.md beside that has its format and says how it was made.
 mod record;
 
+ghost use mathlib.Core.Path.{_≡_};
 ghost use Prim.Native.Nat.{_+_, _≤_};
 ghost use lib.ListN.{length};
 ghost use Rattle.replay.specs.Records.{size};
@@ -65,8 +66,15 @@ fn replay(b: &[u8]) {
     report(passed, failed + leftover(b, at, i));
 }
 
+// As much as the file may have, and more: one that is cut off ends within a record.
+fn file_buffer() -> [u8; 73728]
+    ensures { λ r. ⌜ 73728 ≡ length r ⌝ }
+{
+    [0; 73728]
+}
+
 fn main() {
-    let mut file = io::large_buffer();
+    let mut file = file_buffer();
     let fd = os::open_read(b"recorded.bin");
     if fd < 0 {
         os::fail(b"recorded.bin");

@@ -9,6 +9,8 @@ const LIST: u32 = 0xffff_ffff;
 
 const HALL: u32 = 0xffff_fffe;
 
+const WIDEN: u32 = 0xffff_fffd;
+
 fn number(b: &[u8], at: usize) -> usize
     requires { ⌜ at + 4 ≤ length (now b) ⌝ }
     ensures { λ r. ⌜ (r ≡ u32At (now (b .entry)) at) × (r < 4294967296) ⌝ }
@@ -37,7 +39,7 @@ fn expected(written: &[u8], i: usize, fill: u8) -> u8 {
     if i < written.len() { written[i] } else { fill }
 }
 
-// Whether the entries stand in the buffer, and every other byte is as before.
+// Whether what is written stands in the buffer, and every other byte is as before.
 fn is_left(out: &[u8], written: &[u8], fill: u8) -> bool {
     let mut same = written.len() <= out.len();
     let mut i: usize = 0;
@@ -54,6 +56,9 @@ fn call(catalogue: &[u8], fit: &[u8], result: u32, out: &mut [u8]) -> u64 {
     }
     if result == HALL {
         return fitcheck::fit_hall(catalogue, fit);
+    }
+    if result == WIDEN {
+        return fitcheck::fit_widen(catalogue, out);
     }
     fitcheck::fit_skill(catalogue, fit, result, out)
 }

@@ -15,8 +15,8 @@ const USAGE: &str = "\
 bench              all tables
 bench --svg FILE   and both curves of growth as a picture
 bench --call CASE TIMES
-                   the library's call of case a, b, c, C (full-size), d, e or f alone,
-                   for a profiler
+                   the library's call of case a, b, c, C (full-size), d, e, f or g
+                   alone, for a profiler
 ";
 
 /// How many fits of one shape take turns.
@@ -75,6 +75,7 @@ fn everything(picture: Option<&str>) {
     hangars(small);
     skills(small, full);
     hall(small, full);
+    widen();
     let by_pairs = grown_pairs(small);
     let by_part = grown_catalogue(&catalogues);
     if let Some(file) = picture {
@@ -167,6 +168,15 @@ fn hall(small: &Catalogue, full: &Catalogue) {
     }
 }
 
+fn widen() {
+    println!("## (g) Old catalogues widened, µs\n");
+    report::widen_head();
+    for (title, part) in [("small catalogue", SMALL), ("full-size catalogue", FULL)] {
+        report::widen_row(title, &subject::widen(&world::catalogue(part)));
+    }
+    println!();
+}
+
 fn grown_pairs(small: &Catalogue) -> Vec<List> {
     println!("## Growth with the pairs, small catalogue, µs\n");
     report::growth_head("pairs");
@@ -240,7 +250,7 @@ fn stacks() {
     println!("## Stack, bytes\n");
     println!("| call | stack | of 256 KiB |");
     println!("|---|---|---|");
-    for call in [Call::List, Call::Skill, Call::Hall] {
+    for call in [Call::List, Call::Skill, Call::Hall, Call::Widen] {
         let bytes = stack::measure(call);
         let share = bytes as f64 / stack::BUDGET as f64 * 100.0;
         println!("| {} | {bytes} | {share:.1} % |", call.name());
@@ -267,6 +277,14 @@ fn call(case: &str, times: usize) -> bool {
             let input = subject::hall_input(&of_shape(fits::REALISTIC, HALL));
             for _ in 0..times {
                 black_box(library.hall(black_box(&catalogue), &input));
+            }
+            return true;
+        }
+        "g" => {
+            let old = world::catalogue(FULL).old_image();
+            let mut new = vec![0; old.len() + old.len() / 3];
+            for _ in 0..times {
+                black_box(library.widen(black_box(&old), &mut new));
             }
             return true;
         }

@@ -1,6 +1,6 @@
 //! The figures as Markdown tables.
 
-use crate::subject::{Hall, List, Skill};
+use crate::subject::{Hall, List, Skill, Widen};
 
 /// Nanoseconds in microseconds.
 pub fn micros(nanos: f64) -> String {
@@ -115,6 +115,29 @@ pub fn hall_table(kind: &str, fits: usize, row: &Hall) {
     ] {
         println!("| {what} | {} | {} |", micros(time), ratio(row.hall / time));
     }
+}
+
+pub fn widen_head() {
+    println!(
+        "| | old, bytes | new, bytes | widen | copy | scan + copy | plain \
+         | widen ÷ copy | widen ÷ (scan + copy) | widen ÷ plain |"
+    );
+    println!("|---|---|---|---|---|---|---|---|---|---|");
+}
+
+pub fn widen_row(title: &str, row: &Widen) {
+    println!(
+        "| {title} | {} | {} | {} | {} | {} | {} | {} | {} | {} |",
+        row.old,
+        row.new,
+        micros(row.widen),
+        micros(row.copy),
+        micros(row.scan),
+        micros(row.plain),
+        ratio(row.widen / row.copy),
+        ratio(row.widen / row.scan),
+        ratio(row.widen / row.plain),
+    );
 }
 
 pub fn growth_head(across: &str) {

@@ -1,5 +1,6 @@
 //! The least reading that refusals 1 to 6 ask for, in plain Rust: every key,
-//! mark, flag, count and small field of both images, once each.
+//! mark, flag, count and small field of both images, once each; and the least
+//! work of a widening.
 //!
 //! No loop leaves early: faults are gathered with `|`, so that the compiler can
 //! take many numbers at once. It says whether the images are accepted, not
@@ -12,7 +13,7 @@ pub fn catalogue(image: &[u8]) -> bool {
     };
     let sizes = words(sizes);
     let [n, e, t, l, b] = [0, 1, 2, 3, 4].map(|block| unsigned(sizes[block]) as usize);
-    if image.len() > 16_777_216 || rest.len() != 8 * n + 8 * e + 20 * t + 8 * l + 12 * b {
+    if image.len() > 16_777_216 || rest.len() != 8 * n + 8 * e + 20 * t + 8 * l + 16 * b {
         return false;
     }
     let (names, rest) = rest.split_at(8 * n);
@@ -37,6 +38,25 @@ pub fn catalogue(image: &[u8]) -> bool {
             unsigned([row[8], row[9], row[10], row[11]]) > 1
         });
     disorder | above == 0
+}
+
+/// An old catalogue in the new form: all up to the base values copied, each of
+/// those converted. It judges nothing, and `out` is as long as the new form.
+pub fn widened(old: &[u8], out: &mut [u8]) {
+    let bases = unsigned(words(old)[4]) as usize;
+    let (front, values) = old.split_at(old.len() - 8 * bases);
+    let (copied, room) = out.split_at_mut(front.len());
+    copied.copy_from_slice(front);
+    let room = room.as_chunks_mut::<12>().0;
+    for (value, place) in values.as_chunks::<8>().0.iter().zip(room) {
+        let single = f32::from_le_bytes([value[4], value[5], value[6], value[7]]);
+        let bits = match single.is_nan() {
+            true => 0x7FF8_0000_0000_0000,
+            false => f64::from(single).to_bits(),
+        };
+        place[..4].copy_from_slice(&value[..4]);
+        place[4..].copy_from_slice(&bits.to_le_bytes());
+    }
 }
 
 /// Whether a fit is accepted.

@@ -25,10 +25,17 @@ pub enum Call {
     List,
     Skill,
     Hall,
+    Widen,
 }
 
 impl Call {
-    pub const ALL: [Call; 4] = [Call::Nothing, Call::List, Call::Skill, Call::Hall];
+    pub const ALL: [Call; 5] = [
+        Call::Nothing,
+        Call::List,
+        Call::Skill,
+        Call::Hall,
+        Call::Widen,
+    ];
 
     pub fn name(self) -> &'static str {
         match self {
@@ -36,6 +43,7 @@ impl Call {
             Call::List => "list",
             Call::Skill => "skill",
             Call::Hall => "hall",
+            Call::Widen => "widen",
         }
     }
 }
@@ -69,6 +77,12 @@ impl Prepared {
                     0,
                 )
             }
+            Call::Widen => {
+                let catalogue = world::catalogue(world::SMALL);
+                let room = catalogue.image().len();
+                let old = catalogue.old_image();
+                (catalogue, old, room)
+            }
             Call::Nothing => (Default::default(), Vec::new(), 0),
         };
         Prepared {
@@ -87,6 +101,7 @@ impl Prepared {
             Call::List => library.list(catalogue, input, &mut self.buffer),
             Call::Skill => library.skill(catalogue, input, 0, &mut self.buffer),
             Call::Hall => library.hall(catalogue, input),
+            Call::Widen => library.widen(input, &mut self.buffer),
             Call::Nothing => 0,
         };
         assert_eq!(word >> 32, 0, "the call is answered");

@@ -117,6 +117,21 @@ pub struct Hall {
     pub part: f64,
 }
 
+/// What the widening of a catalogue takes, and what it is held against.
+pub struct Widen {
+    /// Bytes of the old form and of the new one.
+    pub old: usize,
+    pub new: usize,
+    pub widen: f64,
+    /// As many bytes as the new form has, copied.
+    pub copy: f64,
+    /// The least reading that refusals 1 to 3 ask for, and that copy.
+    pub scan: f64,
+    /// The same in plain Rust: no refusal, all else copied and each value
+    /// converted.
+    pub plain: f64,
+}
+
 /// Goes through the fits in turn, so that no branch of either side learns one
 /// fit by heart.
 struct Turns<'a> {
@@ -411,6 +426,49 @@ pub fn hall(catalogue: &Catalogue, small: &Catalogue, fits: &[Fit]) -> Hall {
         small_lists,
         part: hashed.min(sorted),
     }
+}
+
+/// Times the widening of a catalogue's old form.
+pub fn widen(catalogue: &model::Catalogue) -> Widen {
+    let library = library();
+    let old = catalogue.old_image();
+    let new = agreed_widened(&*library, &old);
+    assert!(new == catalogue.image(), "bytes of the new form");
+    let [mut widened, mut copied, mut plain] = std::array::from_fn(|_| vec![0; new.len()]);
+    let [widen, copy, scan, plain] = medians(
+        ROUNDS,
+        [
+            &mut || {
+                black_box(library.widen(black_box(&old), &mut widened));
+            },
+            &mut || black_box(&mut copied).copy_from_slice(black_box(&new)),
+            &mut || {
+                black_box(scan::catalogue(black_box(&new)));
+            },
+            &mut || scan::widened(black_box(&old), black_box(&mut plain)),
+        ],
+    );
+    Widen {
+        old: old.len(),
+        new: new.len(),
+        widen,
+        copy,
+        scan: scan + copy,
+        plain,
+    }
+}
+
+/// The widened catalogue, byte by byte the same from the library, from
+/// document 02 in plain code, and from what is timed beside it.
+pub fn agreed_widened(library: &dyn Checker, old: &[u8]) -> Vec<u8> {
+    let expected = reference::widen(old).expect("the old catalogue is accepted");
+    let mut new = vec![0; expected.len()];
+    assert_eq!(library.widen(old, &mut new), new.len() as u64, "its length");
+    assert!(new == expected, "bytes of the library and of document 02");
+    let mut plain = vec![0; expected.len()];
+    scan::widened(old, &mut plain);
+    assert!(plain == expected, "bytes of what is timed beside it");
+    new
 }
 
 /// A hall input: the number of fits, their lengths, the fits end to end.

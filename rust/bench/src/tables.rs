@@ -6,6 +6,7 @@ use std::collections::HashMap;
 
 use compare::model::Catalogue;
 use compare::names;
+use compare::numbers::narrowed;
 use original::{Info, Vector, eve};
 
 /// A table's way to the value of a key.
@@ -139,7 +140,8 @@ where
         let bases = bases.map(|rows| {
             let values = rows
                 .iter()
-                .map(|row| eve::TypeDogmaAttribute::new(row.attribute, f32::from_bits(row.value)));
+                .map(|row| (row.attribute, f32::from_bits(narrowed(row.value))))
+                .map(|(attribute, value)| eve::TypeDogmaAttribute::new(attribute, value));
             (rows[0].type_id, values.collect())
         });
         Tables {

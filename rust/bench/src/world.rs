@@ -216,11 +216,8 @@ fn bases(positions: &[usize], count: usize, rng: &mut Rng) -> Vec<Base> {
                 rows[3 * row + 4] = (attribute(name + 1), (1 + wanted % 5) as f32);
             }
         }
-        bases.extend(rows.into_iter().map(|(attribute, value)| Base {
-            type_id: type_id(*position),
-            attribute,
-            value: value.to_bits(),
-        }));
+        let base = |(attribute, value)| Base::single(type_id(*position), attribute, value);
+        bases.extend(rows.into_iter().map(base));
     }
     bases
 }
@@ -258,11 +255,8 @@ pub fn chain(length: usize, width: usize) -> Catalogue {
             rows[middle] = (attribute(REQUIRED), skill(number + 1) as f32);
             rows[middle + 1] = (attribute(REQUIRED + 1), 5.0);
         }
-        bases.extend(rows.into_iter().map(|(attribute, value)| Base {
-            type_id: skill(number),
-            attribute,
-            value: value.to_bits(),
-        }));
+        let base = |(attribute, value)| Base::single(skill(number), attribute, value);
+        bases.extend(rows.into_iter().map(base));
     }
     Catalogue {
         names: all_names(),
@@ -284,6 +278,8 @@ mod tests {
         assert_eq!(full.types.len(), 48_000);
         assert_eq!(full.links.len(), 50_000);
         assert_eq!(full.bases.len(), 600_000);
+        assert_eq!(full.image().len(), 10_988_724);
+        assert_eq!(full.old_image().len(), 8_588_724);
     }
 
     #[test]

@@ -1,7 +1,9 @@
 //! What is timed gives the same bytes on both sides.
 
 use bench::fits::{self, LARGEST, REALISTIC};
-use bench::subject::{self, Catalogue, Fit, agreed_hall, agreed_list, agreed_skills};
+use bench::subject::{
+    self, Catalogue, Fit, agreed_hall, agreed_list, agreed_skills, agreed_widened,
+};
 use bench::world::{self, SMALL};
 use compare::checker::Checker;
 
@@ -37,7 +39,15 @@ fn halls_agree() {
     assert!(agreed_hall(&*subject::library(), &catalogue, &fits) > 0);
 }
 
-/// A library whose second entry names another pair.
+#[test]
+fn widened_catalogues_agree_byte_by_byte() {
+    let catalogue = world::catalogue(SMALL);
+    let new = agreed_widened(&*subject::library(), &catalogue.old_image());
+    assert!(new == catalogue.image());
+}
+
+/// A library whose second entry names another pair, or whose widened catalogue
+/// has another byte.
 struct OneByteOff;
 
 impl Checker for OneByteOff {
@@ -54,6 +64,12 @@ impl Checker for OneByteOff {
     fn hall(&self, _: &[u8], _: &[u8]) -> u64 {
         unreachable!("no hall is asked for")
     }
+
+    fn widen(&self, old: &[u8], out: &mut [u8]) -> u64 {
+        let word = subject::library().widen(old, out);
+        out[28] ^= 1;
+        word
+    }
 }
 
 #[test]
@@ -62,4 +78,10 @@ fn one_byte_that_differs_stops_the_benchmark() {
     let catalogue = Catalogue::new(&world::catalogue(SMALL));
     let fit = Fit::new(&fits::fit(LARGEST, 1));
     agreed_list(&OneByteOff, &catalogue, &fit);
+}
+
+#[test]
+#[should_panic(expected = "bytes of the library and of document 02")]
+fn one_byte_of_a_widened_catalogue_that_differs_stops_it_too() {
+    agreed_widened(&OneByteOff, &world::catalogue(SMALL).old_image());
 }

@@ -1,4 +1,4 @@
-//! The stack and the heap of the three calls.
+//! The stack and the heap of the calls.
 
 #[path = "../../fitcheck/library.rs"]
 #[allow(dead_code)]
@@ -31,6 +31,11 @@ fn the_skill_call_fits_the_stack_budget() {
 #[test]
 fn the_hall_call_fits_the_stack_budget() {
     fits_the_budget(Call::Hall);
+}
+
+#[test]
+fn the_widening_fits_the_stack_budget() {
+    fits_the_budget(Call::Widen);
 }
 
 #[test]

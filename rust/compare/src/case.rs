@@ -36,6 +36,12 @@ pub enum Ask {
     GrownList,
     /// The same for the skills of one old result.
     GrownSkill(u32),
+    /// The catalogue's old form, widened.
+    Widen(Room),
+    /// The list under the widened catalogue, beside the one under the old.
+    WidenedList,
+    /// The same for the skills of one result.
+    WidenedSkill(u32),
 }
 
 /// A list call, or the skill call of a result, with the buffer that it is lent.
@@ -49,23 +55,23 @@ pub struct Lists {
 #[derive(Clone, Copy, Debug, PartialEq, Eq, PartialOrd, Ord)]
 pub enum Room {
     Empty,
-    /// One byte less than the entries take.
+    /// One byte less than what is written takes.
     OneShort,
     Exact,
-    /// So many bytes more than the entries take.
+    /// So many bytes more than what is written takes.
     Longer(usize),
-    /// So many bytes, whatever the entries take.
+    /// So many bytes, whatever is written.
     Of(usize),
 }
 
 impl Room {
-    /// The length for so many bytes of entries.
-    pub fn length(self, entries: usize) -> usize {
+    /// The length for so many bytes that are written.
+    pub fn length(self, written: usize) -> usize {
         match self {
             Room::Empty => 0,
-            Room::OneShort => entries.saturating_sub(1),
-            Room::Exact => entries,
-            Room::Longer(more) => entries + more,
+            Room::OneShort => written.saturating_sub(1),
+            Room::Exact => written,
+            Room::Longer(more) => written + more,
             Room::Of(length) => length,
         }
     }
@@ -115,7 +121,7 @@ mod tests {
     use super::*;
 
     #[test]
-    fn room_follows_the_entries() {
+    fn room_follows_what_is_written() {
         assert_eq!(Room::Empty.length(48), 0);
         assert_eq!(Room::OneShort.length(48), 47);
         assert_eq!(Room::Exact.length(48), 48);

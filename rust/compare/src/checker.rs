@@ -1,7 +1,7 @@
-//! What a checker is: document 01's three calls over raw slices, and the word
-//! that each of them returns.
+//! What a checker is: the calls of documents 01 and 02 over raw slices, and the
+//! word that each of them returns.
 
-/// The three calls. Each returns the refusal number (0 where answered) times
+/// The calls. Each returns the refusal number (0 where answered) times
 /// 4,294,967,296 plus the count (0 where refused).
 pub trait Checker: Sync {
     /// The list of a fit's violations, written from byte 0 of `out`.
@@ -12,6 +12,10 @@ pub trait Checker: Sync {
 
     /// The numbers of clear, faulted and refused fits; no buffer is lent.
     fn hall(&self, catalogue: &[u8], input: &[u8]) -> u64;
+
+    /// An old catalogue in the new form, written from byte 0 of `out`; its
+    /// bytes are counted.
+    fn widen(&self, old: &[u8], out: &mut [u8]) -> u64;
 }
 
 /// Bytes of one entry.

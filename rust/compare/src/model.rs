@@ -3,6 +3,8 @@
 //! A model may be malformed on purpose: nothing here sorts, limits or checks.
 //! [`Damage`] breaks the bytes of an image after it is laid out.
 
+use crate::numbers::{narrowed, widened};
+
 /// A catalogue's five blocks, each as rows.
 #[derive(Clone, Debug, Default, PartialEq)]
 pub struct Catalogue {
@@ -46,8 +48,19 @@ pub struct Link {
 pub struct Base {
     pub type_id: i32,
     pub attribute: i32,
-    /// Bits of the f32.
-    pub value: u32,
+    /// Bits of the f64.
+    pub value: u64,
+}
+
+impl Base {
+    /// A value that an f32 is.
+    pub fn single(type_id: i32, attribute: i32, value: f32) -> Base {
+        Base {
+            type_id,
+            attribute,
+            value: widened(value.to_bits()),
+        }
+    }
 }
 
 /// A fit: its ship, skills and items, and what it calculated to.
@@ -133,6 +146,16 @@ fn put_signed(image: &mut Vec<u8>, number: i32) {
 impl Catalogue {
     /// The image: sizes, then five blocks of all keys and all values.
     pub fn image(&self) -> Vec<u8> {
+        self.laid_out(|image, bits| image.extend(bits.to_le_bytes()))
+    }
+
+    /// The image in the form that document 02 widens, where a base value is an
+    /// f32.
+    pub fn old_image(&self) -> Vec<u8> {
+        self.laid_out(|image, bits| put(image, narrowed(bits)))
+    }
+
+    fn laid_out(&self, put_value: impl Fn(&mut Vec<u8>, u64)) -> Vec<u8> {
         let rows = [
             self.names.len(),
             self.effects.len(),
@@ -176,7 +199,7 @@ impl Catalogue {
         }
         for row in &self.bases {
             put_signed(&mut image, row.attribute);
-            put(&mut image, row.value);
+            put_value(&mut image, row.value);
         }
         self.damage.apply(&mut image);
         image
@@ -307,6 +330,10 @@ mod tests {
         };
         assert_eq!(
             catalogue.image().len(),
+            20 + 8 + 8 * 2 + 20 * 3 + 8 * 4 + 16 * 5
+        );
+        assert_eq!(
+            catalogue.old_image().len(),
             20 + 8 + 8 * 2 + 20 * 3 + 8 * 4 + 12 * 5
         );
 
@@ -350,5 +377,19 @@ mod tests {
             .map(|bytes| u32::from_le_bytes([bytes[0], bytes[1], bytes[2], bytes[3]]))
             .collect();
         assert_eq!(words, [1, 6, 2, 3, 1, 5, 7, 8, 0, 9]);
+    }
+
+    #[test]
+    fn a_base_value_is_an_f64_and_was_an_f32() {
+        let catalogue = Catalogue {
+            bases: vec![Base::single(7, 9, 1.5)],
+            ..Catalogue::default()
+        };
+        let sizes = [0, 0, 0, 0, 0, 0, 0, 0, 0, 0, 0, 0, 0, 0, 0, 0, 1, 0, 0, 0];
+        let ids = [7, 0, 0, 0, 9, 0, 0, 0];
+        let new = [&sizes[..], &ids, &[0, 0, 0, 0, 0, 0, 0xF8, 0x3F]].concat();
+        assert_eq!(catalogue.image(), new);
+        let old = [&sizes[..], &ids, &[0, 0, 0xC0, 0x3F]].concat();
+        assert_eq!(catalogue.old_image(), old);
     }
 }

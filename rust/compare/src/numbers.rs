@@ -52,6 +52,33 @@ pub const FUSED_DIFFERS: [u64; 4] = [
     0x4085_04ED_F086_0900,
 ];
 
+/// The bits of an f32 as those of the f64 that is the same number. A NaN keeps
+/// its sign, its payload in the upper bits, and whether it signals.
+pub fn widened(single: u32) -> u64 {
+    let value = f32::from_bits(single);
+    if value.is_nan() {
+        let sign = u64::from(single >> 31) << 63;
+        return sign | 0x7FF0_0000_0000_0000 | u64::from(single & 0x007F_FFFF) << 29;
+    }
+    f64::from(value).to_bits()
+}
+
+/// The bits of the nearest f32; those of a NaN lead back to it.
+pub fn narrowed(bits: u64) -> u32 {
+    let value = f64::from_bits(bits);
+    if value.is_nan() {
+        let sign = (bits >> 63) as u32;
+        let payload = (bits >> 29) as u32 & 0x007F_FFFF;
+        return sign << 31 | 0x7F80_0000 | payload.max(1);
+    }
+    (value as f32).to_bits()
+}
+
+/// Whether an f64 is a number that no f32 is.
+pub fn is_fine(value: f64) -> bool {
+    !value.is_nan() && f64::from(value as f32) != value
+}
+
 /// A range that a cast stops at.
 #[derive(Clone, Copy, Debug, PartialEq, Eq, PartialOrd, Ord)]
 pub enum Width {
@@ -156,6 +183,30 @@ mod tests {
         for bits in FUSED_DIFFERS {
             let available = f64::from_bits(bits);
             assert_ne!(available.abs().mul_add(1e-9, available), limit(available));
+        }
+    }
+
+    #[test]
+    fn every_kind_of_f32_widens_and_comes_back() {
+        for single in ODD_SINGLE {
+            let wide = f64::from_bits(widened(single));
+            assert_eq!(narrowed(widened(single)), single, "{single:#010x}");
+            assert_eq!(wide.is_nan(), f32::from_bits(single).is_nan());
+            assert!(!is_fine(wide));
+        }
+        assert_eq!(widened(0x0000_0001), 0x36A0_0000_0000_0000);
+        assert_eq!(widened(0x8000_0000), 0x8000_0000_0000_0000);
+        assert_eq!(widened(0xFF80_0000), 0xFFF0_0000_0000_0000);
+        assert_eq!(widened(0x7F80_0001), 0x7FF0_0000_2000_0000);
+    }
+
+    #[test]
+    fn finer_than_an_f32() {
+        for value in [0.1, 16_777_217.0, 1e300, 5e-324, 2f64.next_down()] {
+            assert!(is_fine(value), "{value}");
+        }
+        for value in [0.0, -0.0, 0.5, 16_777_218.0, f64::INFINITY, f64::NAN] {
+            assert!(!is_fine(value), "{value}");
         }
     }
 

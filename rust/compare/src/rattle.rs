@@ -1,4 +1,4 @@
-//! The Rattle library behind the three calls, where it was there to link.
+//! The Rattle library behind the calls, where it was there to link.
 
 use crate::checker::Checker;
 
@@ -48,6 +48,10 @@ mod linked {
 
         fn hall(&self, catalogue: &[u8], input: &[u8]) -> u64 {
             exported::hall(catalogue, input)
+        }
+
+        fn widen(&self, old: &[u8], out: &mut [u8]) -> u64 {
+            exported::widen(old, out)
         }
     }
 }

@@ -9,7 +9,7 @@ use crate::case::{Ask, Case, Room, rank};
 use crate::cases;
 use crate::checker::{Checker, ENTRY};
 use crate::fixed;
-use crate::model::hall_image;
+use crate::model::{Fit, hall_image};
 use crate::reference::Original;
 use crate::run::run;
 use crate::tally::{Point, Tally};
@@ -18,67 +18,74 @@ use crate::tally::{Point, Tally};
 pub const LIST: u32 = 0xFFFF_FFFF;
 /// The result number that stands for the hall call.
 pub const HALL: u32 = 0xFFFF_FFFE;
+/// The result number that stands for the widening of a catalogue.
+pub const WIDEN: u32 = 0xFFFF_FFFD;
 
 /// The most bytes that the file may have.
-pub const MOST: usize = 60_000;
+pub const MOST: usize = 72_000;
 
 /// A record over this is taken only where nothing smaller meets its point.
 const SMALL: usize = 1_700;
 
 /// The most bytes of a record with a walk of 512 skills or more.
-const LONG_WALK: usize = 6_400;
+const LONG_WALK: usize = 8_600;
 
 /// One call and the original's answer to it.
 #[derive(Clone, Debug, PartialEq)]
 pub struct Record {
+    /// The catalogue; of the old form for a widening.
     pub catalogue: Vec<u8>,
-    /// The fit, or the hall input.
+    /// The fit, or the hall input; nothing for a widening.
     pub fit: Vec<u8>,
     pub result: u32,
     pub room: u32,
     pub word: u64,
-    /// The entries' bytes.
+    /// The entries' bytes, or the widened catalogue's.
     pub written: Vec<u8>,
 }
 
 impl Record {
     /// The original's answer to one call of a case.
     fn of(case: &Case, ask: Ask) -> Option<Record> {
-        let catalogue = case.catalogue.image();
+        let image = |fit: &Fit| fit.image();
         let (fit, result, room) = match ask {
             Ask::Hall => (hall_image(&case.fits, &case.frame), HALL, None),
-            Ask::List(room) => (case.fits[0].image(), LIST, Some(room)),
-            // The two highest numbers stand for the other calls.
-            Ask::Skill(result, _) if result >= HALL => return None,
-            Ask::Skill(result, room) => (case.fits[0].image(), result, Some(room)),
+            Ask::List(room) => (image(&case.fits[0]), LIST, Some(room)),
+            // The highest numbers stand for the other calls.
+            Ask::Skill(result, _) if result >= WIDEN => return None,
+            Ask::Skill(result, room) => (image(&case.fits[0]), result, Some(room)),
+            Ask::Widen(room) => (Vec::new(), WIDEN, Some(room)),
             Ask::GrownList | Ask::GrownSkill(_) => return None,
+            Ask::WidenedList | Ask::WidenedSkill(_) => return None,
+        };
+        let catalogue = match ask {
+            Ask::Widen(_) => case.catalogue.old_image(),
+            _ => case.catalogue.image(),
         };
         let call = |out: &mut [u8]| match ask {
             Ask::Hall => Original.hall(&catalogue, &fit),
             Ask::List(_) => Original.list(&catalogue, &fit, out),
+            Ask::Widen(_) => Original.widen(&catalogue, out),
             _ => Original.skill(&catalogue, &fit, result, out),
         };
-        // Room for every entry there can be, to learn how many there are.
-        let mut all = vec![0; ENTRY * 8_192];
-        let word = call(&mut all);
-        let entries = if ask == Ask::Hall || word >> 32 != 0 {
-            0
-        } else {
-            word as usize
+        // The bytes that an answered call writes, by its word.
+        let written = |word: u64| match ask {
+            _ if word >> 32 != 0 => 0,
+            Ask::Hall => 0,
+            Ask::Widen(_) => word as usize,
+            _ => ENTRY * word as usize,
         };
+        // Room for all that there can be, to learn how much it is.
+        let mut all = vec![0; (ENTRY * 8_192).max(2 * catalogue.len())];
+        let word = call(&mut all);
         let length = match room {
-            Some(room) if word >> 32 == 0 => room.length(ENTRY * entries),
+            Some(room) if word >> 32 == 0 => room.length(written(word)),
             Some(room) => room.length(2 * ENTRY).min(2 * ENTRY),
             None => 0,
         };
         let mut out = vec![0; length];
         let word = call(&mut out);
-        let count = if ask == Ask::Hall || word >> 32 != 0 {
-            0
-        } else {
-            word as usize
-        };
-        out.truncate(ENTRY * count);
+        out.truncate(written(word));
         Some(Record {
             catalogue,
             fit,
@@ -189,7 +196,7 @@ impl Sample {
 fn is_exact(ask: &Ask) -> bool {
     matches!(
         ask,
-        Ask::List(Room::Exact) | Ask::Skill(_, Room::Exact) | Ask::Hall
+        Ask::List(Room::Exact) | Ask::Skill(_, Room::Exact) | Ask::Widen(Room::Exact) | Ask::Hall
     )
 }
 

@@ -91,7 +91,7 @@ impl Small<'_> {
     fn calls(&mut self) {
         for room in [Room::Exact, Room::Longer(24)] {
             self.change(|case| match &mut case.asks[0] {
-                Ask::List(held) | Ask::Skill(_, held) => *held = room,
+                Ask::List(held) | Ask::Skill(_, held) | Ask::Widen(held) => *held = room,
                 _ => {}
             });
         }
@@ -136,7 +136,9 @@ impl Small<'_> {
                 fit.items.remove(place);
                 fit.results.remove(place);
                 for ask in &mut case.asks {
-                    if let Ask::Skill(result, _) | Ask::GrownSkill(result) = ask
+                    if let Ask::Skill(result, _)
+                    | Ask::GrownSkill(result)
+                    | Ask::WidenedSkill(result) = ask
                         && *result as usize > place + 2
                     {
                         *result -= 1;

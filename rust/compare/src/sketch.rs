@@ -122,7 +122,12 @@ impl Sketch {
     }
 
     /// Gives a type a base value under a name.
-    pub fn base(mut self, type_id: i32, name: usize, value: f32) -> Sketch {
+    pub fn base(self, type_id: i32, name: usize, value: f32) -> Sketch {
+        self.fine(type_id, name, f64::from(value))
+    }
+
+    /// A base value that may be finer than an f32.
+    pub fn fine(mut self, type_id: i32, name: usize, value: f64) -> Sketch {
         self = self.name(name);
         self.catalogue.bases.push(Base {
             type_id,

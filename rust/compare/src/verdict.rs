@@ -76,6 +76,34 @@ pub fn compare(expected: &Expected, word: u64, out: &Guarded) -> Result<(), Stri
     Ok(())
 }
 
+/// The word of a widening and every byte of the buffer.
+pub fn compare_wide(expected: (u64, &[u8]), word: u64, out: &Guarded) -> Result<(), String> {
+    let (deserved, new) = expected;
+    if !out.guards_hold() {
+        return Err("the checker wrote beside the buffer".to_string());
+    }
+    if word != deserved {
+        return Err(format!(
+            "document 02 makes it {}, the checker {}",
+            in_words(deserved),
+            in_words(word)
+        ));
+    }
+    let given = &out.bytes()[..new.len()];
+    if let Some(place) = (0..new.len()).find(|place| given[*place] != new[*place]) {
+        return Err(format!(
+            "byte {place} of the new catalogue is {:#04x} by document 02, {:#04x} by the checker",
+            new[place], given[place]
+        ));
+    }
+    match out.first_written(new.len()) {
+        Some(place) => Err(format!(
+            "byte {place} of the buffer was written; the new catalogue ends before it"
+        )),
+        None => Ok(()),
+    }
+}
+
 /// Whether two Resource entries differ in the sign of a zero `used` alone.
 fn differs_in_zero(entry: &Entry, given: &[u8]) -> bool {
     let mut flipped = *entry;

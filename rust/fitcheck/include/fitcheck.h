@@ -53,9 +53,16 @@ uint64_t fit_skill(const uint8_t *catalogue, size_t catalogue_length,
 uint64_t fit_hall(const uint8_t *catalogue, size_t catalogue_length,
                   const uint8_t *input, size_t input_length);
 
+/* An old catalogue, whose base values are f32, in the new form: its bytes stand
+ * from the beginning of `out`, and the count is how many they are. Refusals 1 to
+ * 3 are about the old form; what is written may be longer than a catalogue may
+ * be. */
+uint64_t fit_widen(const uint8_t *old, size_t old_length,
+                   uint8_t *out, size_t out_length);
+
 /* The number of this set of calls and images, which its name has too: a
  * library of another set does not link with a program that asks for this. */
-uint64_t fit_interface_1(void);
+uint64_t fit_interface_2(void);
 
 #ifdef __cplusplus
 }

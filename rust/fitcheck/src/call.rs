@@ -1,11 +1,11 @@
-//! The three calls over slices.
+//! The calls over slices.
 
 use std::fmt;
 use std::ops::AddAssign;
 
 use crate::{
-    ENTRY_BYTES, Entry, FIT_BYTES, FITS_PER_CALL, FitImage, ListOptions, MOST_ENTRIES, MOST_SKILLS,
-    Refusal, SkillOptions, Unpaired, exported,
+    CATALOGUE_BYTES, ENTRY_BYTES, Entry, FIT_BYTES, FITS_PER_CALL, FitImage, ListOptions,
+    MOST_ENTRIES, MOST_SKILLS, Refusal, SkillOptions, Unpaired, exported,
 };
 
 /// How many entries the first try has room for; few fits break more rules.
@@ -327,6 +327,48 @@ pub fn verdicts(catalogue: &[u8], fits: &[&[u8]]) -> Result<Vec<Verdict>, Refusa
             Err(other) => Err(other),
         })
         .collect()
+}
+
+/// An old catalogue in the form of today. Catalogues had base values of f32
+/// once, 12 bytes a base; these are widened to f64 exactly, every NaN becomes
+/// one, and all else is copied.
+///
+/// Lists and skill lists under the new catalogue are those under the old one
+/// (that is proved), where it has at most [`CATALOGUE_BYTES`]. A longer one is
+/// made all the same, and the other calls refuse it by 1.
+///
+/// # Errors
+///
+/// The refusal of 1 to 3 that the old form deserves. A catalogue of today's
+/// form is an old one only where it has no bases; else it is
+/// [`Refusal::CatalogueLength`] here.
+///
+/// ```
+/// use fitcheck::Refusal;
+///
+/// // One base: type 3302 starts with 1.5 under attribute 182.
+/// let mut old = vec![0; 16];
+/// old.extend([1u32, 3302, 182].iter().flat_map(|word| word.to_le_bytes()));
+/// old.extend(1.5f32.to_le_bytes());
+/// let new = fitcheck::widen(&old)?;
+/// assert_eq!(new[..28], old[..28]);
+/// assert_eq!(new[28..], 1.5f64.to_le_bytes());
+///
+/// assert_eq!(fitcheck::widen(&new), Err(Refusal::CatalogueLength));
+/// # Ok::<(), Refusal>(())
+/// ```
+pub fn widen(old: &[u8]) -> Result<Vec<u8>, Refusal> {
+    // A base takes four bytes more, and had 12; what is longer than a
+    // catalogue may be is refused whatever the buffer.
+    let longest = old.len().min(CATALOGUE_BYTES);
+    let mut new = vec![0; longest + longest / 3];
+    let word = exported::widen(old, &mut new);
+    let count = Refusal::or_count(word)? as usize;
+    if count > new.len() {
+        return Err(Refusal::Unexpected { word });
+    }
+    new.truncate(count);
+    Ok(new)
 }
 
 /// The entries' bytes of a call whose buffer grows where 10 comes: first a

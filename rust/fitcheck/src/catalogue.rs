@@ -22,7 +22,7 @@ use crate::{Attribute, BuildError, CATALOGUE_BYTES, Mark};
 ///     .link(484, 12)
 ///     .base(587, 14, 4.0);
 /// let image = builder.build()?;
-/// assert_eq!(image.len(), 20 + 8 + 8 + 2 * 20 + 8 + 12);
+/// assert_eq!(image.len(), 20 + 8 + 8 + 2 * 20 + 8 + 16);
 ///
 /// builder.type_info(587, 26, 6, None);
 /// assert_eq!(builder.build(), Err(BuildError::DuplicateType { type_id: 587 }));
@@ -88,23 +88,16 @@ impl CatalogueBuilder {
 
     /// Gives a type a base value, behind those it has.
     ///
-    /// The image stores an f32 today. A value that no f32 is stays out: `build`
-    /// answers with [`BuildError::BaseValue`], so that nothing is rounded
-    /// behind the caller's back. Where rounding is meant, as in data that was
-    /// f32 to begin with, give `f64::from(value as f32)`. Every NaN is stored
-    /// as one; no call tells them apart.
+    /// The image stores the f64 as it is, and every NaN as one: no call tells
+    /// them apart. Data that was f32 to begin with, as the game's, is given by
+    /// `f64::from(value)`.
     ///
     /// ```
     /// use fitcheck::CatalogueBuilder;
     ///
-    /// let mut builder = CatalogueBuilder::new();
-    /// assert!(builder.base(3302, 277, 0.5).build().is_ok());
-    /// let wrong = builder.base(3302, 182, 16_777_217.0).build().unwrap_err();
-    /// assert_eq!(
-    ///     wrong.to_string(),
-    ///     "base value 16777217 of attribute 182 of type 3302: the image stores f32, and the \
-    ///      nearest is 16777216",
-    /// );
+    /// let image = CatalogueBuilder::new().base(3302, 182, 16_777_217.0).build()?;
+    /// assert_eq!(image[image.len() - 8..], 16_777_217f64.to_le_bytes());
+    /// # Ok::<(), fitcheck::BuildError>(())
     /// ```
     pub fn base(&mut self, type_id: i32, attribute_id: i32, value: f64) -> &mut Self {
         self.bases.push((type_id, (attribute_id, value)));
@@ -140,7 +133,7 @@ impl CatalogueBuilder {
             + 8 * self.effects.len()
             + 20 * self.types.len()
             + 8 * self.links.len()
-            + 12 * self.bases.len()
+            + 16 * self.bases.len()
     }
 
     /// The image.
@@ -148,8 +141,8 @@ impl CatalogueBuilder {
     /// # Errors
     ///
     /// [`BuildError::DuplicateName`], [`BuildError::DuplicateEffect`],
-    /// [`BuildError::DuplicateType`], [`BuildError::BaseValue`], or
-    /// [`BuildError::CatalogueTooLong`] beyond [`CATALOGUE_BYTES`].
+    /// [`BuildError::DuplicateType`], or [`BuildError::CatalogueTooLong`] beyond
+    /// [`CATALOGUE_BYTES`].
     pub fn build(&self) -> Result<Vec<u8>, BuildError> {
         let bytes = self.length();
         if bytes > CATALOGUE_BYTES {
@@ -171,12 +164,12 @@ impl CatalogueBuilder {
         if let Some(type_id) = twice(&rows.types) {
             return Err(BuildError::DuplicateType { type_id });
         }
-        rows.laid_out()
+        Ok(rows.laid_out())
     }
 
     /// The image of rows that are in order: sizes, then the five blocks, each
     /// all keys and then all values.
-    fn laid_out(&self) -> Result<Vec<u8>, BuildError> {
+    fn laid_out(&self) -> Vec<u8> {
         let mut image = Vec::with_capacity(self.length());
         for rows in [
             self.names.len(),
@@ -199,16 +192,12 @@ impl CatalogueBuilder {
         keys(&mut image, &self.links);
         image.extend(self.links.iter().flat_map(|row| row.1.to_le_bytes()));
         keys(&mut image, &self.bases);
-        for (type_id, (attribute_id, value)) in &self.bases {
+        for (_, (attribute_id, value)) in &self.bases {
             image.extend(attribute_id.to_le_bytes());
-            let stored = exact(*value).ok_or(BuildError::BaseValue {
-                type_id: *type_id,
-                attribute_id: *attribute_id,
-                value: *value,
-            })?;
-            image.extend(stored.to_le_bytes());
+            let bits = if value.is_nan() { NAN } else { value.to_bits() };
+            image.extend(bits.to_le_bytes());
         }
-        Ok(image)
+        image
     }
 }
 
@@ -221,11 +210,8 @@ impl TypeInfo {
     }
 }
 
-/// The f32 that is this number, if one is.
-fn exact(value: f64) -> Option<f32> {
-    let stored = value as f32;
-    (value.is_nan() || f64::from(stored).to_bits() == value.to_bits()).then_some(stored)
-}
+/// The one NaN that is stored, as the library writes it.
+const NAN: u64 = 0x7FF8_0000_0000_0000;
 
 /// The rows by key; those of equal key stay in their order.
 fn sorted<K: Ord + Copy, V: Copy>(rows: &[(K, V)]) -> Vec<(K, V)> {

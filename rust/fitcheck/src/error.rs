@@ -24,15 +24,6 @@ pub enum BuildError {
         /// Its id.
         type_id: i32,
     },
-    /// A base value that no f32 is, and the image stores f32.
-    BaseValue {
-        /// The type that has it.
-        type_id: i32,
-        /// The attribute.
-        attribute_id: i32,
-        /// The value.
-        value: f64,
-    },
     /// The catalogue is longer than the checker takes.
     CatalogueTooLong {
         /// How long it would be.
@@ -122,16 +113,6 @@ impl fmt::Display for BuildError {
             BuildError::DuplicateType { type_id } => {
                 write!(formatter, "type id {type_id} stands twice")
             }
-            BuildError::BaseValue {
-                type_id,
-                attribute_id,
-                value,
-            } => write!(
-                formatter,
-                "base value {value} of attribute {attribute_id} of type {type_id}: the image \
-                 stores f32, and the nearest is {}",
-                f64::from(*value as f32)
-            ),
             BuildError::CatalogueTooLong { bytes } => write!(
                 formatter,
                 "the catalogue has {bytes} bytes: the most is {}",

@@ -10,7 +10,7 @@ unsafe extern "C" {
     // of other parameters apart, so whoever makes a call needs this symbol too.
     // It is raised here, in include/fitcheck.h for C, and in the Rattle source,
     // crates/fitcheck/src/lib.rt, at the same time.
-    #[link_name = "fit_interface_1"]
+    #[link_name = "fit_interface_2"]
     fn fit_interface() -> u64;
 
     fn fit_list(
@@ -38,6 +38,8 @@ unsafe extern "C" {
         input: *const u8,
         input_length: usize,
     ) -> u64;
+
+    fn fit_widen(old: *const u8, old_length: usize, out: *mut u8, out_length: usize) -> u64;
 }
 
 /// The number of the interface, as the linked library says it.
@@ -104,4 +106,11 @@ pub fn hall(catalogue: &[u8], input: &[u8]) -> u64 {
             input.len(),
         )
     }
+}
+
+/// The widening of an old catalogue; returns its word.
+pub fn widen(old: &[u8], out: &mut [u8]) -> u64 {
+    linked();
+    // SAFETY: as in `list`.
+    unsafe { fit_widen(old.as_ptr(), old.len(), out.as_mut_ptr(), out.len()) }
 }

@@ -29,7 +29,7 @@ impl<'a> CatalogueImage<'a> {
     /// what its sizes make it.
     pub fn new(image: &'a [u8]) -> Option<CatalogueImage<'a>> {
         let mut length = 20;
-        for (block, width) in [8, 8, 20, 8, 12].into_iter().enumerate() {
+        for (block, width) in [8, 8, 20, 8, 16].into_iter().enumerate() {
             // Five products of 32 bits with less than 6 are far below 64.
             length += u64::from(word(image, 4 * block)?) * width;
         }

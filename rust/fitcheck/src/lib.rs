@@ -13,7 +13,8 @@
 //! - [`Explainer`], which says each entry in a sentence that a pilot
 //!   understands;
 //! - [`CatalogueBuilder`] and [`FitBuilder`], whose images are always well
-//!   formed: none is refused by 1 to 6.
+//!   formed: none is refused by 1 to 6;
+//! - [`widen`], which makes a catalogue of today's form of an old one.
 //!
 //! ```
 //! use fitcheck::{
@@ -101,7 +102,7 @@ mod type_data;
 mod unpaired;
 
 pub use attribute::Attribute;
-pub use call::{Hall, Verdict, hall, list, list_into, skills, skills_into, verdicts};
+pub use call::{Hall, Verdict, hall, list, list_into, skills, skills_into, verdicts, widen};
 pub use catalogue::CatalogueBuilder;
 pub use entry::Entry;
 pub use error::{BuildError, FitPart};

@@ -36,7 +36,8 @@ pub enum Refusal {
     NoSuchResult,
     /// 9: a result wants more than 512 skills.
     WantedSkills,
-    /// 10: the entries do not fit into the buffer.
+    /// 10: the entries, or what else is to be written, do not fit into the
+    /// buffer.
     BufferLength,
     /// The library returned a word that document 01 does not have. It never
     /// does; this stands here so that nothing can panic or be misread.
@@ -134,7 +135,7 @@ impl fmt::Display for Refusal {
             }
             Refusal::NoSuchResult => "the fit has no result of that number",
             Refusal::WantedSkills => "the result wants more than 512 skills",
-            Refusal::BufferLength => "the buffer is shorter than 24 bytes for each entry",
+            Refusal::BufferLength => "the buffer is shorter than what is to be written",
             Refusal::Unexpected { word } => {
                 return write!(
                     formatter,

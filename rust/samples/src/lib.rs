@@ -57,6 +57,29 @@ pub fn images(sample: &str) -> Result<Images, String> {
     Ok(Images { types, fit })
 }
 
+/// The folder of the catalogue in the form before base values were f64.
+pub const OLD: &str = "old";
+
+/// The old form of a catalogue whose base values are all f32.
+pub fn old_form(new: &[u8]) -> Result<Vec<u8>, String> {
+    let size = new.get(16..20).and_then(|bytes| bytes.try_into().ok());
+    let bases = u32::from_le_bytes(size.ok_or("no sizes")?) as usize;
+    let front = new.len().checked_sub(12 * bases);
+    let (front, values) = new.split_at(front.ok_or("too short for its bases")?);
+    let mut old = front.to_vec();
+    for value in values.chunks_exact(12) {
+        let (attribute, value) = value.split_at(4);
+        let value = f64::from_le_bytes(value.try_into().expect("eight bytes"));
+        let single = value as f32;
+        if f64::from(single).to_bits() != value.to_bits() {
+            return Err(format!("the base value {value} is no f32"));
+        }
+        old.extend(attribute);
+        old.extend(single.to_le_bytes());
+    }
+    Ok(old)
+}
+
 /// What document 01's program prints of a checker's list call.
 pub fn printed(checker: &dyn Checker, images: &Images) -> String {
     let mut out = vec![0; LENT];

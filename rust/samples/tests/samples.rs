@@ -3,8 +3,8 @@
 
 use std::fs;
 
-use compare::reference::Original;
-use samples::{SAMPLES, folder, images, printed, text, types};
+use compare::reference::{self, Original};
+use samples::{OLD, SAMPLES, folder, images, old_form, printed, text, types};
 
 #[test]
 fn the_bytes_are_made_from_the_descriptions() {
@@ -20,6 +20,20 @@ fn the_bytes_are_made_from_the_descriptions() {
             );
         }
     }
+}
+
+/// By document 02 in plain code, the old catalogue widens to the one that the
+/// other samples share.
+#[test]
+fn the_old_catalogue_is_the_same_one_in_the_old_form() {
+    let new = types().unwrap().catalogue().build().unwrap();
+    let stored = fs::read(folder().join(OLD).join("types.bin")).unwrap();
+    assert!(
+        stored == old_form(&new).unwrap(),
+        "run `cargo run -p samples`"
+    );
+    assert!(stored.len() < new.len(), "it has bases");
+    assert!(reference::widen(&stored).unwrap() == new);
 }
 
 #[test]

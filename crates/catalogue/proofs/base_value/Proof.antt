@@ -33,17 +33,17 @@ add-is-id c = omega arith
 is-id-requires : tie.Need-is-id-requires Inv-loop μ-loop
 is-id-requires c κs = omega arith
 
-mul-f32-wide-at : tie.Need-mul-f32-wide-at Inv-loop μ-loop
-mul-f32-wide-at c = omega arith
+mul-f64-at : tie.Need-mul-f64-at Inv-loop μ-loop
+mul-f64-at c = omega arith
 
-add-f32-wide-at : tie.Need-add-f32-wide-at Inv-loop μ-loop
-add-f32-wide-at c = omega arith
+add-f64-at : tie.Need-add-f64-at Inv-loop μ-loop
+add-f64-at c = omega arith
 
-add-f32-wide-at-2 : tie.Need-add-f32-wide-at-2 Inv-loop μ-loop
-add-f32-wide-at-2 c = omega arith
+add-f64-at-2 : tie.Need-add-f64-at-2 Inv-loop μ-loop
+add-f64-at-2 c = omega arith
 
-f32-wide-at-requires : tie.Need-f32-wide-at-requires Inv-loop μ-loop
-f32-wide-at-requires c κs = omega arith
+f64-at-requires : tie.Need-f64-at-requires Inv-loop μ-loop
+f64-at-requires c κs = omega arith
 
 -- the test is that of base i
 matches : (c : tie.After-is-id Inv-loop μ-loop) → let s = c .before .before .before .before .before .before .before .args in
@@ -59,7 +59,7 @@ returns c =
     let s = f .before .before .before .before .before .before .before in
     let e = f .before .before .before .before .before .bases .ensures in
     let b = s .args .catalogue .now in
-    ap (λ (x : Float). some x) (c .f32-wide-at .ensures ∙ rw (e .0, e .1))
+    ap (λ (x : Float). some x) (c .f64-at .ensures ∙ rw (e .0, e .1))
     ∙ sym (l .inv .2 ∙ span-here b (l .i) (s .args .span .to) _ (f .before .loop-test .taken) (sym (matches f) ∙ c .before .if1 .taken))
     ∙ ap (spanValue b (s .args .span .from) (s .args .span .to)) (toZ-ofZ w32 (s .args .attribute) (s .fits .attribute))
 
@@ -101,10 +101,10 @@ base-value-spec =
     mul-is-id
     add-is-id
     is-id-requires
-    mul-f32-wide-at
-    add-f32-wide-at
-    add-f32-wide-at-2
-    f32-wide-at-requires
+    mul-f64-at
+    add-f64-at
+    add-f64-at-2
+    f64-at-requires
     returns
     add-i
     loop-less

@@ -1,4 +1,5 @@
 -- `catalogue_refusals::verdict` meets its contract: each test is that of its refusal, in their order.
+use native.Mathlib.Omega.{arith}
 use mathlib.Core.Path.{_∙_, sym}
 use borrow.Author.Needs.{needs}
 use Rattle.catalogue.proofs.Sound.{fits-size, refused-1, refused-2, refused-3, refused-none}
@@ -9,7 +10,7 @@ returns : tie.Need-returns
 returns c = refused-1 _ (sym (c .before .bad-length .ensures) ∙ c .if1 .taken)
 
 bad-order-requires : tie.Need-bad-order-requires
-bad-order-requires c κs = fits-size _ (sym (c .before .bad-length .ensures) ∙ c .if1 .left)
+bad-order-requires c κs = omega (arith, fits-size _ (sym (c .before .bad-length .ensures) ∙ c .if1 .left))
 
 returns-2 : tie.Need-returns-2
 returns-2 c =
@@ -17,7 +18,7 @@ returns-2 c =
     refused-2 _ (sym (one .before .bad-length .ensures) ∙ one .if1 .left) (sym (c .before .bad-order .ensures) ∙ c .if2 .taken)
 
 bad-field-requires : tie.Need-bad-field-requires
-bad-field-requires c κs = let one = c .before .before in fits-size _ (sym (one .before .bad-length .ensures) ∙ one .if1 .left)
+bad-field-requires c κs = let one = c .before .before in omega (arith, fits-size _ (sym (one .before .bad-length .ensures) ∙ one .if1 .left))
 
 returns-3 : tie.Need-returns-3
 returns-3 c =

@@ -44,7 +44,7 @@ const SHORT: &[(Rows, &[usize], &str)] = &[
     ),
     (
         Rows::Bases,
-        &[1_024, 65_536, 599_999, 1_398_095],
+        &[1_024, 65_536, 599_999, 1_048_571],
         "base values are found",
     ),
     (
@@ -85,6 +85,11 @@ const SHORT: &[(Rows, &[usize], &str)] = &[
         "entries of skills are written",
     ),
     (Rows::HallFits, &[32, 63], "fits of a hall are counted"),
+    (
+        Rows::Widened,
+        &[64, 1_024, 65_536, 599_999, 1_398_095],
+        "base values are widened",
+    ),
 ];
 
 /// Where numbers may be too narrow, in bits.
@@ -92,7 +97,7 @@ const NARROW: &[(Number, &[u32], &str)] = &[
     (Number::EffectRow, &[8, 16], "an effect's row"),
     (Number::TypeRow, &[8, 12, 16], "a type's row"),
     (Number::LinkRow, &[8, 12, 16], "a link's row"),
-    (Number::BaseRow, &[8, 16, 20], "a base value's row"),
+    (Number::BaseRow, &[8, 16, 19], "a base value's row"),
     (
         Number::CataloguePlace,
         &[16, 20, 23],
@@ -113,6 +118,16 @@ const NARROW: &[(Number, &[u32], &str)] = &[
     (Number::OutLength, &[16, 20, 24], "the buffer's length"),
     (Number::Result, &[8, 16, 31], "the result number"),
     (Number::Count, &[8, 11], "the count"),
+    (
+        Number::WideCount,
+        &[8, 16, 20, 24],
+        "the count of a widened catalogue's bytes",
+    ),
+    (
+        Number::WidenPlace,
+        &[8, 16, 20, 23],
+        "a place in the old catalogue",
+    ),
     (Number::PairIndex, &[7], "an entry's pair index"),
     (Number::SlotsUsed, &[8], "used of Slots"),
     (Number::SlotsAmount, &[8, 16, 32], "the slot amount"),
@@ -155,6 +170,11 @@ const REFUSED: &[(Measure, &[usize], &str)] = &[
         "entries of a list",
     ),
     (Measure::SkillEntries, &[128, 511], "entries of skills"),
+    (
+        Measure::OldBytes,
+        &[65_536, 1_048_576, 8_388_608, 16_777_215],
+        "bytes of an old catalogue",
+    ),
 ];
 
 /// Every flaw.

@@ -207,11 +207,8 @@ fn bare_chain(length: i32) -> Case {
     case.catalogue.bases.retain(|base| base.attribute != level);
     case.fits[0].ship.attributes.retain(|row| row.0 != level);
     // The last one is wanted at level 5.
-    case.catalogue.bases.push(Base {
-        type_id: 3300 + length - 2,
-        attribute: level,
-        value: 5f32.to_bits(),
-    });
+    let last = Base::single(3300 + length - 2, level, 5.0);
+    case.catalogue.bases.push(last);
     case
 }
 

@@ -8,6 +8,7 @@ mod items;
 mod resources;
 mod slots;
 mod tables;
+mod widen;
 
 use std::ops::Range;
 
@@ -18,11 +19,12 @@ use crate::rng::Rng;
 /// Makes one case.
 pub type Make = fn() -> Case;
 
-const TABLES: [&[Make]; 5] = [
+const TABLES: [&[Make]; 6] = [
     document::CASES,
     resources::CASES,
     slots::CASES,
     items::CASES,
+    widen::CASES,
     chains::CASES,
 ];
 
@@ -30,7 +32,7 @@ const TABLES: [&[Make]; 5] = [
 /// are, and how each is made.
 type Row = (fn() -> usize, fn(usize) -> Case);
 
-const MADE: [Row; 9] = [
+const MADE: [Row; 11] = [
     (
         || plant::PLANTS.len(),
         |number| plant::alone(&mut Rng::new(number as u64), plant::Ground::small(), number),
@@ -45,6 +47,22 @@ const MADE: [Row; 9] = [
     ),
     (|| hall::CORNERS, hall::corner),
     (|| hall::UNEQUAL, hall::unequal),
+    (
+        || plant::widening().len(),
+        |number| {
+            let rng = &mut Rng::new(number as u64);
+            let plant = plant::widening()[number];
+            plant::widened(plant::alone(rng, plant::Ground::small(), plant))
+        },
+    ),
+    (
+        || plant::widening_pairs().len(),
+        |number| {
+            let (first, second) = plant::widening_pairs()[number];
+            let rng = &mut Rng::new(number as u64);
+            plant::widened(plant::together(rng, plant::Ground::small(), first, second))
+        },
+    ),
     (|| tables::COUNT, tables::case),
     (
         || 5,
@@ -56,10 +74,11 @@ const MADE: [Row; 9] = [
 ];
 
 /// The numbers of the cases written by hand, of those about skills among
-/// them, and of the planted refusals, pairs of them and hall inputs.
+/// them, and of the planted refusals, pairs of them, hall inputs and plants in
+/// catalogues that are widened.
 pub fn parts() -> [Range<usize>; 3] {
     let written: usize = TABLES.iter().map(|table| table.len()).sum();
-    let made: usize = MADE[..4].iter().map(|(count, _)| count()).sum();
+    let made: usize = MADE[..6].iter().map(|(count, _)| count()).sum();
     [
         0..written,
         written - chains::CASES.len()..written,

@@ -3,7 +3,7 @@
 use super::fit::fit;
 use super::world::{Style, World};
 use crate::case::{Ask, Case, Room};
-use crate::model::{Base, Fit, Item, Outcome, Skill};
+use crate::model::{Base, Fit, Item, Outcome, Skill, Type};
 use crate::names::REQUIRED;
 use crate::rng::Rng;
 use crate::sketch::{ROOMS, Sketch, id};
@@ -87,25 +87,22 @@ pub fn one_full(which: usize) -> Case {
 pub const FULL_SIZES: usize = 5;
 
 /// A catalogue of exactly 16,777,216 bytes: 20 of sizes, two names, one type,
-/// one link and 1,398,096 bases, the last of which one skill demands.
+/// one link and 1,048,572 bases, the last of which one skill demands.
 fn largest() -> Case {
     let mut sketch = Sketch::hull()
         .ship(REQUIRED, 3300.0)
         .ship(REQUIRED + 1, 3.0)
         .link(1, 1);
-    sketch.catalogue.bases = (0..1_398_096).map(far_base).collect();
-    sketch.catalogue.bases[1_398_094].attribute = id(REQUIRED);
-    sketch.catalogue.bases[1_398_095].attribute = id(REQUIRED + 1);
+    sketch.catalogue.bases = (0..1_048_572).map(far_base).collect();
+    sketch.catalogue.bases[1_048_570].attribute = id(REQUIRED);
+    sketch.catalogue.bases[1_048_571].attribute = id(REQUIRED + 1);
     sketch.skills("a catalogue of 16,777,216 bytes", 0)
 }
 
 /// Types 0 to 6 have one base each, skill 3300 all others.
 fn far_base(number: i32) -> Base {
-    Base {
-        type_id: if number < 7 { number } else { 3300 },
-        attribute: number + 10_000,
-        value: 9f32.to_bits(),
-    }
+    let type_id = if number < 7 { number } else { 3300 };
+    Base::single(type_id, number + 10_000, 9.0)
 }
 
 /// The catalogue's length at its limit and just over it.
@@ -119,8 +116,11 @@ pub fn lengths(which: usize) -> Case {
         }
         2 => {
             case.title = "a catalogue of 16,777,220 bytes, sizes right".to_string();
-            case.catalogue.links.clear();
-            case.catalogue.bases.insert(0, far_base(0));
+            // A base less and a type more.
+            case.catalogue.bases.remove(0);
+            let last = *case.catalogue.types.last().expect("the hull");
+            let id = last.id + 1;
+            case.catalogue.types.push(Type { id, ..last });
         }
         _ => {
             case.title = "the list call over 16,777,216 bytes".to_string();

@@ -29,15 +29,25 @@ pub fn case(seed: u64, number: u64) -> Case {
         550..=649 => skills::graph(rng),
         650..=769 => growth::growth(rng),
         770..=839 => hall::hall(rng),
-        840..=899 => {
+        840..=889 => {
             let way = rng.below(plant::PLANTS.len());
             let ground = plant::Ground::realistic(rng);
             plant::alone(rng, ground, way)
         }
-        900..=949 => {
+        890..=899 => {
+            let way = rng.pick(&plant::widening());
+            let ground = plant::Ground::realistic(rng);
+            plant::widened(plant::alone(rng, ground, way))
+        }
+        900..=939 => {
             let (first, second) = rng.pick(&plant::pairs());
             let ground = plant::Ground::realistic(rng);
             plant::together(rng, ground, first, second)
+        }
+        940..=949 => {
+            let (first, second) = rng.pick(&plant::widening_pairs());
+            let ground = plant::Ground::realistic(rng);
+            plant::widened(plant::together(rng, ground, first, second))
         }
         950..=979 => raw::flipped(rng),
         980..=989 => raw::noise(rng),
@@ -73,6 +83,12 @@ fn asks(rng: &mut Rng, fit: &Fit) -> Vec<Ask> {
     for result in [0, 1, any, results + 1] {
         asks.push(Ask::Skill(result, Room::Exact));
         asks.push(Ask::Skill(result, a_room(rng)));
+    }
+    if rng.chance(250) {
+        asks.push(Ask::Widen(Room::Exact));
+        asks.push(Ask::Widen(a_room(rng)));
+        asks.push(Ask::WidenedList);
+        asks.push(Ask::WidenedSkill(any));
     }
     asks
 }

@@ -71,7 +71,10 @@ pub fn noise(rng: &mut Rng) -> Case {
         }
         1 => {
             let sizes: Vec<u32> = (0..5).map(|_| rng.below(3) as u32).collect();
-            let length = 8 * sizes[0] + 8 * sizes[1] + 20 * sizes[2] + 8 * sizes[3] + 12 * sizes[4];
+            // Of the new form, or of the old one.
+            let base = rng.pick(&[16, 12]);
+            let front = 8 * sizes[0] + 8 * sizes[1] + 20 * sizes[2] + 8 * sizes[3];
+            let length = front + base * sizes[4];
             catalogue.damage = replaced(words(rng, &sizes, length as usize));
         }
         _ => {

@@ -37,17 +37,9 @@ fn names() -> Vec<Name> {
 }
 
 fn demand(bases: &mut Vec<Base>, type_id: i32, row: usize, skill: f32, level: Option<f32>) {
-    bases.push(Base {
-        type_id,
-        attribute: IDS[row].0,
-        value: skill.to_bits(),
-    });
+    bases.push(Base::single(type_id, IDS[row].0, skill));
     if let Some(level) = level {
-        bases.push(Base {
-            type_id,
-            attribute: IDS[row].1,
-            value: level.to_bits(),
-        });
+        bases.push(Base::single(type_id, IDS[row].1, level));
     }
 }
 
@@ -76,6 +68,9 @@ pub fn graph(rng: &mut Rng) -> Case {
         }
     }
     rng.shuffle(&mut bases);
+    if rng.chance(150) {
+        refine(rng, &mut bases);
+    }
     let results = rng.between(0, 5) as usize;
     let mut fit = Fit {
         ship: asking(rng, any),
@@ -99,6 +94,22 @@ pub fn graph(rng: &mut Rng) -> Case {
         names.remove(rng.below(names.len()));
     }
     finish("a graph of skills", names, bases, fit, rng)
+}
+
+/// Makes some values finer than an f32: most of them a step beside a whole
+/// number, which an f32 rounds to it.
+fn refine(rng: &mut Rng, bases: &mut [Base]) {
+    for base in bases {
+        let value = f64::from_bits(base.value);
+        let finer = match rng.below(10) {
+            0..=2 => value.next_down(),
+            3 => value.next_up(),
+            4 => 16_777_217.0,
+            5 => value + 0.1,
+            _ => value,
+        };
+        base.value = finer.to_bits();
+    }
 }
 
 /// What one result asks for.
@@ -191,6 +202,10 @@ fn finish(title: &str, names: Vec<Name>, mut bases: Vec<Base>, fit: Fit, rng: &m
     for result in 0..=results + 2 {
         asks.push(Ask::Skill(result, Room::Exact));
         asks.push(Ask::Skill(result, super::a_room(rng)));
+        if rng.chance(200) {
+            asks.push(Ask::Widen(Room::Exact));
+            asks.push(Ask::WidenedSkill(result));
+        }
     }
     Case {
         title: title.to_string(),

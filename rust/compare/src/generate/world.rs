@@ -230,12 +230,9 @@ impl World {
                 if !rng.chance(if row == 0 { 500 } else { 80 }) {
                     continue;
                 }
-                let mut add = |name: usize, value: u32| {
-                    bases.push(Base {
-                        type_id: *type_id,
-                        attribute: self.ids[name],
-                        value,
-                    });
+                let mut add = |name: usize, single: u32| {
+                    let value = f32::from_bits(single);
+                    bases.push(Base::single(*type_id, self.ids[name], value));
                 };
                 let wanted = match rng.chance(style.odd / 4) {
                     true => numbers::odd_single(rng),
@@ -261,7 +258,7 @@ impl World {
             bases.push(Base {
                 type_id: self.any(rng),
                 attribute: rng.pick(&self.ids),
-                value: numbers::odd_single(rng),
+                value: numbers::widened(numbers::odd_single(rng)),
             });
         }
         if rng.chance(300) {

@@ -15,13 +15,16 @@ pub fn case(number: usize) -> Case {
         0 => types(),
         1 => effects(),
         2 => links(),
-        3 => bases(1_398_096),
-        // One base less and one link more: 4 bytes below the limit.
+        3 => bases(BASES),
+        // Two bases less, one type and one link more: 4 bytes below the limit.
         _ => {
-            let mut case = bases(1_398_095);
+            let mut case = bases(BASES - 2);
             case.title = "a catalogue of 16,777,212 bytes".to_string();
             let link = case.catalogue.links[0];
             case.catalogue.links.push(link);
+            let last = case.catalogue.types[0];
+            let id = last.id + 1;
+            case.catalogue.types.push(Type { id, ..last });
             case
         }
     }
@@ -124,20 +127,20 @@ fn links() -> Case {
     largest("2,097,098 links", sketch, Ask::List)
 }
 
-/// Base values of many skills, of which the ship demands six.
-fn bases(count: usize) -> Case {
-    let id = |row: usize| spread(row, count, 3_071);
+/// As many base values as there is room for beside two names, one type and one
+/// link.
+pub const BASES: usize = 1_048_572;
+
+/// Base values of many skills, each of which an item demands.
+pub fn bases(count: usize) -> Case {
+    let id = |row: usize| spread(row, count, 4_096);
     let mut sketch = Sketch::hull()
         .link(SHIP, 1)
         .name(REQUIRED)
         .name(REQUIRED + 1);
     let attribute = crate::sketch::id(REQUIRED);
     sketch.catalogue.bases = (0..count)
-        .map(|row| Base {
-            type_id: id(row),
-            attribute,
-            value: (row as f32 % 1_000.0).to_bits(),
-        })
+        .map(|row| Base::single(id(row), attribute, row as f32 % 1_000.0))
         .collect();
     let mut asked = rows(count);
     asked.sort();
@@ -156,7 +159,7 @@ fn bases(count: usize) -> Case {
     let asks: Vec<Ask> = (2..results + 2)
         .map(|result| Ask::Skill(result, Room::Exact))
         .collect();
-    sketch.case("1,398,096 base values", &asks)
+    sketch.case("1,048,572 base values", &asks)
 }
 
 fn largest(title: &str, sketch: Sketch, ask: fn(Room) -> Ask) -> Case {

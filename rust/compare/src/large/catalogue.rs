@@ -232,11 +232,7 @@ fn bases(row: usize) -> Vec<Base> {
     if row + 1 == TYPES {
         values[BASES_OF_EACH - 1] = (first, Role::Skill.id(3) as f32);
     }
-    let base = |(attribute, value): (i32, f32)| Base {
-        type_id: type_id(row),
-        attribute,
-        value: value.to_bits(),
-    };
+    let base = |(attribute, value)| Base::single(type_id(row), attribute, value);
     values.into_iter().map(base).collect()
 }
 

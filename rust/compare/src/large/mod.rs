@@ -12,6 +12,7 @@ mod halls;
 mod limits;
 mod places;
 mod skills;
+mod widen;
 
 use crate::case::{Ask, Case, Room};
 use crate::model::Fit;
@@ -22,7 +23,7 @@ use crate::tally::size::LIST_BUFFERS;
 /// longest come last: a fault that another case shows need not wait for them.
 type Row = (usize, fn(usize) -> Case);
 
-const ROWS: [Row; 8] = [
+const ROWS: [Row; 9] = [
     (limits::COUNT, limits::case),
     (places::COUNT, places::case),
     (2, |number| match number {
@@ -39,6 +40,7 @@ const ROWS: [Row; 8] = [
     }),
     (blocks::COUNT, blocks::case),
     (halls::COUNT, halls::case),
+    (widen::COUNT, widen::case),
 ];
 
 /// How many large cases there are.

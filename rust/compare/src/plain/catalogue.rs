@@ -3,7 +3,7 @@
 use std::cell::RefCell;
 use std::collections::BTreeMap;
 
-use super::bytes::{f32_at, i32_at, u32_at};
+use super::bytes::{f32_at, f64_at, i32_at, u32_at};
 use super::fault::Fault;
 use super::{Flaw, Measure, Number, Rows};
 
@@ -28,15 +28,23 @@ struct Block {
     start: usize,
     rows: usize,
     width: usize,
+    /// Each key beside its value, which is wrong.
+    is_mixed: bool,
 }
 
 impl Block {
     fn key(self, row: usize) -> usize {
-        self.start + 4 * row
+        match self.is_mixed {
+            true => self.start + (4 + self.width) * row,
+            false => self.start + 4 * row,
+        }
     }
 
     fn value(self, row: usize) -> usize {
-        self.start + 4 * self.rows + self.width * row
+        match self.is_mixed {
+            true => self.key(row) + 4,
+            false => self.start + 4 * self.rows + self.width * row,
+        }
     }
 
     fn end(self) -> usize {
@@ -52,32 +60,26 @@ pub struct Type {
     pub volume: Option<f32>,
 }
 
+/// Bytes of a base's value: its attribute id, and an f64, or an f32 in the form
+/// before document 02.
+const NEW: usize = 12;
+pub const OLD: usize = 8;
+
 impl<'a> Catalogue<'a> {
     pub fn open(image: &'a [u8], flaw: Flaw) -> Result<Catalogue<'a>, u8> {
-        if !length_is_right(image, flaw) {
+        let width = match flaw.has(Fault::BaseLengthOld) {
+            true => OLD,
+            false => NEW,
+        };
+        Catalogue::open_as(image, width, flaw)
+    }
+
+    /// With values of bases of so many bytes.
+    pub fn open_as(image: &'a [u8], width: usize, flaw: Flaw) -> Result<Catalogue<'a>, u8> {
+        if !length_is_right(image, width, flaw) {
             return Err(1);
         }
-        let block = |start: usize, number: usize, width: usize| Block {
-            start,
-            rows: u32_at(image, 4 * number) as usize,
-            width,
-        };
-        let names = block(20, 0, 4);
-        let effects = block(names.end(), 1, 4);
-        let types = block(effects.end(), 2, 16);
-        let links = block(types.end(), 3, 4);
-        let bases = block(links.end(), 4, 8);
-        let mut catalogue = Catalogue {
-            image,
-            flaw,
-            names,
-            effects,
-            types,
-            links,
-            bases,
-            ids: Vec::new(),
-            hints: RefCell::default(),
-        };
+        let mut catalogue = Catalogue::blocks(image, width, flaw);
         if flaw.has(Fault::RangeBeforeOrder) && !catalogue.is_in_range() {
             return Err(3);
         }
@@ -91,9 +93,44 @@ impl<'a> Catalogue<'a> {
         Ok(catalogue)
     }
 
+    /// Where the blocks are, as the sizes say.
+    fn blocks(image: &'a [u8], width: usize, flaw: Flaw) -> Catalogue<'a> {
+        let block = |start: usize, number: usize, width: usize| Block {
+            start,
+            rows: u32_at(image, 4 * number) as usize,
+            width,
+            is_mixed: number == 4 && width == NEW && flaw.has(Fault::BaseKeysMixed),
+        };
+        let names = block(20, 0, 4);
+        let effects = block(names.end(), 1, 4);
+        let types = block(effects.end(), 2, 16);
+        let links = block(types.end(), 3, 4);
+        let bases = block(links.end(), 4, width);
+        Catalogue {
+            image,
+            flaw,
+            names,
+            effects,
+            types,
+            links,
+            bases,
+            ids: Vec::new(),
+            hints: RefCell::default(),
+        }
+    }
+
+    /// An old catalogue of which keys and fields are not judged.
+    pub fn unjudged(image: &'a [u8], flaw: Flaw) -> Catalogue<'a> {
+        Catalogue::blocks(image, OLD, flaw)
+    }
+
     fn is_ordered(&self) -> bool {
         let flaw = self.flaw;
         let ascends = |block: Block, is_signed: bool, strict: bool| {
+            if block.is_mixed {
+                let keys = (0..block.rows).map(|row| i32_at(self.image, block.key(row)));
+                return keys.is_sorted();
+            }
             let keys = &self.image[block.start..block.key(block.rows)];
             ascend(keys, is_signed, strict)
         };
@@ -229,22 +266,47 @@ impl<'a> Catalogue<'a> {
         Some(u32_at(self.image, self.value_at(EFFECTS, row)))
     }
 
-    /// A type's base value: the first in stored order, widened.
+    /// Where the values of the bases begin, and how many there are.
+    pub fn base_values(&self) -> (usize, usize) {
+        (self.bases.value(0), self.bases.rows)
+    }
+
+    /// Where the values of the types begin, and how many there are.
+    pub fn type_values(&self) -> (usize, usize) {
+        (self.types.value(0), self.types.rows)
+    }
+
+    /// A type's base value: the first in stored order.
     pub fn base(&self, type_id: i32, attribute: i32) -> Option<f64> {
         if type_id < 0 && self.flaw.has(Fault::BasesNegativeLost) {
             return None;
         }
         let most = self.flaw.rows(Rows::BasesOfOne, self.bases.rows);
+        let (id, value) = match self.flaw.has(Fault::BaseAttributeLast) {
+            true => (8, 0),
+            false => (0, 4),
+        };
         let mut matching = self
             .rows_of(BASES, type_id)
             .take(most)
-            .map(|row| self.value_at(BASES, row))
-            .filter(|at| i32_at(self.image, *at) == attribute);
+            .map(|row| match self.flaw.has(Fault::BaseStrideOld) {
+                true => self.bases.value(0) + OLD * row,
+                false => self.value_at(BASES, row),
+            })
+            .filter(|at| i32_at(self.image, *at + id) == attribute);
         let at = match self.flaw.has(Fault::BaseLast) {
             true => matching.last(),
             false => matching.next(),
         };
-        at.map(|at| f64::from(f32_at(self.image, at + 4)))
+        let value = f64_at(self.image, at? + value);
+        Some(match () {
+            () if self.flaw.has(Fault::BaseNarrowed) => f64::from(value as f32),
+            () if self.flaw.has(Fault::BaseUpperHalf) => {
+                f64::from_bits(value.to_bits() & !0xFFFF_FFFF)
+            }
+            () if self.flaw.has(Fault::BaseOneStepOff) => value.next_up(),
+            () => value,
+        })
     }
 
     /// The rows with one key, of keys that never descend.
@@ -346,7 +408,7 @@ fn ascend(keys: &[u8], is_signed: bool, strict: bool) -> bool {
     }
 }
 
-fn length_is_right(image: &[u8], flaw: Flaw) -> bool {
+fn length_is_right(image: &[u8], width: usize, flaw: Flaw) -> bool {
     let limit = match () {
         () if flaw.has(Fault::CatalogueUnlimited) => usize::MAX,
         () if flaw.has(Fault::CatalogueLimitRefused) => 16_777_215,
@@ -357,7 +419,8 @@ fn length_is_right(image: &[u8], flaw: Flaw) -> bool {
         return false;
     }
     let size = |number: usize| u64::from(u32_at(image, 4 * number));
-    let mut expected = 20 + 8 * size(0) + 8 * size(1) + 20 * size(2) + 8 * size(3) + 12 * size(4);
+    let base = 4 + width as u64;
+    let mut expected = 20 + 8 * size(0) + 8 * size(1) + 20 * size(2) + 8 * size(3) + base * size(4);
     if flaw.has(Fault::CatalogueLengthWraps) {
         expected %= 1 << 32;
     }

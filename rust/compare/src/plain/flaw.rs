@@ -45,6 +45,8 @@ pub enum Rows {
     ListEntries,
     SkillEntries,
     HallFits,
+    /// The bases that are widened.
+    Widened,
 }
 
 /// Numbers that may be too narrow.
@@ -69,6 +71,10 @@ pub enum Number {
     Result,
     /// The count in the word.
     Count,
+    /// The count of a widened catalogue's bytes.
+    WideCount,
+    /// A place in the old catalogue, in bytes.
+    WidenPlace,
     /// The pair index of an entry.
     PairIndex,
     SlotsUsed,
@@ -93,6 +99,8 @@ pub enum Measure {
     OutBytes,
     ListEntries,
     SkillEntries,
+    /// Of a catalogue that is widened.
+    OldBytes,
 }
 
 impl Flaw {

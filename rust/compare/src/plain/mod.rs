@@ -1,4 +1,4 @@
-//! A plain port of document 01's calls, straight over the images, with a
+//! A plain port of the documents' calls, straight over the images, with a
 //! switch for one deliberate fault. Without a fault it agrees with the
 //! original; with one, the comparison must tell it apart.
 
@@ -14,6 +14,7 @@ mod item;
 mod resource;
 mod skill;
 mod slot;
+mod widen;
 
 use catalogue::Catalogue;
 use context::Context;
@@ -66,6 +67,10 @@ impl Checker for Plain {
 
     fn hall(&self, catalogue: &[u8], input: &[u8]) -> u64 {
         hall::hall(catalogue, input, self.flaw)
+    }
+
+    fn widen(&self, old: &[u8], out: &mut [u8]) -> u64 {
+        widen::widen(old, out, self.flaw)
     }
 }
 

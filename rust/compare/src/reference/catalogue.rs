@@ -1,14 +1,18 @@
-//! Document 01's catalogue: decoded, refused by 1 to 3, asked by the original.
+//! Document 01's catalogue, with document 02's base values: decoded, refused by
+//! 1 to 3, asked by the original. The form before, with values of f32, too.
+
+use std::ops::Range;
 
 use original::{Info, Vector, eve};
 
 use super::Refusal;
 use super::words::Reader;
 use crate::names;
+use crate::numbers::is_fine;
 use crate::tally::size::Block;
 
 /// The most bytes that a catalogue may have.
-const LIMIT: usize = 16_777_216;
+pub const LIMIT: usize = 16_777_216;
 
 /// A decoded catalogue.
 pub struct Catalogue {
@@ -17,6 +21,18 @@ pub struct Catalogue {
     types: Vec<(i32, TypeRow)>,
     links: ByType<eve::TypeDogmaEffect>,
     bases: ByType<eve::TypeDogmaAttribute>,
+    /// The values of the bases; the original gets the nearest f32 of each.
+    values: Vec<f64>,
+    is_fine: bool,
+}
+
+/// Which form an image has.
+#[derive(Clone, Copy, PartialEq)]
+enum Form {
+    /// A base value is an f64.
+    New,
+    /// A base value is an f32.
+    Old,
 }
 
 #[derive(Clone, Copy)]
@@ -34,21 +50,35 @@ struct ByType<T> {
 }
 
 impl<T> ByType<T> {
-    /// The rows of one type; the keys never descend.
-    fn of(&self, type_id: i32) -> Option<Vector<'_, T>> {
+    /// Where the rows of one type stand; the keys never descend.
+    fn places(&self, type_id: i32) -> Range<usize> {
         let first = self.keys.partition_point(|key| *key < type_id);
         let end = self.keys.partition_point(|key| *key <= type_id);
-        (first < end).then(|| Vector::new(&self.rows[first..end]))
+        first..end
+    }
+
+    fn of(&self, type_id: i32) -> Option<Vector<'_, T>> {
+        let places = self.places(type_id);
+        (!places.is_empty()).then(|| Vector::new(&self.rows[places]))
     }
 }
 
 impl Catalogue {
     /// What the image holds, or the first refusal of 1 to 3 that it deserves.
     pub fn decode(image: &[u8]) -> Result<Catalogue, Refusal> {
+        Catalogue::decode_as(image, Form::New)
+    }
+
+    /// The same for an image of the form before document 02.
+    pub fn decode_old(image: &[u8]) -> Result<Catalogue, Refusal> {
+        Catalogue::decode_as(image, Form::Old)
+    }
+
+    fn decode_as(image: &[u8], form: Form) -> Result<Catalogue, Refusal> {
         if image.len() > LIMIT {
             return Err(1);
         }
-        let catalogue = Catalogue::laid_out(image).ok_or(1)?;
+        let catalogue = Catalogue::laid_out(image, form).ok_or(1)?;
         if !catalogue.is_ordered() {
             return Err(2);
         }
@@ -59,10 +89,11 @@ impl Catalogue {
     }
 
     /// The blocks, where the length is what the sizes make it.
-    fn laid_out(image: &[u8]) -> Option<Catalogue> {
+    fn laid_out(image: &[u8], form: Form) -> Option<Catalogue> {
         let mut reader = Reader::new(image);
         let sizes = reader.many(5, Reader::u32)?;
-        let widths = [8, 8, 20, 8, 12];
+        let base = if form == Form::New { 16 } else { 12 };
+        let widths = [8, 8, 20, 8, base];
         let total: u64 = sizes
             .iter()
             .zip(widths)
@@ -90,18 +121,29 @@ impl Catalogue {
             keys: reader.many(l, Reader::i32)?,
             rows: reader.many(l, |row| Some(eve::TypeDogmaEffect::new(row.i32()?)))?,
         };
+        let base_keys = reader.many(b, Reader::i32)?;
+        let base_values = reader.many(b, |row| {
+            let attribute = row.i32()?;
+            let value = match form {
+                Form::New => row.f64()?,
+                Form::Old => f64::from(row.f32()?),
+            };
+            Some((attribute, value))
+        })?;
+        let nearest = |row: &(i32, f64)| eve::TypeDogmaAttribute::new(row.0, row.1 as f32);
         let bases = ByType {
-            keys: reader.many(b, Reader::i32)?,
-            rows: reader.many(b, |row| {
-                Some(eve::TypeDogmaAttribute::new(row.i32()?, row.f32()?))
-            })?,
+            keys: base_keys,
+            rows: base_values.iter().map(nearest).collect(),
         };
+        let values: Vec<f64> = base_values.into_iter().map(|row| row.1).collect();
         Some(Catalogue {
             names: name_keys.into_iter().zip(name_values).collect(),
             effects: effect_keys.into_iter().zip(effect_values).collect(),
             types: type_keys.into_iter().zip(type_values).collect(),
             links,
             bases,
+            is_fine: values.iter().any(|value| is_fine(*value)),
+            values,
         })
     }
 
@@ -136,6 +178,19 @@ impl Catalogue {
             Block::Links => self.links.keys.len(),
             Block::Bases => self.bases.keys.len(),
         }
+    }
+
+    /// Whether some base value is no f32, so that the original cannot have it.
+    pub fn is_fine(&self) -> bool {
+        self.is_fine
+    }
+
+    /// What an attribute starts at on a type: the first in stored order.
+    pub fn base(&self, type_id: i32, attribute: i32) -> Option<f64> {
+        let rows = &self.bases.rows;
+        let mut places = self.bases.places(type_id);
+        let place = places.find(|place| rows[*place].attribute_id() == attribute)?;
+        Some(self.values[place])
     }
 
     /// The volume of a type that is there and has one.

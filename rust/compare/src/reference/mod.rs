@@ -1,13 +1,17 @@
 //! The reference: document 01's calls, answered by the original.
 //!
-//! The images are decoded here, from document 01 alone; the rules are run by
-//! the crate `original`, which is compiled as published. What the original
-//! cannot say, the total of drones over 32 bits, is plain code in `drones`.
+//! The images are decoded here, from documents 01 and 02 alone; the rules are
+//! run by the crate `original`, which is compiled as published. What the
+//! original cannot say or hold is plain code: the total of drones over 32 bits
+//! in `drones`, base values finer than an f32 in `walk`, the widening of old
+//! catalogues in `widen`.
 
 mod catalogue;
 mod drones;
 mod encode;
 mod fit;
+mod walk;
+mod widen;
 mod words;
 
 use std::cmp::Ordering;
@@ -16,9 +20,10 @@ use original::{Rule, Run, Target, Violation};
 
 use crate::checker::{Checker, ENTRY, Entry, refused};
 
-pub use catalogue::Catalogue;
+pub use catalogue::{Catalogue, LIMIT};
 pub use encode::entry;
 pub use fit::Fit;
+pub use widen::widen;
 
 /// A refusal's number.
 pub type Refusal = u8;
@@ -49,6 +54,20 @@ impl Checker for Original {
         match numbers {
             Ok(numbers) => numbers.number().into(),
             Err(refusal) => refused(refusal),
+        }
+    }
+
+    fn widen(&self, old: &[u8], out: &mut [u8]) -> u64 {
+        let new = match widen(old) {
+            Ok(new) => new,
+            Err(refusal) => return refused(refusal),
+        };
+        match out.get_mut(..new.len()) {
+            Some(room) => {
+                room.copy_from_slice(&new);
+                new.len() as u64
+            }
+            None => refused(10),
         }
     }
 }
@@ -118,8 +137,7 @@ pub fn list(catalogue: &Catalogue, fit: &Fit) -> Listed {
 /// What one result lacks, or refusal 8 or 9.
 pub fn skill(catalogue: &Catalogue, fit: &Fit, result: u32) -> Result<Listed, Refusal> {
     let outcome = fit.result(result).ok_or(8)?;
-    let run = fit.run(catalogue);
-    if run.wanted_skills(outcome).len() > 512 {
+    if fit.wanted_skills(catalogue, outcome).len() > 512 {
         return Err(9);
     }
     let target = match result {
@@ -128,7 +146,10 @@ pub fn skill(catalogue: &Catalogue, fit: &Fit, result: u32) -> Result<Listed, Re
             index: result as usize - 2,
         },
     };
-    let found = run.report(outcome, target);
+    let found = match catalogue.is_fine() {
+        true => walk::report(catalogue, fit, outcome, target),
+        false => fit.run(catalogue).report(outcome, target),
+    };
     Ok(Listed {
         entries: found.iter().map(encode::entry).collect(),
         either_zero: None,
@@ -259,7 +280,10 @@ impl Fit {
         catalogue: &Catalogue,
         outcome: &original::ItemResult,
     ) -> Vec<(i32, u8)> {
-        self.run(catalogue).wanted_skills(outcome)
+        match catalogue.is_fine() {
+            true => walk::wanted_skills(catalogue, outcome),
+            false => self.run(catalogue).wanted_skills(outcome),
+        }
     }
 
     /// The pairs: the first min(F, R) items with their results.

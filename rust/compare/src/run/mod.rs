@@ -11,9 +11,9 @@ use crate::checker::{Checker, ENTRY, Entry, in_words, refused};
 use crate::grown;
 use crate::guard::{Fill, Guarded, Held};
 use crate::model::{Fit, hall_image};
-use crate::reference::{self, Fate, Listed, Refusal};
+use crate::reference::{self, Fate, LIMIT, Listed, Refusal};
 use crate::tally::{Call, Hangar, Point, Tally, Zeros};
-use crate::verdict::{Expected, compare, expected, hall_in_words};
+use crate::verdict::{Expected, compare, compare_wide, expected, hall_in_words};
 
 pub use shown::Shown;
 
@@ -24,7 +24,13 @@ pub struct Difference {
     pub what: String,
 }
 
-/// A fit's image, and what the reference makes of it.
+/// A catalogue's image, and what the reference reads in it.
+struct Source {
+    held: Held,
+    catalogue: Result<reference::Catalogue, Refusal>,
+}
+
+/// A fit's image, and what the reference makes of it under one catalogue.
 struct Subject {
     held: Held,
     decoded: Result<reference::Fit, Refusal>,
@@ -45,6 +51,12 @@ impl Subject {
     }
 }
 
+/// An old catalogue, and what the reference widens it to.
+struct Old {
+    held: Held,
+    widened: Result<Vec<u8>, Refusal>,
+}
+
 /// A hall input, and what the reference makes of it.
 struct Hall {
     held: Held,
@@ -55,11 +67,12 @@ struct Hall {
 /// once, however many checkers are held against it.
 pub struct Stage<'a> {
     case: &'a Case,
-    held: Held,
-    catalogue: Result<reference::Catalogue, Refusal>,
+    source: Source,
     fit: OnceCell<Subject>,
     grown: OnceCell<Subject>,
     hall: OnceCell<Hall>,
+    old: OnceCell<Old>,
+    widened: OnceCell<Option<(Source, Subject)>>,
 }
 
 /// Runs every call of a case; the first difference, if there is one.
@@ -73,13 +86,15 @@ impl<'a> Stage<'a> {
     pub fn new(case: &'a Case) -> Stage<'a> {
         let image = case.catalogue.image();
         let catalogue = reference::Catalogue::decode(&image);
+        let held = Held::new(image);
         Stage {
             case,
-            held: Held::new(image),
-            catalogue,
+            source: Source { held, catalogue },
             fit: OnceCell::new(),
             grown: OnceCell::new(),
             hall: OnceCell::new(),
+            old: OnceCell::new(),
+            widened: OnceCell::new(),
         }
     }
 
@@ -95,35 +110,43 @@ impl<'a> Stage<'a> {
     fn hall(&self) -> &Hall {
         self.hall.get_or_init(|| {
             let held = Held::new(hall_image(&self.case.fits, &self.case.frame));
-            let catalogue = self.catalogue.as_ref().map_err(|refusal| *refusal);
+            let catalogue = self.source.catalogue.as_ref().map_err(|refusal| *refusal);
             let fates = catalogue.and_then(|catalogue| reference::fates(catalogue, &held.image));
             Hall { held, fates }
         })
     }
 
-    /// What the original lists, or the refusal before 10.
-    fn listed(&self, subject: &Subject, result: Option<u32>) -> Result<Listed, Refusal> {
-        let catalogue = self.catalogue.as_ref().map_err(|refusal| *refusal)?;
-        let fit = subject.decoded.as_ref().map_err(|refusal| *refusal)?;
-        match result {
-            None => {
-                let listed = subject
-                    .listed
-                    .get_or_init(|| reference::list(catalogue, fit));
-                Ok(listed.clone())
+    fn old(&self) -> &Old {
+        self.old.get_or_init(|| {
+            let image = self.case.catalogue.old_image();
+            let widened = reference::widen(&image);
+            Old {
+                held: Held::new(image),
+                widened,
             }
-            Some(result) => subject
-                .skills
-                .borrow_mut()
-                .entry(result)
-                .or_insert_with(|| reference::skill(catalogue, fit, result))
-                .clone(),
-        }
+        })
+    }
+
+    /// What the reference widens the old catalogue to, with what the original
+    /// reads in the old one: nothing where that is refused, and refusal 1 where
+    /// the new one is too long.
+    fn widened(&self) -> Option<&(Source, Subject)> {
+        let made = self.widened.get_or_init(|| {
+            let old = self.old();
+            let new = old.widened.as_ref().ok()?;
+            let catalogue = match new.len() > LIMIT {
+                true => Err(1),
+                false => reference::Catalogue::decode_old(&old.held.image),
+            };
+            let held = Held::new(new.clone());
+            Some((Source { held, catalogue }, Subject::new(&self.case.fits[0])))
+        });
+        made.as_ref()
     }
 
     /// What a call must give, and the length of the buffer that it is lent.
-    fn expected(&self, subject: &Subject, call: Lists) -> (Expected, usize) {
-        let listed = self.listed(subject, call.result);
+    fn expected(&self, source: &Source, subject: &Subject, call: Lists) -> (Expected, usize) {
+        let listed = listed(source, subject, call.result);
         let length = match &listed {
             Ok(listed) => call.room.length(ENTRY * listed.entries.len()),
             // A refusal has to leave something untouched.
@@ -140,44 +163,70 @@ impl<'a> Stage<'a> {
         }
     }
 
-    /// The list and skill calls of an ask, with the fit of each.
-    fn lists(&self, ask: Ask) -> Vec<(&Subject, Lists)> {
+    /// What widening must give, and the length of the buffer that it is lent.
+    fn expected_wide(&self, room: Room) -> (u64, &[u8], usize) {
+        match &self.old().widened {
+            Ok(new) => match room.length(new.len()) {
+                length if length < new.len() => (refused(10), &[], length),
+                length => (new.len() as u64, new, length),
+            },
+            Err(refusal) => (refused(*refusal), &[], room.length(40)),
+        }
+    }
+
+    /// The list and skill calls of an ask, with the catalogue and fit of each.
+    fn lists(&self, ask: Ask) -> Vec<(&Source, &Subject, Lists)> {
         let call = |result, room| Lists { result, room };
+        let own = |result, room| vec![(&self.source, self.fit(), call(result, room))];
         let both = |result| {
             vec![
-                (self.fit(), call(result, Room::Exact)),
-                (self.grown_fit(), call(result, Room::Longer(24))),
+                (&self.source, self.fit(), call(result, Room::Exact)),
+                (
+                    &self.source,
+                    self.grown_fit(),
+                    call(result, Room::Longer(24)),
+                ),
             ]
         };
+        let wide = |result| {
+            let made = self.widened().into_iter();
+            made.map(|(source, fit)| (source, fit, call(result, Room::Longer(24))))
+                .collect()
+        };
         match ask {
-            Ask::List(room) => vec![(self.fit(), call(None, room))],
-            Ask::Skill(result, room) => vec![(self.fit(), call(Some(result), room))],
-            Ask::Hall => Vec::new(),
+            Ask::List(room) => own(None, room),
+            Ask::Skill(result, room) => own(Some(result), room),
+            Ask::Hall | Ask::Widen(_) => Vec::new(),
             Ask::GrownList => both(None),
             Ask::GrownSkill(result) => both(Some(result)),
+            Ask::WidenedList => wide(None),
+            Ask::WidenedSkill(result) => wide(Some(result)),
         }
     }
 
     /// Counts what the calls meet.
     pub fn count(&self, tally: &mut Tally) {
-        tally.case(self.case, self.held.image.len());
+        tally.case(self.case, self.source.held.image.len());
         for ask in &self.case.asks {
-            for (subject, call) in self.lists(*ask) {
-                self.count_lists(subject, call, tally);
+            for (source, subject, call) in self.lists(*ask) {
+                self.count_lists(source, subject, call, tally);
             }
             match *ask {
                 Ask::Hall => self.count_hall(tally),
                 Ask::GrownList => self.count_grown(None, tally),
                 Ask::GrownSkill(result) => self.count_grown(Some(result), tally),
+                Ask::Widen(room) => self.count_widen(room, tally),
+                Ask::WidenedList => self.count_widened(None, tally),
+                Ask::WidenedSkill(result) => self.count_widened(Some(result), tally),
                 Ask::List(_) | Ask::Skill(..) => {}
             }
         }
     }
 
-    fn count_lists(&self, subject: &Subject, call: Lists, tally: &mut Tally) {
-        let (expected, length) = self.expected(subject, call);
+    fn count_lists(&self, source: &Source, subject: &Subject, call: Lists, tally: &mut Tally) {
+        let (expected, length) = self.expected(source, subject, call);
         tally.call(call, length, expected.word);
-        let (Ok(catalogue), Ok(fit)) = (&self.catalogue, &subject.decoded) else {
+        let (Ok(catalogue), Ok(fit)) = (&source.catalogue, &subject.decoded) else {
             return;
         };
         if let Some(result) = call.result {
@@ -196,7 +245,7 @@ impl<'a> Stage<'a> {
 
     fn count_hall(&self, tally: &mut Tally) {
         let hall = self.hall();
-        if let (Ok(catalogue), Ok(fates)) = (&self.catalogue, &hall.fates) {
+        if let (Ok(catalogue), Ok(fates)) = (&self.source.catalogue, &hall.fates) {
             tally.catalogue(Call::Hall, catalogue);
             tally.hall(fates, hall.held.image.len());
             let images = reference::hall_fits(&hall.held.image).into_iter().flatten();
@@ -225,7 +274,7 @@ impl<'a> Stage<'a> {
     /// Whether an old list has launched drones, and the grown fit more of them
     /// than 32 bits hold.
     fn grows_past_32_bits(&self, old: &[Entry]) -> bool {
-        let passes = |subject: &Subject| match (&self.catalogue, &subject.decoded) {
+        let passes = |subject: &Subject| match (&self.source.catalogue, &subject.decoded) {
             (Ok(catalogue), Ok(fit)) => fit.hangar(catalogue).is_some(),
             _ => false,
         };
@@ -233,10 +282,40 @@ impl<'a> Stage<'a> {
         listed && !passes(self.fit()) && passes(self.grown_fit())
     }
 
+    fn count_widen(&self, room: Room, tally: &mut Tally) {
+        let (word, written, length) = self.expected_wide(room);
+        tally.widen(room, length, word);
+        tally.widen_pair(self.case);
+        let old = &self.old().held.image;
+        if let Ok(new) = &self.old().widened {
+            tally.widen_room(old, new, length);
+        }
+        if !written.is_empty() {
+            tally.widened(old, written);
+            let catalogue = reference::Catalogue::decode_old(old);
+            tally.catalogue(Call::Widen, &catalogue.expect("it was widened"));
+        }
+    }
+
+    fn count_widened(&self, result: Option<u32>, tally: &mut Tally) {
+        let Some((source, fit)) = self.widened() else {
+            return;
+        };
+        let answered = listed(source, fit, result).is_ok_and(|listed| !listed.entries.is_empty());
+        if answered {
+            let call = if result.is_some() {
+                Call::Skill
+            } else {
+                Call::List
+            };
+            tally.under_widened(call);
+        }
+    }
+
     /// The lists of both fits, where both are answered.
     fn both_lists(&self, result: Option<u32>) -> Option<(Vec<Entry>, Vec<Entry>)> {
-        let old = self.listed(self.fit(), result).ok()?;
-        let new = self.listed(self.grown_fit(), result).ok()?;
+        let old = listed(&self.source, self.fit(), result).ok()?;
+        let new = listed(&self.source, self.grown_fit(), result).ok()?;
         Some((old.entries, new.entries))
     }
 
@@ -250,36 +329,38 @@ impl<'a> Stage<'a> {
     }
 
     fn ask(&self, ask: Ask, checker: &dyn Checker, zeros: &mut Zeros) -> Result<(), String> {
-        for (subject, call) in self.lists(ask) {
-            self.hold_lists(subject, call, checker, zeros)?;
+        for (source, subject, call) in self.lists(ask) {
+            self.hold_lists(source, subject, call, checker, zeros)?;
         }
         match ask {
             Ask::Hall => self.hold_hall(checker),
             Ask::GrownList => self.grown_keeps(None),
             Ask::GrownSkill(result) => self.grown_keeps(Some(result)),
-            Ask::List(_) | Ask::Skill(..) => Ok(()),
+            Ask::Widen(room) => self.hold_widen(room, checker),
+            Ask::List(_) | Ask::Skill(..) | Ask::WidenedList | Ask::WidenedSkill(_) => Ok(()),
         }
     }
 
     /// The list call, or the skill call of a result: every byte compared.
     fn hold_lists(
         &self,
+        source: &Source,
         subject: &Subject,
         call: Lists,
         checker: &dyn Checker,
         zeros: &mut Zeros,
     ) -> Result<(), String> {
-        let (expected, length) = self.expected(subject, call);
+        let (expected, length) = self.expected(source, subject, call);
         self.planted(expected.word)?;
         for fill in [Fill::First, Fill::Second] {
-            let catalogue = self.held.copy(fill).bytes();
+            let catalogue = source.held.copy(fill).bytes();
             let fit = subject.held.copy(fill).bytes();
             let mut out = Guarded::buffer(length, fill);
             let word = caught(|| match call.result {
                 None => checker.list(catalogue, fit, out.bytes_mut()),
                 Some(result) => checker.skill(catalogue, fit, result, out.bytes_mut()),
             })?;
-            self.held.unharmed(fill, "catalogue")?;
+            source.held.unharmed(fill, "catalogue")?;
             subject.held.unharmed(fill, "fit")?;
             compare(&expected, word, &out)?;
             zeros.note(&expected.listed, out.bytes());
@@ -292,9 +373,9 @@ impl<'a> Stage<'a> {
         let expected = self.expected_hall();
         self.planted(expected)?;
         for fill in [Fill::First, Fill::Second] {
-            let catalogue = self.held.copy(fill).bytes();
+            let catalogue = self.source.held.copy(fill).bytes();
             let word = caught(|| checker.hall(catalogue, input.copy(fill).bytes()))?;
-            self.held.unharmed(fill, "catalogue")?;
+            self.source.held.unharmed(fill, "catalogue")?;
             input.unharmed(fill, "hall input")?;
             if word != expected {
                 return Err(format!(
@@ -303,6 +384,20 @@ impl<'a> Stage<'a> {
                     hall_in_words(word)
                 ));
             }
+        }
+        Ok(())
+    }
+
+    /// The widening: its word and every byte of the buffer.
+    fn hold_widen(&self, room: Room, checker: &dyn Checker) -> Result<(), String> {
+        let (expected, new, length) = self.expected_wide(room);
+        self.planted(expected)?;
+        let old = &self.old().held;
+        for fill in [Fill::First, Fill::Second] {
+            let mut out = Guarded::buffer(length, fill);
+            let word = caught(|| checker.widen(old.copy(fill).bytes(), out.bytes_mut()))?;
+            old.unharmed(fill, "old catalogue")?;
+            compare_wide((expected, new), word, &out)?;
         }
         Ok(())
     }
@@ -324,7 +419,7 @@ impl<'a> Stage<'a> {
         if let Some(result) = result {
             return result as usize <= old.results.len() + 1;
         }
-        let Ok(catalogue) = &self.catalogue else {
+        let Ok(catalogue) = &self.source.catalogue else {
             return false;
         };
         let added = &self.case.growth.items;
@@ -343,6 +438,26 @@ impl<'a> Stage<'a> {
             )),
             _ => Ok(()),
         }
+    }
+}
+
+/// What the original lists, or the refusal before 10.
+fn listed(source: &Source, subject: &Subject, result: Option<u32>) -> Result<Listed, Refusal> {
+    let catalogue = source.catalogue.as_ref().map_err(|refusal| *refusal)?;
+    let fit = subject.decoded.as_ref().map_err(|refusal| *refusal)?;
+    match result {
+        None => {
+            let listed = subject
+                .listed
+                .get_or_init(|| reference::list(catalogue, fit));
+            Ok(listed.clone())
+        }
+        Some(result) => subject
+            .skills
+            .borrow_mut()
+            .entry(result)
+            .or_insert_with(|| reference::skill(catalogue, fit, result))
+            .clone(),
     }
 }
 

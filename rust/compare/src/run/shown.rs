@@ -3,7 +3,7 @@
 use std::collections::BTreeSet;
 use std::fmt;
 
-use super::{Stage, Subject, caught};
+use super::{Source, Stage, Subject, caught};
 use crate::case::{Ask, Lists, Room};
 use crate::checker::{Checker, ENTRY, Entry};
 use crate::guard::Fill;
@@ -19,6 +19,8 @@ pub enum Shown {
     Refusals(u8, u8),
     /// How many fits of a hall are clear, faulted and refused.
     HallNumber,
+    /// The bytes of a widened catalogue, or how many they are.
+    Widened,
     /// Bytes of the buffer that are not the entries', or the count alone.
     Buffer,
     Panic,
@@ -42,6 +44,7 @@ impl fmt::Display for Shown {
                 write!(out, "{} instead of {}", word(given), word(expected))
             }
             Shown::HallNumber => out.write_str("the hall number"),
+            Shown::Widened => out.write_str("the widened catalogue"),
             Shown::Buffer => out.write_str("the buffer"),
             Shown::Panic => out.write_str("a panic"),
         }
@@ -54,17 +57,20 @@ const ANY_LIST: usize = 196_608;
 impl Stage<'_> {
     /// What a checker's difference in a call is about.
     pub fn shown(&self, ask: Ask, checker: &dyn Checker) -> Shown {
-        if ask == Ask::Hall {
-            return self.shown_in_hall(checker);
+        match ask {
+            Ask::Hall => return self.shown_in_hall(checker),
+            Ask::Widen(room) => return self.shown_in_widen(room, checker),
+            _ => {}
         }
         let calls = self.lists(ask).into_iter();
-        let shown = calls.map(|(subject, call)| self.shown_in_list(subject, call, checker));
+        let shown =
+            calls.map(|(source, subject, call)| self.shown_in_list(source, subject, call, checker));
         let mut different = shown.filter(|shown| *shown != Shown::Buffer);
         different.next().unwrap_or(Shown::Buffer)
     }
 
     fn shown_in_hall(&self, checker: &dyn Checker) -> Shown {
-        let catalogue = self.held.copy(Fill::First).bytes();
+        let catalogue = self.source.held.copy(Fill::First).bytes();
         let input = self.hall().held.copy(Fill::First).bytes();
         let Ok(word) = caught(|| checker.hall(catalogue, input)) else {
             return Shown::Panic;
@@ -75,22 +81,48 @@ impl Stage<'_> {
         }
     }
 
+    fn shown_in_widen(&self, room: Room, checker: &dyn Checker) -> Shown {
+        let (expected, new, length) = self.expected_wide(room);
+        let old = self.old().held.copy(Fill::First).bytes();
+        let mut out = vec![0; length];
+        let Ok(word) = caught(|| checker.widen(old, &mut out)) else {
+            return Shown::Panic;
+        };
+        match ((expected >> 32) as u8, (word >> 32) as u8) {
+            (0, 0) if word != expected || out[..new.len()] != *new => Shown::Widened,
+            (deserved, given) if deserved == given => Shown::Buffer,
+            (deserved, given) => Shown::Refusals(deserved, given),
+        }
+    }
+
     /// With a buffer for any list first: what differs there is no matter of
     /// the buffer's length.
-    fn shown_in_list(&self, subject: &Subject, call: Lists, checker: &dyn Checker) -> Shown {
+    fn shown_in_list(
+        &self,
+        source: &Source,
+        subject: &Subject,
+        call: Lists,
+        checker: &dyn Checker,
+    ) -> Shown {
         let long = Lists {
             room: Room::Of(ANY_LIST),
             ..call
         };
-        match self.shown_with(subject, long, checker) {
-            Shown::Buffer => self.shown_with(subject, call, checker),
+        match self.shown_with(source, subject, long, checker) {
+            Shown::Buffer => self.shown_with(source, subject, call, checker),
             shown => shown,
         }
     }
 
-    fn shown_with(&self, subject: &Subject, call: Lists, checker: &dyn Checker) -> Shown {
-        let (expected, length) = self.expected(subject, call);
-        let catalogue = self.held.copy(Fill::First).bytes();
+    fn shown_with(
+        &self,
+        source: &Source,
+        subject: &Subject,
+        call: Lists,
+        checker: &dyn Checker,
+    ) -> Shown {
+        let (expected, length) = self.expected(source, subject, call);
+        let catalogue = source.held.copy(Fill::First).bytes();
         let fit = subject.held.copy(Fill::First).bytes();
         let mut out = vec![0; length];
         let Ok(word) = caught(|| match call.result {

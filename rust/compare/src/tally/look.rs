@@ -6,6 +6,7 @@ use super::Tally;
 use super::edge::{CapitalEdge, Edge, Hangar, Shape, Spot};
 use super::point::{Call, Point};
 use super::wide;
+use super::widened::Fine;
 use crate::names::*;
 use crate::numbers::{Width, limit};
 use crate::reference::{Catalogue, Fit};
@@ -66,6 +67,35 @@ pub fn skill(tally: &mut Tally, catalogue: &Catalogue, fit: &Fit, result: u32) {
         let level = value(catalogue, outcome, level).unwrap_or(0.0);
         tally.meet(Point::Cast(Width::U8, Spot::of(level, Width::U8)));
         bases(tally, catalogue, wanted as i32, skill);
+    }
+    if catalogue.is_fine() {
+        fine(tally, catalogue, fit, outcome);
+    }
+}
+
+/// What the base values of the skills that are walked decide, where no f32 is
+/// the same number.
+fn fine(tally: &mut Tally, catalogue: &Catalogue, fit: &Fit, outcome: &ItemResult) {
+    let mut read = false;
+    for (skill, _) in fit.wanted_skills(catalogue, outcome) {
+        for row in 0..6 {
+            let name = |name: usize| catalogue.base(skill, catalogue.name(name)?);
+            let (id, level) = (name(REQUIRED + 2 * row), name(REQUIRED + 2 * row + 1));
+            let Some(id) = id else {
+                continue;
+            };
+            if id as i32 != id as f32 as i32 {
+                read = true;
+                tally.meet(Point::Fine(Fine::Id));
+            }
+            if level.is_some_and(|level| level as u8 != level as f32 as u8) {
+                read = true;
+                tally.meet(Point::Fine(Fine::Level));
+            }
+        }
+    }
+    if !read {
+        tally.meet(Point::Fine(Fine::Unread));
     }
 }
 

@@ -5,16 +5,18 @@ mod look;
 mod point;
 pub mod size;
 mod wide;
+mod widened;
 
 use std::collections::BTreeMap;
 
-use crate::case::{Ask, Case, Lists};
+use crate::case::{Ask, Case, Lists, Room};
 use crate::checker::{ENTRY, Entry};
 use crate::grown;
 use crate::reference::{self, Catalogue, Fate, Fit, Listed, More};
 
 pub use edge::{Hangar, Shape, Spot};
 pub use point::{Beside, Call, Point, RoomKind};
+pub use widened::{Class, Fine, WidenRoom};
 
 use size::{Block, LONGEST_LIST};
 
@@ -192,6 +194,54 @@ impl Tally {
         if word >> 32 != 0 {
             self.meet(Point::Refusal(Call::Hall, (word >> 32) as u8));
         }
+    }
+
+    /// A widening with its buffer's length and the word that it must give.
+    pub fn widen(&mut self, room: Room, length: usize, word: u64) {
+        self.calls += 1;
+        let refusal = (word >> 32) as u8;
+        if refusal != 0 {
+            self.meet(Point::Refusal(Call::Widen, refusal));
+        }
+        if refusal == 0 || refusal == 10 {
+            self.meet(Point::Buffer(Call::Widen, length as u32));
+            if let Some(kind) = RoomKind::of(room) {
+                self.meet(Point::Room(Call::Widen, kind));
+            }
+        }
+    }
+
+    /// The refusals that a widening deserves, the one that it must give first.
+    pub fn widen_pair(&mut self, case: &Case) {
+        if let [second, first] = case.planted[..] {
+            self.meet(Point::WidenPair(first.refusal, second.refusal));
+        }
+    }
+
+    /// A buffer beside both forms of a catalogue that is not refused.
+    pub fn widen_room(&mut self, old: &[u8], new: &[u8], length: usize) {
+        if let Some(room) = WidenRoom::of(old.len(), new.len(), length) {
+            self.meet(Point::WidenRoom(room));
+        }
+    }
+
+    /// The base values of a catalogue that is widened.
+    pub fn widened(&mut self, old: &[u8], new: &[u8]) {
+        let values = (new.len() - old.len()) / 4;
+        let (_, values) = old.split_at(old.len() - 8 * values);
+        for value in values.chunks_exact(8) {
+            let bits = [value[4], value[5], value[6], value[7]];
+            let class = Class::of(u32::from_le_bytes(bits));
+            self.meet(Point::Widened(class));
+        }
+        if new.len() > reference::LIMIT {
+            self.meet(Point::WidenedLong);
+        }
+    }
+
+    /// A call under a widened catalogue.
+    pub fn under_widened(&mut self, call: Call) {
+        self.meet(Point::Under(call));
     }
 
     /// Two lists held against each other.

@@ -7,6 +7,7 @@ use super::size::{
     AMOUNTS, Block, Counting, HELD, Holder, IdOf, LARGEST_HALL, LIST_BUFFERS, LONGEST_LIST, Part,
     Place, RESULTS, Region, SKILL_BUFFERS, UNREAD,
 };
+use super::widened::{Class, Fine, WidenRoom};
 use crate::case::{Lists, Plant, Room};
 use crate::generate::plant;
 use crate::names::NAMES;
@@ -70,6 +71,18 @@ pub enum Point {
     Shape(Shape),
     Grown(Call),
     GrownRule(u8),
+    /// A base value of a class that is widened.
+    Widened(Class),
+    /// A refusal by the widening where another is deserved too.
+    WidenPair(u8, u8),
+    /// So many bytes lent for so many of the old and the new form.
+    WidenRoom(WidenRoom),
+    /// A widened catalogue of more than 16,777,216 bytes.
+    WidenedLong,
+    /// A call under a widened catalogue, beside the old one.
+    Under(Call),
+    /// A skill call over base values finer than an f32.
+    Fine(Fine),
 }
 
 #[derive(Clone, Copy, Debug, PartialEq, Eq, PartialOrd, Ord)]
@@ -77,6 +90,7 @@ pub enum Call {
     List,
     Skill,
     Hall,
+    Widen,
 }
 
 impl Call {
@@ -164,6 +178,7 @@ pub fn required() -> Vec<Point> {
     points.extend([1, 2, 3, 4, 5, 6, 10].map(|refusal| Point::Refusal(Call::List, refusal)));
     points.extend([1, 2, 3, 4, 5, 6, 8, 9, 10].map(|refusal| Point::Refusal(Call::Skill, refusal)));
     points.extend([1, 2, 3, 4].map(|refusal| Point::Refusal(Call::Hall, refusal)));
+    points.extend([1, 2, 3, 10].map(|refusal| Point::Refusal(Call::Widen, refusal)));
     points.extend(plant::PLANTS.iter().map(|(refusal, how, _)| {
         Point::Planted(Plant {
             refusal: *refusal,
@@ -171,7 +186,7 @@ pub fn required() -> Vec<Point> {
         })
     }));
     points.extend(plant::pairs().into_iter().map(|(a, b)| Point::Pair(a, b)));
-    for call in [Call::List, Call::Skill] {
+    for call in [Call::List, Call::Skill, Call::Widen] {
         let rooms = [
             RoomKind::Empty,
             RoomKind::OneShort,
@@ -208,6 +223,13 @@ pub fn required() -> Vec<Point> {
     points.extend(Shape::ALL.map(Point::Shape));
     points.extend([Call::List, Call::Skill].map(Point::Grown));
     points.extend((1..=21).map(Point::GrownRule));
+    points.extend(Class::ALL.map(Point::Widened));
+    let pairs = plant::widening_pairs().into_iter();
+    points.extend(pairs.map(|(first, second)| Point::WidenPair(first, second)));
+    points.extend(WidenRoom::ALL.map(Point::WidenRoom));
+    points.push(Point::WidenedLong);
+    points.extend([Call::List, Call::Skill].map(Point::Under));
+    points.extend(Fine::ALL.map(Point::Fine));
     points
 }
 
@@ -215,7 +237,7 @@ pub fn required() -> Vec<Point> {
 fn sizes() -> Vec<Point> {
     let mut points = vec![Point::AllFull];
     points.extend(HELD.map(|(part, count)| Point::Held(part, count)));
-    points.extend([Call::List, Call::Skill, Call::Hall].map(Point::FullSize));
+    points.extend([Call::List, Call::Skill, Call::Hall, Call::Widen].map(Point::FullSize));
     points.extend(Block::ALL.map(Point::Most));
     let lengths = [16_777_212, 16_777_216, 16_777_217, 16_777_220];
     points.extend(lengths.map(Point::CatalogueLength));
@@ -254,6 +276,7 @@ impl fmt::Display for Call {
             Call::List => "list call",
             Call::Skill => "skill call",
             Call::Hall => "hall call",
+            Call::Widen => "widening",
         })
     }
 }
@@ -273,6 +296,7 @@ impl fmt::Display for Point {
             Point::Refusal(call, refusal) => write!(out, "refusal {refusal} by the {call}"),
             Point::Planted(plant) => write!(out, "refusal {}: {}", plant.refusal, plant.how),
             Point::Pair(a, b) => write!(out, "refusal {a} where {b} is deserved too"),
+            Point::Room(Call::Widen, room) => write!(out, "widening, {}", room.words()),
             Point::Room(call, room) => write!(out, "{call} with entries, {}", room.words()),
             Point::HallFits(count) => write!(out, "hall of {count} fits"),
             Point::HallFit(Fate::Clear) => out.write_str("hall: a clear fit"),
@@ -302,6 +326,14 @@ impl fmt::Display for Point {
             Point::Shape(shape) => out.write_str(shape.words()),
             Point::Grown(call) => write!(out, "two fits compared, {call}"),
             Point::GrownRule(rule) => write!(out, "two fits compared, {}", name(&RULES, rule)),
+            Point::Widened(class) => write!(out, "widened: {}", class.words()),
+            Point::WidenPair(a, b) => {
+                write!(out, "widening: refusal {a} where {b} is deserved too")
+            }
+            Point::WidenRoom(room) => write!(out, "widening, {}", room.words()),
+            Point::WidenedLong => out.write_str("widened to more than 16777216 bytes"),
+            Point::Under(call) => write!(out, "{call} under a widened catalogue"),
+            Point::Fine(fine) => write!(out, "base value finer than an f32: {}", fine.words()),
             size => size.fmt_size(out),
         }
     }

@@ -109,7 +109,7 @@ impl Block {
         match self {
             Block::Effects | Block::Links => 8,
             Block::Types => 20,
-            Block::Bases => 12,
+            Block::Bases => 16,
         }
     }
 

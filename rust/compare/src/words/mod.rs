@@ -5,10 +5,10 @@ mod entry;
 mod tables;
 
 use crate::case::{Ask, Case, Room};
-use crate::checker::{Checker, ENTRY, in_words};
+use crate::checker::{Checker, ENTRY, in_words, refused};
 use crate::model::{Catalogue, Damage, Fit, Name, Outcome, hall_image};
 use crate::names::{MARKS, NAMES};
-use crate::reference::Original;
+use crate::reference::{Original, widen};
 use crate::verdict::hall_in_words;
 
 pub use entry::{double, entries, entry};
@@ -75,6 +75,17 @@ pub fn answers(case: &Case) -> String {
                 text += &format!("hall: the original makes it {}\n", hall_in_words(word));
                 continue;
             }
+            Ask::Widen(_) => {
+                let word = match widen(&case.catalogue.old_image()) {
+                    Ok(new) => new.len() as u64,
+                    Err(refusal) => refused(refusal),
+                };
+                text += &format!("widening: document 02 makes it {}\n", in_words(word));
+                continue;
+            }
+            // The lists of the old catalogue, which those of the case are
+            // where its base values are f32.
+            Ask::WidenedList | Ask::WidenedSkill(_) => continue,
         };
         if asked.contains(&result) {
             continue;
@@ -106,6 +117,11 @@ pub fn ask(ask: Ask) -> String {
         Ask::GrownSkill(result) => {
             format!("skill of {}, in the fit and the grown fit", holder(result))
         }
+        Ask::Widen(room) => format!("widening of the old form, {}", self::room(room)),
+        Ask::WidenedList => "list under the widened catalogue".to_string(),
+        Ask::WidenedSkill(result) => {
+            format!("skill of {} under the widened catalogue", holder(result))
+        }
     }
 }
 
@@ -122,7 +138,7 @@ fn room(room: Room) -> String {
         Room::Empty => "empty buffer".to_string(),
         Room::OneShort => "buffer one byte short".to_string(),
         Room::Exact => "buffer of the exact length".to_string(),
-        Room::Longer(more) => format!("buffer {more} bytes longer than the entries"),
+        Room::Longer(more) => format!("buffer {more} bytes longer than what is written"),
         Room::Of(length) => format!("buffer of {length} bytes"),
     }
 }
@@ -171,7 +187,7 @@ fn catalogue(text: &mut String, catalogue: &Catalogue) {
             "type {} starts with {} = {}",
             row.type_id,
             attribute(names, row.attribute),
-            single(row.value)
+            double(row.value)
         )
     });
     damage(text, "catalogue", harm);

@@ -1,4 +1,4 @@
-//! The tests of the comparison, and document 01's examples on every checker.
+//! The tests of the comparison, and the documents' examples on every checker.
 
 mod agreement;
 mod common;
@@ -9,3 +9,4 @@ mod hall;
 mod original;
 mod recorded;
 mod refusals;
+mod widen;

@@ -5,7 +5,7 @@ use std::collections::BTreeSet;
 
 use crate::common::checkers;
 use compare::case::REFUSALS;
-use compare::record::{self, HALL, LIST, MOST, Record};
+use compare::record::{self, HALL, LIST, MOST, Record, WIDEN};
 
 const FILE: &[u8] = include_bytes!("../../recorded.bin");
 
@@ -39,11 +39,12 @@ fn every_checker_gives_the_recorded_answers() {
             let word = match record.result {
                 LIST => checker.list(&record.catalogue, &record.fit, &mut out),
                 HALL => checker.hall(&record.catalogue, &record.fit),
+                WIDEN => checker.widen(&record.catalogue, &mut out),
                 result => checker.skill(&record.catalogue, &record.fit, result, &mut out),
             };
             assert_eq!(word, record.word, "{name}, record {number}");
-            let (entries, rest) = out.split_at(record.written.len());
-            assert_eq!(entries, record.written, "{name}, record {number}");
+            let (written, rest) = out.split_at(record.written.len());
+            assert_eq!(written, record.written, "{name}, record {number}");
             assert!(
                 rest.iter().all(|byte| *byte == 0x5A),
                 "{name}, record {number}"
@@ -61,16 +62,19 @@ fn every_rule_refusal_and_call_is_recorded() {
         let call = match record.result {
             LIST => "list",
             HALL => "hall",
+            WIDEN => "widen",
             _ => "skill",
         };
         calls.insert((call, record.word >> 32 == 0));
         refusals.insert(record.word >> 32);
-        rules.extend(record.written.chunks(24).map(|entry| entry[1]));
+        if call != "widen" {
+            rules.extend(record.written.chunks(24).map(|entry| entry[1]));
+        }
     }
     assert_eq!(rules, (1..=21).collect());
     let given = REFUSALS.map(u64::from).into_iter();
     assert_eq!(refusals, given.chain([0]).collect());
-    for call in ["list", "skill", "hall"] {
+    for call in ["list", "skill", "hall", "widen"] {
         assert!(calls.contains(&(call, true)), "{call} answered");
         assert!(calls.contains(&(call, false)), "{call} refused");
     }

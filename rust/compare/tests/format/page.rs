@@ -17,7 +17,11 @@ pub fn block(opening: &str) -> Vec<&'static str> {
 
 /// The bytes of a block of lines `place | bytes | what they are`.
 pub fn bytes(name: &str) -> Vec<u8> {
-    let mut bytes = Vec::new();
+    behind(Vec::new(), name)
+}
+
+/// The same for a block that goes on behind other bytes.
+pub fn behind(mut bytes: Vec<u8>, name: &str) -> Vec<u8> {
     for line in block(&format!("hex {name}")) {
         let cells: Vec<&str> = line.splitn(3, '|').map(str::trim).collect();
         assert_eq!(cells[0], bytes.len().to_string(), "the place of `{line}`");

@@ -4,7 +4,7 @@ use compare::case::REFUSALS;
 use compare::checker::{Checker, ENTRY};
 
 use crate::common::checkers;
-use crate::page::{bytes, hex, table};
+use crate::page::{behind, bytes, hex, table};
 
 /// What the buffer has before a call.
 const UNTOUCHED: u8 = 0xC3;
@@ -14,12 +14,16 @@ struct Images {
     catalogue: Vec<u8>,
     fit: Vec<u8>,
     hall: Vec<u8>,
+    /// The catalogue in the old form.
+    old: Vec<u8>,
 }
 
 impl Images {
     fn of_the_page() -> Images {
+        let catalogue = bytes("catalogue");
         Images {
-            catalogue: bytes("catalogue"),
+            old: behind(catalogue[..188].to_vec(), "old"),
+            catalogue,
             fit: bytes("fit"),
             hall: bytes("hall"),
         }
@@ -30,6 +34,7 @@ impl Images {
             "catalogue" => &mut self.catalogue,
             "fit" => &mut self.fit,
             "hall" => &mut self.hall,
+            "old" => &mut self.old,
             _ => panic!("no image `{name}`"),
         }
     }
@@ -51,11 +56,13 @@ impl Images {
     }
 }
 
-/// A call as the page names it, `list`, `skill 2` or `hall`, on a buffer.
+/// A call as the page names it, `list`, `skill 2`, `hall` or `widen`, on a
+/// buffer.
 fn called(checker: &dyn Checker, call: &str, images: &Images, out: &mut [u8]) -> u64 {
     match call.split_once(' ') {
         None if call == "list" => checker.list(&images.catalogue, &images.fit, out),
         None if call == "hall" => checker.hall(&images.catalogue, &images.hall),
+        None if call == "widen" => checker.widen(&images.old, out),
         Some(("skill", result)) => {
             let result = result.parse().unwrap();
             checker.skill(&images.catalogue, &images.fit, result, out)
@@ -93,10 +100,10 @@ fn the_words_are_the_pages() {
             .filter(|change| !change.is_empty())
             .for_each(|change| images.change(change));
         let word = u64::from_str_radix(word.strip_prefix("0x").unwrap(), 16).unwrap();
-        let written = if call == "hall" {
-            0
-        } else {
-            ENTRY * (word as u32 as usize)
+        let written = match call {
+            "hall" => 0,
+            "widen" => word as u32 as usize,
+            _ => ENTRY * (word as u32 as usize),
         };
         for (name, checker) in checkers() {
             let mut out = vec![UNTOUCHED; lent.parse().unwrap_or(0)];
@@ -110,6 +117,35 @@ fn the_words_are_the_pages() {
                 "{name}: {row:?} writes its entries alone"
             );
         }
+    }
+}
+
+#[test]
+fn the_old_catalogue_widens_to_the_pages() {
+    let images = Images::of_the_page();
+    assert_eq!(images.old.len(), 204);
+    for (name, checker) in checkers() {
+        let mut out = vec![UNTOUCHED; 220];
+        assert_eq!(checker.widen(&images.old, &mut out), 212, "{name}");
+        assert_eq!(out[..212], images.catalogue, "{name}");
+        assert_eq!(out[212..], [UNTOUCHED; 8], "{name}");
+    }
+}
+
+/// The row with a NaN says which bytes are written.
+#[test]
+fn a_nan_is_written_as_the_page_says() {
+    let rows = table("Worked bytes", "call");
+    let row = rows.iter().find(|row| row[4].starts_with("a NaN"));
+    let row = row.expect("a row with a NaN");
+    let mut images = Images::of_the_page();
+    images.change(row[2]);
+    let (_, written) = row[4].split_once("written as ").expect("the bytes");
+    for (name, checker) in checkers() {
+        let mut out = vec![UNTOUCHED; 212];
+        checker.widen(&images.old, &mut out);
+        assert_eq!(out[192..200], hex(written), "{name}");
+        assert_eq!(out[200..], images.catalogue[200..], "{name}");
     }
 }
 

@@ -684,3 +684,61 @@ fn what_a_catalogue_lacks_is_said_aloud() {
     assert!(fitcheck(&["hall", &whole, hall]).err.is_empty());
     assert!(fitcheck(&["explain", &whole, &fit]).err.is_empty());
 }
+
+/// An old catalogue with one base, 1.5 of attribute 182 on type 3302; and the
+/// same in the form of today.
+fn both_forms() -> (Vec<u8>, Vec<u8>) {
+    let mut front = vec![0; 16];
+    front.extend([1u32, 3302, 182].iter().flat_map(|word| word.to_le_bytes()));
+    let with = |value: &[u8]| [&front[..], value].concat();
+    (with(&1.5f32.to_le_bytes()), with(&1.5f64.to_le_bytes()))
+}
+
+#[test]
+fn an_old_catalogue_is_widened_into_a_file() {
+    let folder = folder("widen");
+    let (old, new) = both_forms();
+    let old_path = put(&folder, "old.bin", &old);
+    let path = folder.join("new.bin").to_str().unwrap().to_string();
+    let ran = fitcheck(&["widen", &old_path, &path]);
+    assert_eq!((ran.status, ran.err.as_str()), (0, ""));
+    assert_eq!(ran.out, format!("{path}: 36 bytes\n"));
+    assert_eq!(fs::read(&path).unwrap(), new);
+
+    let ran = piped(&["widen", "-", &path], &old);
+    assert_eq!((ran.status, ran.err.as_str()), (0, ""));
+    assert_eq!(fs::read(&path).unwrap(), new);
+}
+
+#[test]
+fn what_is_no_old_catalogue_is_not_written() {
+    let folder = folder("widen_refused");
+    let (old, new) = both_forms();
+    let new_path = put(&folder, "new.bin", &new);
+    let other = folder.join("other.bin").to_str().unwrap().to_string();
+    let ran = fitcheck(&["widen", &new_path, &other]);
+    assert_eq!((ran.status, ran.out.as_str()), (1, ""));
+    assert!(ran.err.contains("refused by 1"), "{}", ran.err);
+    assert!(!Path::new(&other).exists());
+
+    let old_path = put(&folder, "old.bin", &old);
+    let ran = fitcheck(&["widen", &old_path, &old_path]);
+    assert_eq!(ran.status, 1);
+    assert!(ran.err.contains("it is read, so it is not written"));
+    assert_eq!(fs::read(&old_path).unwrap(), old);
+}
+
+#[test]
+fn a_widened_catalogue_that_is_too_long_is_warned_of() {
+    let folder = folder("widen_long");
+    let mut old = Vec::new();
+    let sizes = [1u32, 0, 0, 0, 1_398_099];
+    old.extend(sizes.iter().flat_map(|size| size.to_le_bytes()));
+    old.resize(fitcheck::CATALOGUE_BYTES, 0);
+    let old_path = put(&folder, "old.bin", &old);
+    let path = folder.join("new.bin").to_str().unwrap().to_string();
+    let ran = fitcheck(&["widen", &old_path, &path]);
+    assert_eq!(ran.status, 0);
+    assert!(ran.err.contains("warning: it is over 16777216 bytes"));
+    assert_eq!(ran.out, format!("{path}: 22369612 bytes\n"));
+}

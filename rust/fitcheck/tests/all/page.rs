@@ -59,6 +59,11 @@ fn session(begin: &str) -> String {
 fn the_command_prints_what_the_page_shows() {
     let at = folder("page");
     rifter::write(&at.join("demo")).unwrap();
+    // An old catalogue: 1.5 of attribute 182 on type 3302, as an f32.
+    let mut old = vec![0; 16];
+    let words = [1u32, 3302, 182, 1.5f32.to_bits()];
+    old.extend(words.iter().flat_map(|word| word.to_le_bytes()));
+    fs::write(at.join("demo/old.bin"), old).unwrap();
     // The fit and the catalogue in words stand on the page.
     for (block, file) in blocks("text").iter().zip(["types.txt", "kestrel.txt"]) {
         fs::create_dir_all(at.join("words")).unwrap();

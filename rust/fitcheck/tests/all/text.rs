@@ -261,6 +261,22 @@ fn pack_makes_both_images_and_the_names() {
     assert_eq!(fs::read(at.join("out/fit.bin")).unwrap(), fit);
 }
 
+/// A base value that no f32 has is packed to its last bit.
+#[test]
+fn pack_keeps_fine_values() {
+    let at = folder("pack-fine");
+    fs::write(
+        at.join("types.txt"),
+        "name cpuLoad 1\ntype 5 group 1 category 6 volume - Hull\n  cpuLoad 0.1\n",
+    )
+    .unwrap();
+    fs::write(at.join("fit.txt"), "ship Hull\n").unwrap();
+    let (status, _, err) = pack(&["fit.txt"], &at);
+    assert_eq!((status, err.as_str()), (0, ""));
+    let image = fs::read(at.join("types.bin")).unwrap();
+    assert!(image.ends_with(&0.1f64.to_le_bytes()));
+}
+
 #[test]
 fn pack_says_what_is_wrong_and_where() {
     let at = folder("pack-wrong");
@@ -276,14 +292,14 @@ fn pack_says_what_is_wrong_and_where() {
 
     fs::write(
         at.join("types.txt"),
-        "name cpuLoad 1\ntype 5 group 1 category 6 volume - Hull\n  cpuLoad 0.1\n",
+        "effect 12 hiPower\neffect 12 loPower\ntype 5 group 1 category 6 volume - Hull\n",
     )
     .unwrap();
     fs::write(at.join("fit.txt"), "ship Hull\n").unwrap();
     let (status, _, err) = pack(&["fit.txt"], &at);
     assert_eq!(status, 1);
     assert!(
-        err.starts_with("fitcheck: types.txt: base value 0.1 of attribute 1 of type 5"),
+        err.starts_with("fitcheck: types.txt: effect id 12 stands twice"),
         "{err}"
     );
 

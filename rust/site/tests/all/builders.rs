@@ -58,8 +58,7 @@ fn catalogue_of(rng: &mut Rng, model: &Catalogue) -> CatalogueBuilder {
         builder.link(row.type_id, row.effect);
     }
     for row in mixed(rng, &model.bases, |row| row.type_id) {
-        let value = f64::from(f32::from_bits(row.value));
-        builder.base(row.type_id, row.attribute, value);
+        builder.base(row.type_id, row.attribute, f64::from_bits(row.value));
     }
     builder
 }
@@ -129,10 +128,10 @@ fn rows_in_any_order_give_the_image_that_the_comparison_lays_out() {
             for row in model.types.iter_mut().filter(|row| row.flag == 0) {
                 row.volume = 0;
             }
-            // A NaN that signals is stored as one that does not.
+            // Every NaN is stored as one.
             for row in &mut model.bases {
-                if f32::from_bits(row.value).is_nan() {
-                    row.value |= 1 << 22;
+                if f64::from_bits(row.value).is_nan() {
+                    row.value = 0x7FF8_0000_0000_0000;
                 }
             }
             let image = model.image();
@@ -242,11 +241,7 @@ fn links_and_bases_of_a_type_keep_their_order() {
         .base(9, 4, 0.5)
         .base(-5, 4, 2.5);
     let link = |type_id, effect| Link { type_id, effect };
-    let base = |type_id, value: f32| Base {
-        type_id,
-        attribute: 4,
-        value: value.to_bits(),
-    };
+    let base = |type_id, value| Base::single(type_id, 4, value);
     let model = Catalogue {
         links: vec![link(-5, 7), link(9, 1), link(9, 3), link(9, 2)],
         bases: vec![base(-5, 2.5), base(9, 1.5), base(9, 0.5)],
@@ -374,12 +369,12 @@ fn a_fit_at_its_limits_is_built_and_accepted_and_one_beyond_is_not_built() {
     too_many(&fit, FitPart::Results, 257);
 }
 
-/// 20 + 20 + 12 × 1,398,098 is 16,777,216.
+/// 20 + 20 + 8 + 16 × 1,048,573 is 16,777,216.
 #[test]
 fn a_catalogue_at_its_limit_is_built_and_accepted_and_a_longer_one_is_not_built() {
     let mut builder = CatalogueBuilder::new();
-    builder.type_info(1, 25, 6, None);
-    for row in 0..1_398_098 {
+    builder.type_info(1, 25, 6, None).link(1, 1);
+    for row in 0..1_048_573 {
         builder.base(row % 1_000, row, 1.0);
     }
     let image = builder.build().unwrap();
@@ -411,41 +406,35 @@ fn items_and_results_that_would_pair_up_are_not_built() {
     );
 }
 
-/// Document 01's bases are f32: a value that is none is named, never rounded.
+/// Document 02's bases are f64: every value is stored to its last bit, and
+/// every NaN as the one that a widening writes.
 #[test]
-fn a_base_value_that_no_f32_is_is_not_built() {
-    let built = |value: f64| CatalogueBuilder::new().base(3302, 182, value).build();
+fn a_base_value_is_stored_to_its_last_bit() {
+    let stored = |value: f64| {
+        let image = CatalogueBuilder::new().base(3302, 182, value).build();
+        u64::from_le_bytes(*image.unwrap().last_chunk().unwrap())
+    };
     for value in [
         0.0,
         -0.0,
+        0.1,
         0.1f32.into(),
-        f32::MAX.into(),
-        f64::from(f32::from_bits(1)),
-        f64::INFINITY,
-        f64::NAN,
-        16_777_216.0,
+        16_777_217.0,
+        -1e300,
+        f64::from_bits(1),
+        f64::MIN_POSITIVE,
+        f64::MAX,
+        f64::NEG_INFINITY,
     ] {
-        let image = built(value).unwrap();
-        let stored = f32::from_le_bytes(*image.last_chunk().unwrap());
-        let same = stored.is_nan() && value.is_nan();
-        assert!(same || f64::from(stored).to_bits() == value.to_bits());
+        assert_eq!(stored(value), value.to_bits(), "{value}");
     }
-    for value in [0.1, 16_777_217.0, 1e39, 1e-50, f64::MIN_POSITIVE] {
-        let error = built(value).unwrap_err();
-        assert_eq!(
-            error,
-            BuildError::BaseValue {
-                type_id: 3302,
-                attribute_id: 182,
-                value
-            }
-        );
+    for bits in [
+        0x7FF8_0000_0000_0000,
+        0xFFF8_0000_0000_0001,
+        0x7FF0_0000_0000_0001,
+    ] {
+        assert_eq!(stored(f64::from_bits(bits)), 0x7FF8_0000_0000_0000);
     }
-    assert_eq!(
-        built(0.1).unwrap_err().to_string(),
-        "base value 0.1 of attribute 182 of type 3302: the image stores f32, and the nearest is \
-         0.10000000149011612"
-    );
 }
 
 #[test]

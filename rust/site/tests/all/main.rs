@@ -11,3 +11,4 @@ mod hall;
 mod mapping;
 mod original;
 mod threads;
+mod widen;

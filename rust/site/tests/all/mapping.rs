@@ -34,6 +34,10 @@ fn what_a_site_has_is_answered_as_the_original_does() {
         let Ok(info) = Catalogue::decode(&catalogue_image) else {
             continue;
         };
+        // Base values finer than an f32, the original's structures cannot hold.
+        if info.is_fine() {
+            continue;
+        }
         let all = mapping::catalogue(&info, type_ids(&catalogue_image)).unwrap();
         for image in fits.iter().take(2) {
             let Ok(fit) = Fit::decode(image) else {

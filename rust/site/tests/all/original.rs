@@ -95,6 +95,10 @@ fn skills_are_the_originals() {
         let Ok(catalogue) = Catalogue::decode(&catalogue_image) else {
             continue;
         };
+        // Base values finer than an f32, the original's structures cannot hold.
+        if catalogue.is_fine() {
+            continue;
+        }
         for image in fits.iter().take(2) {
             let Ok(fit) = Fit::decode(image) else {
                 continue;

@@ -2,7 +2,7 @@
 use native.Mathlib.Omega.{arith}
 use mathlib.Core.Path.{ap}
 use Rattle.checker.specs.Text.{heading, spaced}
-use Rattle.checker.proofs.Putting.{put-same, put-append}
+use Rattle.program.proofs.Putting.{put-same, put-append}
 use borrow.Author.Needs.{needs}
 use Rattle.checker.proofs.text.heading.Statement.{statement}
 use Rattle.checker.proofs.text.heading.Tie as tie

@@ -1,7 +1,7 @@
 -- `checker::text::line` meets its contract: the heading, then the payload.
 use native.Mathlib.Omega.{arith}
 use Rattle.checker.specs.Text.{line}
-use Rattle.checker.proofs.Putting.{put-append}
+use Rattle.program.proofs.Putting.{put-append}
 use borrow.Author.Needs.{needs}
 use Rattle.checker.proofs.text.line.Statement.{statement}
 use Rattle.checker.proofs.text.line.Tie as tie

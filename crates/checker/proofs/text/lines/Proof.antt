@@ -4,9 +4,9 @@ use native.Mathlib.Omega.{arith}
 use mathlib.Core.Path.{_≡_, refl, ap, sym}
 use lib.ListN.{length}
 use Rattle.words.proofs.Tables.{each-more, each-none}
-use Rattle.checker.specs.Put.{Put}
+use Rattle.program.specs.Put.{Put}
 use Rattle.checker.specs.Text.{lines, line}
-use Rattle.checker.proofs.Putting.{put-none, put-same, put-append}
+use Rattle.program.proofs.Putting.{put-none, put-same, put-append}
 use Rattle.checker.proofs.text.lines.Statement.{statement}
 use Rattle.checker.proofs.text.lines.Tie as tie
 

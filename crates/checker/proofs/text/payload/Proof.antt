@@ -1,8 +1,9 @@
 -- `checker::text::payload` meets its contract: four numbers, one behind the other.
 use native.Mathlib.Omega.{arith}
 use mathlib.Core.Path.{ap}
-use Rattle.checker.specs.Text.{payload, spaced, ended}
-use Rattle.checker.proofs.Putting.{put-same, put-append}
+use Rattle.program.specs.Text.{ended}
+use Rattle.checker.specs.Text.{payload, spaced}
+use Rattle.program.proofs.Putting.{put-same, put-append}
 use borrow.Author.Needs.{needs}
 use Rattle.checker.proofs.text.payload.Statement.{statement}
 use Rattle.checker.proofs.text.payload.Tie as tie

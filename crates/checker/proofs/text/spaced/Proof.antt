@@ -2,8 +2,8 @@
 use native.Mathlib.Omega.{arith}
 use borrow.Author.Needs.{needs}
 use Rattle.checker.specs.Text.{spaced}
-use Rattle.checker.proofs.Putting.{put-append}
-use Rattle.checker.proofs.Decimal.{decimal-short}
+use Rattle.program.proofs.Putting.{put-append}
+use Rattle.program.proofs.Decimal.{decimal-short}
 use Rattle.checker.proofs.text.spaced.Statement.{statement}
 use Rattle.checker.proofs.text.spaced.Tie as tie
 

@@ -2,7 +2,7 @@
 use native.Mathlib.Omega.{arith}
 use Rattle.io.proofs.Counting.{counts}
 use Rattle.checker.specs.Text.{textOf}
-use Rattle.checker.proofs.Putting.{put-append}
+use Rattle.program.proofs.Putting.{put-append}
 use borrow.Author.Needs.{needs}
 use Rattle.checker.proofs.text.text_of.Statement.{statement}
 use Rattle.checker.proofs.text.text_of.Tie as tie

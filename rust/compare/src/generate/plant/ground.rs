@@ -95,8 +95,9 @@ pub fn chain(ground: &mut Ground, length: i32) {
         ground
             .catalogue
             .bases
-            .push(a_base(id, skill, (id + 1) as f32));
-        ground.catalogue.bases.push(a_base(id, level, 4.0));
+            .push(Base::single(id, skill, (id + 1) as f32));
+        let level = Base::single(id, level, 4.0);
+        ground.catalogue.bases.push(level);
     }
     ground.catalogue.bases.sort_by_key(|base| base.type_id);
     ground.result = 0;
@@ -110,12 +111,4 @@ pub fn an_entry(ground: &mut Ground) {
         id: last.max(2_000_000) + 1,
         level: 1,
     });
-}
-
-pub fn a_base(type_id: i32, attribute: i32, value: f32) -> Base {
-    Base {
-        type_id,
-        attribute,
-        value: value.to_bits(),
-    }
 }

@@ -28,6 +28,35 @@ fn can_meet(first: u8, second: u8) -> bool {
     !matches!((first, second), (8, 9 | 10))
 }
 
+/// Whether a widening can be refused by a number.
+pub fn can_widen(refusal: u8) -> bool {
+    matches!(refusal, 1..=3 | 10)
+}
+
+/// The plants that a widening can meet.
+pub fn widening() -> Vec<usize> {
+    let plants = PLANTS.iter().enumerate();
+    let plants = plants.filter(|(_, plant)| can_widen(plant.0));
+    plants.map(|(number, _)| number).collect()
+}
+
+/// The pairs of refusals that can meet in one widening.
+pub fn widening_pairs() -> Vec<(u8, u8)> {
+    let mut pairs = pairs();
+    pairs.retain(|(first, second)| can_widen(*first) && can_widen(*second));
+    pairs
+}
+
+/// A planted case in which the catalogue is widened, and no other call made.
+pub fn widened(mut case: Case) -> Case {
+    for ask in &mut case.asks {
+        if let Ask::List(room) | Ask::Skill(_, room) = *ask {
+            *ask = Ask::Widen(room);
+        }
+    }
+    case
+}
+
 /// One plant alone.
 pub fn alone(rng: &mut Rng, ground: Ground, number: usize) -> Case {
     planted(rng, ground, &[PLANTS[number]])

@@ -1,8 +1,8 @@
 //! The plants, one by one.
 
-use super::ground::{Ground, a_base, an_entry, chain};
+use super::ground::{Ground, an_entry, chain};
 use crate::case::Room;
-use crate::model::{Catalogue, Effect, Fit, Item, Link, Name, Outcome, Skill, Type};
+use crate::model::{Base, Catalogue, Effect, Fit, Item, Link, Name, Outcome, Skill, Type};
 use crate::rng::Rng;
 use crate::sketch::{CARGO, DRONE_BAY, FIGHTER_BAY, HIGH};
 
@@ -82,8 +82,8 @@ pub const PLANTS: &[(u8, &str, Dig)] = &[
         });
     }),
     (2, "bases descend", |g, _| {
-        g.catalogue.bases.push(a_base(i32::MAX, 0, 0.0));
-        g.catalogue.bases.push(a_base(-1, 0, 0.0));
+        g.catalogue.bases.push(Base::single(i32::MAX, 0, 0.0));
+        g.catalogue.bases.push(Base::single(-1, 0, 0.0));
     }),
     (3, "name 88", |g, _| {
         g.catalogue.names.push(Name {

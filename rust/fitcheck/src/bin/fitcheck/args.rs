@@ -9,6 +9,7 @@ pub const USAGE: &str = "\
 Usage: fitcheck explain CATALOGUE FIT [--names FILE] [--json]
        fitcheck hall CATALOGUE FOLDER [--json]
        fitcheck pack FIT.txt [--types FILE] [--out FOLDER]
+       fitcheck widen OLD NEW
        fitcheck --help | --version";
 
 pub const HELP: &str = "\
@@ -17,6 +18,7 @@ Says which fitting rules of EVE Online a fit breaks.
 Usage: fitcheck explain CATALOGUE FIT [--names FILE] [--json]
        fitcheck hall CATALOGUE FOLDER [--json]
        fitcheck pack FIT.txt [--types FILE] [--out FOLDER]
+       fitcheck widen OLD NEW
        fitcheck --help | --version
 
 explain  One fit: every rule that it breaks, in a sentence each, and the skills
@@ -31,8 +33,10 @@ hall     Every file of a folder, in the order of the names' bytes: clear,
          begin with a dot.
 pack     A fit in words, as docs/CALLING.md describes them, made into the
          images FIT.bin and types.bin, with names.txt beside them.
+widen    An old catalogue, whose base values are f32, made into the file NEW in
+         the form that the other commands read.
 
-CATALOGUE and FIT are images; one of them may be -, standard input. A catalogue
+CATALOGUE, FIT and OLD are images; one of them may be -, standard input. A catalogue
 that lacks names or effects leaves rules unchecked: which, a warning says.
 
 --names FILE  What types and groups are called: a line `2048 Damage Control II`
@@ -48,7 +52,8 @@ that lacks names or effects leaves rules unchecked: which, a warning says.
 
 Status: 0  explain: the fit is clear, which is that no rule is broken and all
            of it was checked (skills may be lacking);
-           hall: all files counted, whatever the numbers; pack: written
+           hall: all files counted, whatever the numbers;
+           pack, widen: written
         1  refused, or a file cannot be read or written
         2  wrong usage
         3  explain: the fit is faulted
@@ -61,6 +66,7 @@ pub enum Command {
     Explain(Explain),
     Hall(Hall),
     Pack(Pack),
+    Widen(Widen),
 }
 
 #[derive(Debug, PartialEq)]
@@ -83,6 +89,12 @@ pub struct Pack {
     pub fit: PathBuf,
     pub types: Option<PathBuf>,
     pub out: Option<PathBuf>,
+}
+
+#[derive(Debug, PartialEq)]
+pub struct Widen {
+    pub old: Source,
+    pub new: PathBuf,
 }
 
 /// The words of a command line, sorted out.
@@ -186,6 +198,10 @@ pub fn parse(line: impl IntoIterator<Item = OsString>) -> Result<Command, String
             types: words.value("--types"),
             out: words.value("--out"),
         }),
+        Some("widen") => Command::Widen(Widen {
+            old: source(next("OLD")?),
+            new: next("NEW")?.0.into(),
+        }),
         _ => return Err(format!("there is no command {shown}")),
     };
     let unused = words.values.first().map(|value| value.0);
@@ -260,6 +276,11 @@ mod tests {
             out: Some("o".into()),
         });
         assert_eq!(parsed("pack --out o f.txt --types=t"), Ok(packed));
+        let widened = Command::Widen(Widen {
+            old: file("old"),
+            new: "-new".into(),
+        });
+        assert_eq!(parsed("widen old -- -new"), Ok(widened));
     }
 
     #[test]
@@ -292,6 +313,8 @@ mod tests {
             ("pack f --json", "pack takes no --json"),
             ("explain c f --types t", "explain takes no --types"),
             ("pack", "pack wants a FIT.txt"),
+            ("widen o", "widen wants a NEW"),
+            ("widen o n --json", "widen takes no --json"),
             ("pack f --out=", "--out wants a folder"),
             ("explain c f --jsn", "there is no option --jsn"),
             ("explian c f", "there is no command explian"),

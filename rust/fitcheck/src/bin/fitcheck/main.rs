@@ -8,6 +8,7 @@ mod explain;
 mod files;
 mod hall;
 mod pack;
+mod widen;
 
 use std::io::{self, ErrorKind, Write};
 use std::process::ExitCode;
@@ -88,6 +89,7 @@ fn run(out: &mut impl Write) -> Result<u8, Trouble> {
         Ok(Command::Explain(asked)) => explain::run(&asked, out),
         Ok(Command::Hall(asked)) => hall::run(&asked, out),
         Ok(Command::Pack(asked)) => pack::run(&asked, out),
+        Ok(Command::Widen(asked)) => widen::run(&asked, out),
         Err(wrong) => {
             complain(&format!("{wrong}\n\n{}", args::USAGE));
             Ok(WRONG_USAGE)

@@ -1,0 +1,65 @@
+-- Document 02, P10: what a caller has after the widening call, and what it means that nothing changes under a widened catalogue.
+use Prim.Native.Nat.{ℕ, _≤_, _<_}
+use mathlib.Core.Path.{_≡_}
+use mathlib.Core.List.{List, [], _∷_, _++_}
+use mathlib.Core.Logic.{_↔_}
+use lib.ListN.{length, getD, take}
+use Rattle.catalogue.specs.Refusals.{badOrder, badField, catalogueRefusal}
+use Rattle.widening.specs.Old.{oldCatalogueOf, oldBadLength, oldRefusals}
+use Rattle.widening.specs.Widen.{widened}
+use Rattle.fit.specs.Fit.{fitOf}
+use Rattle.fit.specs.Refusals.{fitRefusals}
+use Rattle.validate.specs.Validate.{listOf}
+use Rattle.skill.specs.Skill.{skillList}
+use Rattle.fitcheck.specs.Calls.{Answer, answer, listRefusals, skillRefusals, listCall, skillCall}
+use Rattle.fitcheck.specs.Widen.{outputWord, filled, noRoom, widenCall}
+use Rattle.promises.specs.Answers.{Outcome, refusal, count, Conditions, First, None}
+
+-- ---- the call as a caller sees it
+abbrev pub widenOutcome : (old buffer : List ℕ) → Outcome
+widenOutcome old buffer =
+    let o = widenCall old buffer in
+    record { word = outputWord o; buffer = filled buffer o }
+
+-- 1 to 3 judge the old form, 10 the buffer
+abbrev pub widenConditions : (old buffer : List ℕ) → Conditions
+widenConditions old buffer =
+    let c = oldCatalogueOf old in
+    (1, oldBadLength old) ∷ (2, badOrder c) ∷ (3, badField c) ∷ (10, noRoom buffer (widened old)) ∷ []
+
+-- a call under some conditions, which writes bs where none of them holds
+pub record Fills (conditions : Conditions) (bs before : List ℕ) (o : Outcome) : Type 0 where
+  -- a number refuses exactly where its condition is the first that holds, and is one of 1 to 10
+  pub refused : (n : ℕ) → 0 < n → (refusal o ≡ n) ↔ First n conditions
+  pub answered : (refusal o ≡ 0) ↔ None conditions
+  pub numbered : refusal o ≤ 10
+  -- a refusal counts nothing and changes no byte
+  pub nothing : 0 < refusal o → (count o ≡ 0) × (o .buffer ≡ before)
+  -- an answer counts its bytes, has them from byte 0 on, and leaves every byte behind them
+  pub counted : refusal o ≡ 0 → count o ≡ length bs
+  pub front : refusal o ≡ 0 → take (length bs) (o .buffer) ≡ bs
+  pub others : refusal o ≡ 0 → (i : ℕ) → length bs ≤ i → getD (o .buffer) i 0 ≡ getD before i 0
+  pub length-kept : length (o .buffer) ≡ length before
+
+-- the bytes that an answered call has written
+abbrev pub written : Outcome → List ℕ
+written o = take (count o) (o .buffer)
+
+-- ---- the list call and the skill call under an old catalogue, as they were
+abbrev pub listUnderOld : (old fit buffer : List ℕ) → Answer
+listUnderOld old fit buffer =
+    let c = oldCatalogueOf old in
+    let f = fitOf fit in
+    answer (oldRefusals old ++ fitRefusals fit ++ listRefusals c f buffer) (listOf c f)
+
+abbrev pub skillsUnderOld : (old fit : List ℕ) (result : ℕ) (buffer : List ℕ) → Answer
+skillsUnderOld old fit result buffer =
+    let c = oldCatalogueOf old in
+    let f = fitOf fit in
+    answer (oldRefusals old ++ fitRefusals fit ++ skillRefusals c f result buffer) (skillList c f result)
+
+-- a catalogue that is not refused, under which every call answers as under the old one
+pub record Stands (old new : List ℕ) : Type 0 where
+  pub accepted : catalogueRefusal new ≡ 0
+  pub lists : (fit buffer : List ℕ) → listCall new fit buffer ≡ listUnderOld old fit buffer
+  pub skills : (fit : List ℕ) (result : ℕ) (buffer : List ℕ) → skillCall new fit result buffer ≡ skillsUnderOld old fit result buffer

@@ -1,0 +1,2 @@
+pub mod Old
+pub mod Widen
