@@ -11,8 +11,9 @@ use Rattle.numbers.specs.Refusals as Refusals
 use Rattle.catalogue.specs.Catalogue.{catalogueOf}
 use Rattle.fit.specs.Fit.{fitOf}
 use Rattle.entry.specs.declared.Entry.{Entry}
-use Rattle.validate.specs.Validate.{listOf}
-use Rattle.fitcheck.specs.Calls.{Answer, Refused, Listed, answerBy, answer, tooShort, imageRefusals, listCall, returned}
+use Rattle.lists.specs.Terms.{Terms}
+use Rattle.lists.specs.Lists.{wholeList}
+use Rattle.fitcheck.specs.Calls.{Answer, Refused, Listed, answerBy, answer, tooShort, inputRefusals, bufferRefusals, listCall, returned}
 use Rattle.fitcheck.proofs.Giving.{answer-true, answer-false, list-refused, list-past}
 
 -- what the word counts
@@ -32,20 +33,17 @@ module _ (buffer : List ℕ) (es : List Entry) where
   refused-room n {a} e = let z = ap counted e ∙ refused-none n in omega (arith, z)
 
   -- refusal 10
-  abbrev short : List (ℕ × Bool)
-  short = (Refusals.tooShort, tooShort buffer es) ∷ []
-
-  lent-room : (t : Bool) → tooShort buffer es ≡ t → 24 * counted (answer short es) ≤ length buffer
+  lent-room : (t : Bool) → tooShort buffer es ≡ t → 24 * counted (answer (bufferRefusals buffer es) es) ≤ length buffer
   unfolding answer firstOf answerBy
   lent-room true e = refused-room Refusals.tooShort (answer-true Refusals.tooShort [] es (omega arith) e)
   lent-room false e = let z = ap counted (answer-false Refusals.tooShort [] es e) in omega (arith, z, listed-room e)
 
-pub list-room : (catalogue fit buffer : List ℕ) → 24 * counted (listCall catalogue fit buffer) ≤ length buffer
-list-room catalogue fit buffer = go (firstOf (imageRefusals catalogue fit)) refl
+pub list-room : (t : Terms) (catalogue fit buffer : List ℕ) → 24 * counted (listCall t catalogue fit buffer) ≤ length buffer
+list-room t catalogue fit buffer = go (firstOf (inputRefusals t catalogue fit)) refl
   where
-    go : (k : ℕ) → firstOf (imageRefusals catalogue fit) ≡ k → 24 * counted (listCall catalogue fit buffer) ≤ length buffer
+    go : (k : ℕ) → firstOf (inputRefusals t catalogue fit) ≡ k → 24 * counted (listCall t catalogue fit buffer) ≤ length buffer
     go zero e =
-        let es = listOf (catalogueOf catalogue) (fitOf fit) in
-        let z = ap counted (list-past catalogue fit buffer e) in
+        let es = wholeList t (catalogueOf catalogue) (fitOf fit) in
+        let z = ap counted (list-past t catalogue fit buffer e) in
         omega (arith, z, lent-room buffer es (tooShort buffer es) refl)
-    go (suc k) e = refused-room buffer [] (suc k) (list-refused catalogue fit buffer (omega (arith, e)) ∙ ap Refused e)
+    go (suc k) e = refused-room buffer [] (suc k) (list-refused t catalogue fit buffer (omega (arith, e)) ∙ ap Refused e)

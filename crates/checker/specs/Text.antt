@@ -5,6 +5,7 @@ use lib.ListN.{replicate}
 use Rattle.words.specs.Words.{each, from}
 use Rattle.image.specs.Bytes.{u8At, u32At}
 use Rattle.program.specs.Text.{decimal, ended, refused}
+use Rattle.lists.specs.Terms.{main}
 use Rattle.fitcheck.specs.Calls.{listCall, returned, buffered}
 
 -- a number and a space
@@ -38,9 +39,9 @@ closing (suc n) count = refused (suc n)
 unfoldable pub textOf : ℕ → List ℕ → List ℕ
 textOf word buffer = lines buffer (word % 2 ^ 32) ++ closing (word / 2 ^ 32) (word % 2 ^ 32)
 
--- the list call with 65,520 bytes lent, printed
+-- the list call with no profile and 65,520 bytes lent, printed
 unfoldable pub checked : (catalogue fit : List ℕ) → List ℕ
 checked catalogue fit =
     let buffer = replicate {A = ℕ} 65520 0 in
-    let a = listCall catalogue fit buffer in
+    let a = listCall main catalogue fit buffer in
     textOf (returned a) (buffered buffer a)

@@ -107,6 +107,7 @@ pub fn checked(catalogue: &[u8], fit: &[u8], text: &mut [u8]) -> usize
     ensures { λ r. ⌜ take r (now (text .exit)) ≡ Text.checked (now (catalogue .entry)) (now (fit .entry)) ⌝ }
 {
     let mut buffer = [0u8; 65520];
-    let word = fitcheck::fit_list(catalogue, fit, &mut buffer);
+    let none = [0u8; 0];
+    let word = fitcheck::fit_list(catalogue, fit, &none, 0, &mut buffer);
     text_of(text, word, &buffer)
 }

@@ -12,7 +12,7 @@ use Rattle.entry.specs.declared.Rule.{Rule}
 use Rattle.entry.specs.declared.Rule.the-variants.{Resource, Slots, WrongSlot, NotAModule, NotADrone, NotAFighter, NotAnImplant}
 use Rattle.entry.specs.declared.Rule.the-variants.{SlotTaken, WrongSlotIndex, SubsystemTaken, Skill, RigSize, ShipRestricted}
 use Rattle.entry.specs.declared.Rule.the-variants.{CapitalItem, StructureItem, ShipItem, MaxGroup, MaxType, NotAHull, NotAMode}
-use Rattle.entry.specs.declared.Rule.the-variants.{NotASkill}
+use Rattle.entry.specs.declared.Rule.the-variants.{NotASkill, Banned, Points}
 use Rattle.entry.specs.declared.Entry.{Entry}
 use Rattle.entry.specs.declared.Packed.{Packed}
 use Rattle.entry.specs.Entries.{fields, place, entryBytes}
@@ -42,6 +42,8 @@ sixteen (MaxType id u a) = refl
 sixteen NotAHull = refl
 sixteen NotAMode = refl
 sixteen (NotASkill id) = refl
+sixteen (Banned group) = refl
+sixteen (Points u a) = refl
 
 pub length-entryBytes : (e : Entry) → length (entryBytes e) ≡ 24
 unfolding entryBytes

@@ -11,7 +11,11 @@ use Rattle.catalogue.proofs.Sound.{accepted-sound}
 use Rattle.fit.specs.Refusals.{fitRefusals, fitRefusal}
 use Rattle.fit.specs.Sound as Fit
 use Rattle.fit.proofs.Soundness.{sound}
-use Rattle.fitcheck.specs.Calls.{imageRefusals}
+use Rattle.profile.specs.Profile.{profileRefusals, profileRefusal}
+use Rattle.profile.specs.Sound as Profile
+use Rattle.profile.proofs.Accepted as Profiles
+use Rattle.lists.specs.Terms.{Terms}
+use Rattle.fitcheck.specs.Calls.{imageRefusals, inputRefusals}
 
 -- every number is one of 1 to limit
 abbrev pub Numbered : ℕ → List (ℕ × Bool) → Type 0
@@ -84,3 +88,23 @@ module _ (catalogue fit : List ℕ) where
       go : (k : ℕ) → catalogueRefusal catalogue ≡ k → Catalogue.Sound catalogue × Fit.Sound fit
       go zero q = (accepted-sound catalogue q, sound fit (fit-first q ∙ e))
       go (suc k) q = absurd (omega (arith, q, e, catalogue-first (omega (arith, q))))
+
+-- ---- of all that a list call brings
+pub numbered-inputs : (t : Terms) (catalogue fit : List ℕ) → Numbered 12 (inputRefusals t catalogue fit)
+unfolding catalogueRefusals fitRefusals profileRefusals
+numbered-inputs t catalogue fit = omega arith
+
+module _ (t : Terms) (catalogue fit : List ℕ) where
+  pub images-first : 0 < firstOf (imageRefusals catalogue fit) → firstOf (imageRefusals catalogue fit) ≡ firstOf (inputRefusals t catalogue fit)
+  images-first h = sym (first-kept (imageRefusals catalogue fit) (profileRefusals (t .profile)) h)
+
+  pub profile-first : firstOf (imageRefusals catalogue fit) ≡ 0 → profileRefusal (t .profile) ≡ firstOf (inputRefusals t catalogue fit)
+  unfolding profileRefusal
+  profile-first e = sym (first-past 6 (imageRefusals catalogue fit) (profileRefusals (t .profile)) (numbered-images catalogue fit) e)
+
+  pub inputs-sound : firstOf (inputRefusals t catalogue fit) ≡ 0 → Catalogue.Sound catalogue × Fit.Sound fit × Profile.Sound (t .profile)
+  inputs-sound e = go (firstOf (imageRefusals catalogue fit)) refl
+    where
+      go : (k : ℕ) → firstOf (imageRefusals catalogue fit) ≡ k → Catalogue.Sound catalogue × Fit.Sound fit × Profile.Sound (t .profile)
+      go zero q = let s = images-sound catalogue fit q in (s .0, s .1, Profiles.sound (t .profile) (profile-first q ∙ e))
+      go (suc k) q = absurd (omega (arith, q, e, images-first (omega (arith, q))))

@@ -14,10 +14,11 @@ use Rattle.fit.specs.Fit.{fitOf}
 use Rattle.entry.specs.declared.Entry.{Entry}
 use Rattle.entry.specs.Wrote.{Wrote}
 use Rattle.entry.proofs.Wrote.{wrote-count, wrote-written, wrote-none, wrote-same}
-use Rattle.validate.specs.Validate.{listOf}
-use Rattle.fitcheck.specs.Calls.{Answer, Refused, answerBy, answer, tooShort, imageRefusals, listRefusals, listCall, returned, buffered}
+use Rattle.lists.specs.Terms.{Terms}
+use Rattle.lists.specs.Lists.{wholeList}
+use Rattle.fitcheck.specs.Calls.{Answer, Refused, answerBy, answer, tooShort, inputRefusals, listCall, returned, buffered}
 use Rattle.fitcheck.specs.Gave.{Gave, lent}
-use Rattle.fitcheck.proofs.First.{Numbered, first-kept, first-past, numbered-images}
+use Rattle.fitcheck.proofs.First.{Numbered, first-kept, first-past, numbered-inputs}
 
 -- ---- which answer
 by-number : (k : ℕ) (es : List Entry) → 0 < k → answerBy k es ≡ Refused k
@@ -75,14 +76,13 @@ module _ {b : List ℕ} (es : List Entry) where
       nil [] q = refl
       nil (x ∷ l) q = absurd (omega arith)
 
--- ---- the list call, by the refusals of both images
-module _ (catalogue fit buffer : List ℕ) where
-  pub list-refused : 0 < firstOf (imageRefusals catalogue fit) → listCall catalogue fit buffer ≡ Refused (firstOf (imageRefusals catalogue fit))
+-- ---- the list call, by the refusals of all that it brings
+module _ (t : Terms) (catalogue fit buffer : List ℕ) where
+  pub list-refused : 0 < firstOf (inputRefusals t catalogue fit) → listCall t catalogue fit buffer ≡ Refused (firstOf (inputRefusals t catalogue fit))
   unfolding listCall
-  list-refused h = answer-kept (imageRefusals catalogue fit) _ _ h
+  list-refused h = answer-kept (inputRefusals t catalogue fit) _ _ h
 
-  pub list-past : firstOf (imageRefusals catalogue fit) ≡ 0
-      → listCall catalogue fit buffer
-      ≡ answer (listRefusals (catalogueOf catalogue) (fitOf fit) buffer) (listOf (catalogueOf catalogue) (fitOf fit))
+  pub list-past : firstOf (inputRefusals t catalogue fit) ≡ 0
+      → listCall t catalogue fit buffer ≡ lent buffer (wholeList t (catalogueOf catalogue) (fitOf fit))
   unfolding listCall
-  list-past e = answer-past (imageRefusals catalogue fit) _ _ 6 (numbered-images catalogue fit) e
+  list-past e = answer-past (inputRefusals t catalogue fit) _ _ 12 (numbered-inputs t catalogue fit) e

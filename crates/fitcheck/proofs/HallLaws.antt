@@ -20,7 +20,8 @@ use Rattle.catalogue.specs.Refusals.{catalogueRefusals, catalogueRefusal}
 use Rattle.fit.specs.Fit.{fitOf, itemCount, resultCount}
 use Rattle.fit.specs.Refusals.{fitRefusal}
 use Rattle.entry.specs.declared.Entry.{Entry}
-use Rattle.validate.specs.Validate.{listOf}
+use Rattle.lists.specs.Terms.{main}
+use Rattle.lists.specs.Lists.{wholeList}
 use Rattle.fitcheck.specs.Hall.{fitCount, lengthAt, fitStart, fitAt, fits, badInput, Laid, fitRefused, isClear, isFaulted, shareOf, wordOf}
 use Rattle.fitcheck.specs.Hall.{HallAnswer, hallBy, hallCall, hallReturned}
 use Rattle.fitcheck.proofs.First.{first-small, first-kept, first-past, numbered-catalogue}
@@ -97,7 +98,7 @@ module _ (c : Catalogue) (b : List ℕ) where
   turned-away h = lt-ltb 0 (fitRefusal b) h
 
   abbrev whole : Bool
-  whole = isEmpty (listOf c (fitOf b)) && eqb (itemCount b) (resultCount b)
+  whole = isEmpty (wholeList main c (fitOf b)) && eqb (itemCount b) (resultCount b)
 
   -- 65,536 where refused, else by the list and the two numbers
   judged : (r w : Bool) → fitRefused b ≡ r → whole ≡ w → cond r 65536 (cond w 1 256) ≡ shareOf c b
@@ -110,17 +111,17 @@ module _ (c : Catalogue) (b : List ℕ) where
   share-unread h = judged true whole (turned-away h) refl
 
   module _ (e : fitRefusal b ≡ 0) where
-    pub share-clear : length (listOf c (fitOf b)) ≡ 0 → itemCount b ≡ resultCount b → 1 ≡ shareOf c b
+    pub share-clear : length (wholeList main c (fitOf b)) ≡ 0 → itemCount b ≡ resultCount b → 1 ≡ shareOf c b
     unfolding isEmpty
-    share-clear h q = judged false true (accepted e) (ap₂ _&&_ (go (listOf c (fitOf b)) h) (eq-eqb (itemCount b) (resultCount b) q))
+    share-clear h q = judged false true (accepted e) (ap₂ _&&_ (go (wholeList main c (fitOf b)) h) (eq-eqb (itemCount b) (resultCount b) q))
       where
         go : (l : List Entry) → length l ≡ 0 → isEmpty l ≡ true
         go [] h = refl
         go (x ∷ l) h = absurd (omega arith)
 
-    pub share-faulted : 0 < length (listOf c (fitOf b)) → 256 ≡ shareOf c b
+    pub share-faulted : 0 < length (wholeList main c (fitOf b)) → 256 ≡ shareOf c b
     unfolding isEmpty
-    share-faulted h = judged false false (accepted e) (go (listOf c (fitOf b)) h)
+    share-faulted h = judged false false (accepted e) (go (wholeList main c (fitOf b)) h)
       where
         go : (l : List Entry) → 0 < length l → (isEmpty l && eqb (itemCount b) (resultCount b)) ≡ false
         go [] h = absurd (omega arith)
@@ -128,7 +129,7 @@ module _ (c : Catalogue) (b : List ℕ) where
 
     -- whatever is listed
     pub share-unequal : (itemCount b ≡ resultCount b → ⊥) → 256 ≡ shareOf c b
-    share-unequal h = judged false false (accepted e) (go (isEmpty (listOf c (fitOf b))) (ne-eqb (itemCount b) (resultCount b) h))
+    share-unequal h = judged false false (accepted e) (go (isEmpty (wholeList main c (fitOf b))) (ne-eqb (itemCount b) (resultCount b) h))
       where
         go : (l : Bool) {q : Bool} → q ≡ false → (l && q) ≡ false
         go true p = p

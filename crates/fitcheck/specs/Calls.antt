@@ -1,5 +1,5 @@
--- Document 01, "Refusals in their order": the list call and the skill call as functions of bytes: which refusal or which entries,
--- the buffer afterwards, the word that an exported call returns.
+-- Document 01, "Refusals in their order", and document 02: the list call and the skill call as functions of bytes: which refusal or which
+-- entries, the buffer afterwards, the word that an exported call returns.
 use Prim.Native.Nat.{ℕ, zero, suc, _+_, _*_}
 use mathlib.Core.Bool.{Bool, false}
 use mathlib.Core.List.{List, [], _∷_, _++_}
@@ -14,8 +14,10 @@ use Rattle.fit.specs.Fit.{Fit, fitOf, resultAt}
 use Rattle.fit.specs.Refusals.{fitRefusals}
 use Rattle.entry.specs.declared.Entry.{Entry}
 use Rattle.entry.specs.Entries as Entries
-use Rattle.validate.specs.Validate.{listOf}
+use Rattle.profile.specs.Profile.{profileRefusals}
 use Rattle.skill.specs.Skill.{tooMany, skillList}
+use Rattle.lists.specs.Terms.{Terms}
+use Rattle.lists.specs.Lists.{wholeList}
 
 pub data Answer : Type 0 where
   Refused : ℕ → Answer
@@ -45,8 +47,12 @@ tooShort buffer es = ltb (length buffer) (Sizes.entrySize * length es)
 abbrev pub imageRefusals : (catalogue fit : List ℕ) → List (ℕ × Bool)
 imageRefusals catalogue fit = catalogueRefusals catalogue ++ fitRefusals fit
 
-abbrev pub listRefusals : Catalogue → Fit → (buffer : List ℕ) → List (ℕ × Bool)
-listRefusals c f buffer = (Refusals.tooShort, tooShort buffer (listOf c f)) ∷ []
+-- all that a list call brings
+abbrev pub inputRefusals : Terms → (catalogue fit : List ℕ) → List (ℕ × Bool)
+inputRefusals t catalogue fit = imageRefusals catalogue fit ++ profileRefusals (t .profile)
+
+abbrev pub bufferRefusals : (buffer : List ℕ) → List Entry → List (ℕ × Bool)
+bufferRefusals buffer es = (Refusals.tooShort, tooShort buffer es) ∷ []
 
 abbrev pub skillRefusals : Catalogue → Fit → (result : ℕ) → (buffer : List ℕ) → List (ℕ × Bool)
 skillRefusals c f result buffer =
@@ -56,11 +62,10 @@ skillRefusals c f result buffer =
     ∷ []
 
 -- ---- the calls
-unfoldable pub listCall : (catalogue fit buffer : List ℕ) → Answer
-listCall catalogue fit buffer =
-    let c = catalogueOf catalogue in
-    let f = fitOf fit in
-    answer (imageRefusals catalogue fit ++ listRefusals c f buffer) (listOf c f)
+unfoldable pub listCall : Terms → (catalogue fit buffer : List ℕ) → Answer
+listCall t catalogue fit buffer =
+    let es = wholeList t (catalogueOf catalogue) (fitOf fit) in
+    answer (inputRefusals t catalogue fit ++ bufferRefusals buffer es) es
 
 unfoldable pub skillCall : (catalogue fit : List ℕ) (result : ℕ) (buffer : List ℕ) → Answer
 skillCall catalogue fit result buffer =

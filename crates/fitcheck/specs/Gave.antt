@@ -1,10 +1,9 @@
 -- What code that answers a call has done: the word that it returns, and the buffer that it leaves.
 use Prim.Native.Nat.{ℕ}
 use mathlib.Core.Path.{_≡_}
-use mathlib.Core.List.{List, [], _∷_}
-use Rattle.numbers.specs.Refusals as Refusals
+use mathlib.Core.List.{List}
 use Rattle.entry.specs.declared.Entry.{Entry}
-use Rattle.fitcheck.specs.Calls.{Answer, answer, tooShort, returned, buffered}
+use Rattle.fitcheck.specs.Calls.{Answer, answer, bufferRefusals, returned, buffered}
 
 pub record Gave (before after : List ℕ) (w : ℕ) (a : Answer) : Type 0 where
   pub word : w ≡ returned a
@@ -12,4 +11,4 @@ pub record Gave (before after : List ℕ) (w : ℕ) (a : Answer) : Type 0 where
 
 -- the entries, where they fit the buffer that was lent
 abbrev pub lent : List ℕ → List Entry → Answer
-lent buffer es = answer ((Refusals.tooShort, tooShort buffer es) ∷ []) es
+lent buffer es = answer (bufferRefusals buffer es) es

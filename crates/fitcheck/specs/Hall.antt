@@ -14,7 +14,8 @@ use Rattle.catalogue.specs.Catalogue.{Catalogue, catalogueOf}
 use Rattle.catalogue.specs.Refusals.{catalogueRefusals}
 use Rattle.fit.specs.Fit.{fitOf, itemCount, resultCount}
 use Rattle.fit.specs.Refusals.{fitRefusal}
-use Rattle.validate.specs.Validate.{listOf}
+use Rattle.lists.specs.Terms.{main}
+use Rattle.lists.specs.Lists.{wholeList}
 
 module _ (input : List ℕ) where
   abbrev pub fitCount : ℕ
@@ -51,7 +52,7 @@ fitRefused b = ltb 0 (fitRefusal b)
 module _ (c : Catalogue) where
   -- nothing is listed, and there are as many results as items: rules look at pairs, so all of it was read
   unfoldable pub isClear : List ℕ → Bool
-  isClear b = cond (fitRefused b) false (isEmpty (listOf c (fitOf b)) && eqb (itemCount b) (resultCount b))
+  isClear b = cond (fitRefused b) false (isEmpty (wholeList main c (fitOf b)) && eqb (itemCount b) (resultCount b))
 
   -- any other
   unfoldable pub isFaulted : List ℕ → Bool

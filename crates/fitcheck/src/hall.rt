@@ -81,8 +81,9 @@ fn share(catalogue: &[u8], fit: &[u8], hints: &mut [u32]) -> u64
         return FAULTED; // whatever is listed: not all of it is read
     }
     let facts = context::gather(catalogue, fit, hints);
+    let profile = [0u8; 0];
     let mut none = [0u8; 0];
-    if validate::validate(catalogue, fit, &facts, hints, &mut none) == 0 {
+    if lists::write(catalogue, fit, &profile, 0, &facts, hints, &mut none) == 0 {
         return CLEAR;
     }
     FAULTED

@@ -14,24 +14,26 @@ ghost use Rattle.catalogue.specs.Sound as Catalogue;
 ghost use Rattle.fit.specs.Fit.{fitOf, resultCount};
 ghost use Rattle.fit.specs.Sound as Fit;
 ghost use Rattle.context.specs.Gathered.{Gathered};
-ghost use Rattle.validate.specs.Validate.{listOf};
+ghost use Rattle.profile.specs.Sound as Profile;
 ghost use Rattle.skill.specs.Skill.{reported, skillList};
 ghost use Rattle.skill.specs.Held.{walkOf};
-ghost use Rattle.fitcheck.specs.Calls.{answer, imageRefusals, listRefusals, skillRefusals};
+ghost use Rattle.lists.specs.Terms.{terms};
+ghost use Rattle.lists.specs.Lists.{wholeList};
+ghost use Rattle.fitcheck.specs.Calls.{answer, imageRefusals, inputRefusals, skillRefusals};
 ghost use Rattle.fitcheck.specs.Calls.{listCall, skillCall, returned, buffered};
 ghost use Rattle.fitcheck.specs.Gave.{Gave, lent};
 ghost use Rattle.fitcheck.specs.Hall.{hallCall, hallReturned};
 ghost use Rattle.fitcheck.specs.Widen.{widenCall, outputWord, filled};
 
 // The bytes of the longest list: a buffer that holds it holds any list, and need not be counted for.
-const ANY_LIST: usize = sizes::ENTRY_SIZE * validate::MOST_ENTRIES;
+const ANY_LIST: usize = sizes::ENTRY_SIZE * lists::MOST_ENTRIES;
 
 // Of a walk, which holds 512 skills: each is listed once at most.
 const ANY_SKILL_LIST: usize = sizes::ENTRY_SIZE * sizes::MOST_WANTED;
 
 // The word of a refusal. The count beside it is 0.
 fn refused(number: u64) -> u64
-    requires { ⌜ number ≤ Refusals.tooShort ⌝ }
+    requires { ⌜ number ≤ Refusals.highest ⌝ }
     ensures { λ r. ⌜ r ≡ number * Sizes.word ⌝ }
 {
     number * sizes::WORD
@@ -48,58 +50,87 @@ fn image_refusal(catalogue: &[u8], fit: &[u8]) -> u64
     fit_refusals::number(fit)
 }
 
+// The first of refusals 1 to 6, 11 and 12 that holds, or 0.
+fn input_refusal(catalogue: &[u8], fit: &[u8], profile: &[u8]) -> u64
+    ensures { λ r.
+        let t = terms (now (profile .entry)) 0 in
+        ⌜ r ≡ firstOf (inputRefusals t (now (catalogue .entry)) (now (fit .entry))) ⌝ }
+{
+    let first = image_refusal(catalogue, fit);
+    if 0 < first {
+        return first;
+    }
+    profile::number(profile)
+}
+
 // The list for a buffer that may be too short: it is counted first, and an empty list is not run again.
 fn counted_list(
     catalogue: &[u8],
     fit: &[u8],
+    profile: &[u8],
+    allowance: u32,
     facts: &[u32; 1797],
     hints: &mut [u32],
     out: &mut [u8],
 ) -> u64
-    requires { ⌜ Gathered (now catalogue) (now fit) (now facts) ⌝ }
+    requires { ⌜ Gathered (now catalogue) (now fit) (now facts) × Profile.Sound (now profile) ⌝ }
     ensures { λ r.
-        let es = listOf (catalogueOf (now (catalogue .entry))) (fitOf (now (fit .entry))) in
+        let t = terms (now (profile .entry)) allowance in
+        let es = wholeList t (catalogueOf (now (catalogue .entry))) (fitOf (now (fit .entry))) in
         ⌜ Gave (now (out .entry)) (now (out .exit)) r (lent (now (out .entry)) es) ⌝ }
 {
     let mut none = [0u8; 0];
-    let count = validate::validate(catalogue, fit, facts, hints, &mut none);
+    let count = lists::write(catalogue, fit, profile, allowance, facts, hints, &mut none);
     if count == 0 {
         return 0;
     }
     if out.len() / sizes::ENTRY_SIZE < count {
         return refused(refusals::TOO_SHORT);
     }
-    validate::validate(catalogue, fit, facts, hints, out) as u64
+    lists::write(catalogue, fit, profile, allowance, facts, hints, out) as u64
 }
 
-// The list call on images that are accepted.
-fn list_accepted(catalogue: &[u8], fit: &[u8], out: &mut [u8]) -> u64
-    requires { ⌜ Catalogue.Sound (now catalogue) × Fit.Sound (now fit) ⌝ }
+// The list call on images and a profile that are accepted.
+fn list_accepted(
+    catalogue: &[u8],
+    fit: &[u8],
+    profile: &[u8],
+    allowance: u32,
+    out: &mut [u8],
+) -> u64
+    requires { ⌜ Catalogue.Sound (now catalogue) × Fit.Sound (now fit) × Profile.Sound (now profile) ⌝ }
     ensures { λ r.
-        let c = catalogueOf (now (catalogue .entry)) in
-        let f = fitOf (now (fit .entry)) in
-        ⌜ Gave (now (out .entry)) (now (out .exit)) r (answer (listRefusals c f (now (out .entry))) (listOf c f)) ⌝ }
+        let t = terms (now (profile .entry)) allowance in
+        let es = wholeList t (catalogueOf (now (catalogue .entry))) (fitOf (now (fit .entry))) in
+        ⌜ Gave (now (out .entry)) (now (out .exit)) r (lent (now (out .entry)) es) ⌝ }
 {
     let mut hints = [0u32; context::LIST_HINTS];
     let facts = context::gather(catalogue, fit, &mut hints);
     if out.len() < ANY_LIST {
-        return counted_list(catalogue, fit, &facts, &mut hints, out);
+        return counted_list(catalogue, fit, profile, allowance, &facts, &mut hints, out);
     }
-    validate::validate(catalogue, fit, &facts, &mut hints, out) as u64
+    lists::write(catalogue, fit, profile, allowance, &facts, &mut hints, out) as u64
 }
 
-// The list call: every rule that a fit breaks.
+// The list call: every rule that a fit breaks, those of a league with it.
 #[no_mangle]
-pub extern "C" fn fit_list(catalogue: &[u8], fit: &[u8], out: &mut [u8]) -> u64
+pub extern "C" fn fit_list(
+    catalogue: &[u8],
+    fit: &[u8],
+    profile: &[u8],
+    allowance: u32,
+    out: &mut [u8],
+) -> u64
     ensures { λ r.
-        let call = listCall (now (catalogue .entry)) (now (fit .entry)) (now (out .entry)) in
+        let t = terms (now (profile .entry)) allowance in
+        let call = listCall t (now (catalogue .entry)) (now (fit .entry)) (now (out .entry)) in
         ⌜ (r ≡ returned call) × (now (out .exit) ≡ buffered (now (out .entry)) call) ⌝ }
 {
-    let first = image_refusal(catalogue, fit);
+    let first = input_refusal(catalogue, fit, profile);
     if 0 < first {
         return refused(first);
     }
-    list_accepted(catalogue, fit, out)
+    list_accepted(catalogue, fit, profile, allowance, out)
 }
 
 // The skill list of a walk.
@@ -191,8 +222,8 @@ pub extern "C" fn fit_widen(old: &[u8], out: &mut [u8]) -> u64
 
 // The number of this set of calls and images, in the symbol's name: a caller written for another set does not link.
 #[no_mangle]
-pub extern "C" fn fit_interface_2() -> u64
-    ensures { λ r. ⌜ r ≡ 2 ⌝ }
+pub extern "C" fn fit_interface_3() -> u64
+    ensures { λ r. ⌜ r ≡ 3 ⌝ }
 {
-    2
+    3
 }

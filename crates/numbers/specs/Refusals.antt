@@ -34,3 +34,15 @@ tooManySkills = 9
 -- the buffer
 abbrev pub tooShort : ℕ
 tooShort = 10
+
+-- a league profile's length
+abbrev pub badProfile : ℕ
+badProfile = 11
+
+-- the order of its groups, or its points
+abbrev pub badPrices : ℕ
+badPrices = 12
+
+-- no number is higher
+abbrev pub highest : ℕ
+highest = badPrices

@@ -35,6 +35,18 @@ lastModeFlag = 1
 abbrev pub lastIndex : ℕ
 lastIndex = 255
 
+-- ---- The league profile
+abbrev pub mostGroups : ℕ
+mostGroups = 4096
+
+-- of a group that is not banned
+abbrev pub mostPoints : ℕ
+mostPoints = 1000000
+
+-- the points of a group that is banned
+abbrev pub banned : ℕ
+banned = 4294967295
+
 -- ---- The calls
 -- bytes of an entry
 abbrev pub entrySize : ℕ

@@ -16,3 +16,7 @@ pub const NO_RESULT: u64 = 8;
 pub const TOO_MANY_SKILLS: u64 = 9;
 
 pub const TOO_SHORT: u64 = 10;
+
+pub const BAD_PROFILE: u64 = 11;
+
+pub const BAD_PRICES: u64 = 12;

@@ -21,6 +21,15 @@ pub const LAST_MODE_FLAG: u32 = 1;
 // Of an item that is no booster.
 pub const LAST_INDEX: u16 = 255;
 
+// Groups of a league profile.
+pub const MOST_GROUPS: usize = 4096;
+
+// Points of a group that is not banned.
+pub const MOST_POINTS: u32 = 1000000;
+
+// The points of a group that is banned.
+pub const BANNED: u32 = 4294967295;
+
 // Bytes of an entry.
 pub const ENTRY_SIZE: usize = 24;
 

@@ -12,7 +12,7 @@ use Rattle.entry.specs.declared.Entry.{Entry}
 use Rattle.entry.specs.Entries.{entryBytes, written}
 use Rattle.fitcheck.specs.Calls.{answerBy, answer, buffered, returned}
 use Rattle.fitcheck.proofs.First.{Numbered}
-use Rattle.promises.specs.Answers.{outcome, Conditions, None, Answers}
+use Rattle.promises.specs.Answers.{outcome, Conditions, highest, None, Answers}
 use Rattle.promises.proofs.Conditions.{is-none, word-refused, word-answered, word-numbered}
 use Rattle.promises.proofs.Entries.{entry-at, entries-length}
 
@@ -28,20 +28,20 @@ elem-of d (x ∷ l) zero h = refl
 elem-of d (x ∷ l) (suc i) h = elem-of d l i (le-of-suc-le-suc h)
 
 -- ---- the call
-module _ (l : Conditions) (numbered : Numbered 10 l) (es : List Entry) (before : List ℕ)
+module _ (l : Conditions) (numbered : Numbered highest l) (es : List Entry) (before : List ℕ)
     (small : None l → length es < 2 ^ 32) (room : None l → 24 * length es ≤ length before) where
   go : (k : ℕ) → firstOf l ≡ k → Answers l es before (outcome before (answerBy k es))
   unfolding answerBy buffered returned written
   go zero e =
-      let n = is-none l numbered e in
+      let n = is-none highest l numbered e in
       let s = small n in
       let r = room n in
       let w = entries-length es in
       let q : firstOf l ≡ length es / 4294967296 = omega arith in
       record {
-        refused = word-refused l numbered (length es) q;
-        answered = word-answered l numbered (length es) q;
-        numbered = word-numbered l numbered (length es) q;
+        refused = word-refused highest l numbered (length es) q;
+        answered = word-answered highest l numbered (length es) q;
+        numbered = word-numbered highest l numbered (length es) q;
         nothing = λ p. absurd (omega arith);
         counted = λ h. omega arith;
         entries = λ h i x q.
@@ -59,9 +59,9 @@ module _ (l : Conditions) (numbered : Numbered 10 l) (es : List Entry) (before :
   go (suc k) e =
       let q : firstOf l ≡ suc k * 4294967296 / 4294967296 = omega arith in
       record {
-        refused = word-refused l numbered (suc k * 4294967296) q;
-        answered = word-answered l numbered (suc k * 4294967296) q;
-        numbered = word-numbered l numbered (suc k * 4294967296) q;
+        refused = word-refused highest l numbered (suc k * 4294967296) q;
+        answered = word-answered highest l numbered (suc k * 4294967296) q;
+        numbered = word-numbered highest l numbered (suc k * 4294967296) q;
         nothing = λ p. (omega arith, refl);
         counted = λ h. absurd (omega arith);
         entries = λ h. absurd (omega arith);

@@ -5,7 +5,7 @@ use native.Mathlib.Omega.{arith}
 use mathlib.Core.Path.{_≡_, refl, sym, ap, ap₂, _∙_, subst, subst₂}
 use mathlib.Core.Bool.{Bool, true, false, cond}
 use mathlib.Core.List.{List, [], _∷_, _++_}
-use lib.Dec.{ltb→lt, lt→ltb, nltb→le}
+use lib.Dec.{ltb→lt, lt→ltb}
 use lib.ListN.{length, getD, drop, getElem?}
 use Rattle.words.specs.Words.{same}
 use Rattle.image.specs.Bytes.{u32At}
@@ -16,15 +16,17 @@ use Rattle.entry.specs.declared.Entry.{Entry}
 use Rattle.entry.specs.declared.Rule.the-variants.{NotAHull}
 use Rattle.entry.specs.Entries.{onShip}
 use Rattle.skill.specs.Skill.{entryOf, skillList}
+use Rattle.lists.specs.Terms.{Terms}
 use Rattle.fitcheck.specs.Calls.{listCall, skillCall}
 use Rattle.promises.specs.Answers.{Outcome, outcome, refusal, Conditions, Answers}
-use Rattle.promises.specs.Compare.{Bytes, Grown, AddedVolumes, Stays, Kept}
+use Rattle.promises.specs.Compare.{Bytes, Grown, AddedVolumes, Alike, Stays, Kept}
 use Rattle.promises.proofs.Placed.{place, place-rising, place-inside, place-keeps, placed-bind, placed-each, placed-when}
 use Rattle.promises.proofs.Rises.{Rises, covers-stays}
-use Rattle.promises.proofs.Growth.{Within, begins, list-grows}
+use Rattle.promises.proofs.Growth.{Within, begins, whole-grows}
 use Rattle.promises.proofs.All.{All, all-at, all-mem, all-drop, all-table}
-use Rattle.promises.proofs.Sounds.{AllSound, list-sound, skills-sound}
+use Rattle.promises.proofs.Sounds.{AllSound, whole-sound, skills-sound}
 use Rattle.promises.proofs.Lengths.{pairs-short}
+use Rattle.promises.proofs.Accepted.{sized, list-accepted, asked}
 use Rattle.promises.proofs.Answering.{elem-of}
 use Rattle.promises.proofs.Calls.{list-answers, skill-answers}
 
@@ -59,17 +61,20 @@ pub quantities : (b : List ℕ) → Bytes b → All (λ (i : Item). i .quantity 
 unfolding fitOf
 quantities b h = all-table (itemAt b) (λ i. u32-small b h (itemsAt b + 12 * i + 4)) 0 (itemCount b)
 
-pub list-kept : (catalogue old new before before′ : List ℕ) → Bytes new
+pub list-kept : (t t′ : Terms) (catalogue old new before before′ : List ℕ) → Alike t t′ → Bytes new
     → Grown (fitOf old) (fitOf new) → AddedVolumes (catalogueOf catalogue) (fitOf old) (fitOf new)
-    → refusal (outcome before (listCall catalogue old before)) ≡ 0 → refusal (outcome before′ (listCall catalogue new before′)) ≡ 0
-    → Kept (outcome before (listCall catalogue old before)) (outcome before′ (listCall catalogue new before′))
-list-kept catalogue old new before before′ bytes g v h h′ =
+    → refusal (outcome before (listCall t catalogue old before)) ≡ 0 → refusal (outcome before′ (listCall t′ catalogue new before′)) ≡ 0
+    → Kept (outcome before (listCall t catalogue old before)) (outcome before′ (listCall t′ catalogue new before′))
+list-kept t t′ catalogue old new before before′ alike bytes g v h h′ =
     let c = catalogueOf catalogue in
-    let A = list-answers catalogue old before in
-    let A′ = list-answers catalogue new before′ in
-    kept A A′ h h′ (list-grows c (fitOf old) (fitOf new) g v (all-mem (all-drop (length (fitOf old .items)) (quantities new bytes))))
-    (list-sound c old (let k = pairs-short old (A .answered .0 h .1 .1 .1 .0) c in omega arith))
-    (list-sound c new (let k = pairs-short new (A′ .answered .0 h′ .1 .1 .1 .0) c in omega arith))
+    let A = list-answers t catalogue old before in
+    let A′ = list-answers t′ catalogue new before′ in
+    let small = all-mem (all-drop (length (fitOf old .items)) (quantities new bytes)) in
+    let sound = list-accepted t catalogue old before (A .answered .0 h) in
+    let sound′ = list-accepted t′ catalogue new before′ (A′ .answered .0 h′) in
+    kept A A′ h h′ (whole-grows c (fitOf old) (fitOf new) g v small alike)
+    (whole-sound t c old (sound .ofProfile) (pairs-short old (sized sound) c))
+    (whole-sound t′ c new (sound′ .ofProfile) (pairs-short new (sized sound′) c))
 
 -- ---- the skill call
 untrained : (is : List Id) (t : Id) → trained is [] t ≡ 0
@@ -119,5 +124,5 @@ skills-kept catalogue old new before before′ n g h h′ =
     let c = catalogueOf catalogue in
     let A = skill-answers catalogue old n before in
     let A′ = skill-answers catalogue new n before′ in
-    kept A A′ h h′ (skills-grow (fitOf old) (fitOf new) g c n (nltb→le (length (fitOf old .results) + 1) n (A .answered .0 h .1 .1 .1 .1 .1 .1 .0)))
+    kept A A′ h h′ (skills-grow (fitOf old) (fitOf new) g c n (asked catalogue old n before (A .answered .0 h) .inside))
     (skills-sound c (fitOf old) n) (skills-sound c (fitOf new) n)

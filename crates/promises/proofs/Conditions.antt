@@ -1,5 +1,5 @@
 -- Numbers with conditions: which is the first that holds. By cases on the conditions, one after the other.
-use Prim.Native.Nat.{ℕ, _/_, _≤_, _<_, pred}
+use Prim.Native.Nat.{ℕ, _/_, _≤_, _<_}
 use native.Mathlib.Omega.{arith}
 use mathlib.Core.Path.{_≡_, refl, sym, _∙_}
 use mathlib.Core.Bool.{Bool, true, false, not, cond}
@@ -39,25 +39,25 @@ none-is (x ∷ l) h = go (x .1) (h .0) (none-is l (h .1))
     go true h e = absurd h
     go false h e = e
 
-pub is-none : (l : Conditions) → Numbered 10 l → firstOf l ≡ 0 → None l
+pub is-none : (top : ℕ) (l : Conditions) → Numbered top l → firstOf l ≡ 0 → None l
 unfolding firstOf
-is-none [] h e = tt
-is-none (x ∷ l) h e = go (x .1) (is-none l (h .2)) e
+is-none top [] h e = tt
+is-none top (x ∷ l) h e = go (x .1) (is-none top l (h .2)) e
   where
     go : (b : Bool) → (firstOf l ≡ 0 → None l) → cond b (x .0) (firstOf l) ≡ 0 → T (not b) × None l
     go true f e = absurd (omega arith)
     go false f e = (tt, f e)
 
 -- ---- a word whose upper half is the first number
-module _ (l : Conditions) (numbered : Numbered 10 l) (w : ℕ) (e : firstOf l ≡ w / 4294967296) where
+module _ (top : ℕ) (l : Conditions) (numbered : Numbered top l) (w : ℕ) (e : firstOf l ≡ w / 4294967296) where
   pub word-refused : (n : ℕ) → 0 < n → (w / 4294967296 ≡ n) ↔ First n l
   word-refused n p = (λ h. is-first n p l (e ∙ h), λ h. sym e ∙ first-is n l h)
 
   pub word-answered : (w / 4294967296 ≡ 0) ↔ None l
-  word-answered = (λ h. is-none l numbered (e ∙ h), λ h. sym e ∙ none-is l h)
+  word-answered = (λ h. is-none top l numbered (e ∙ h), λ h. sym e ∙ none-is l h)
 
-  pub word-numbered : w / 4294967296 ≤ 10
-  word-numbered = omega (arith, e, first-small 10 l numbered)
+  pub word-numbered : w / 4294967296 ≤ top
+  word-numbered = omega (arith, e, first-small top l numbered)
 
 -- ---- conditions behind others
 pub prefix-first : (n : ℕ) (l m : Conditions) → First n l → First n (l ++ m)
@@ -71,6 +71,10 @@ prefix-first n (x ∷ l) m h = go (prefix-first n l m) h
 pub behind-first : (n : ℕ) (l m : Conditions) → None l → First n m → First n (l ++ m)
 behind-first n [] m h k = k
 behind-first n (x ∷ l) m h k = inr (h .0, behind-first n l m (h .1) k)
+
+pub none-parts : (l m : Conditions) → None (l ++ m) → None l × None m
+none-parts [] m h = (tt, h)
+none-parts (x ∷ l) m h = let k = none-parts l m (h .1) in ((h .0, k .0), k .1)
 
 pub none-join : (l m : Conditions) → None l → None m → None (l ++ m)
 none-join [] m h k = k
@@ -115,10 +119,10 @@ left-out n b (x ∷ l) m h = go (x .1) (left-out n b l m) h
     go false f k = f k
 
 -- where the last one is the first, none before it holds
-pub last-first : (n : ℕ) (l : Conditions) (b : Bool) → Between 1 (pred n) l → First n (l ++ (n, b) ∷ []) → None l × T b
+pub last-first : (n : ℕ) (l : Conditions) (b : Bool) → Without n l → First n (l ++ (n, b) ∷ []) → None l × T b
 last-first n [] b k h = elim h [ inl a ↦ (tt, a .1) | inr a ↦ absurd (a .1) ]
-last-first n (x ∷ l) b k h = go (last-first n l b (k .2)) h
+last-first n (x ∷ l) b k h = go (last-first n l b (k .1)) h
   where
     go : (First n (l ++ (n, b) ∷ []) → None l × T b) → ((x .0 ≡ n) × T (x .1)) ⊎ (T (not (x .1)) × First n (l ++ (n, b) ∷ [])) → (T (not (x .1)) × None l) × T b
-    go f (inl a) = absurd (let e = a .0 in let p = k .0 in let q = k .1 in omega arith)
+    go f (inl a) = absurd (k .0 (a .0))
     go f (inr a) = let r = f (a .1) in ((a .0, r .0), r .1)

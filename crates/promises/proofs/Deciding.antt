@@ -82,19 +82,21 @@ module _ (a b : List ℕ) where
       ∷ where-equal rule 11 (leb (u32At b 16) (u32At a 16))
       ∷ where-equal rule 17 (leb (u32At a 12) (u32At b 12))
       ∷ where-equal rule 18 (leb (u32At a 12) (u32At b 12))
+      ∷ where-equal rule 25 (leb (u32At a 8) (u32At b 8))
       ∷ []
 
   isStays : Bool
   isStays = conj tests
 
   stays-by : All T tests → Stays a b
-  stays-by (cons same (cons resource (cons slots (cons skill (cons maxGroup (cons maxType nil)))))) = record {
+  stays-by (cons same (cons resource (cons slots (cons skill (cons maxGroup (cons maxType (cons points nil))))))) = record {
     bytes = equal-eq (blank a) (blank b) same;
     resource = asked rule 1 (le (f64At a 8) (f64At b 8)) resource;
     slots = λ e. leb→le (u32At a 8) (u32At b 8) (asked rule 2 _ slots e);
     skill = λ e. leb→le (u32At b 16) (u32At a 16) (asked rule 11 _ skill e);
     maxGroup = λ e. leb→le (u32At a 12) (u32At b 12) (asked rule 17 _ maxGroup e);
     maxType = λ e. leb→le (u32At a 12) (u32At b 12) (asked rule 18 _ maxType e);
+    points = λ e. leb→le (u32At a 8) (u32At b 8) (asked rule 25 _ points e);
   }
 
   stays-if : T isStays → Stays a b
@@ -111,7 +113,8 @@ module _ (a b : List ℕ) where
       (cons (answers rule 11 _ (λ e. le→leb (u32At b 16) (u32At a 16) (s .skill e)))
       (cons (answers rule 17 _ (λ e. le→leb (u32At a 12) (u32At b 12) (s .maxGroup e)))
       (cons (answers rule 18 _ (λ e. le→leb (u32At a 12) (u32At b 12) (s .maxType e)))
-      nil))))))
+      (cons (answers rule 25 _ (λ e. le→leb (u32At a 8) (u32At b 8) (s .points e)))
+      nil)))))))
 
 -- ---- places of a entries, which f gives, among b others, which g gives
 record Places (a b : ℕ) (f g : ℕ → List ℕ) : Type 0 where

@@ -73,6 +73,10 @@ example = record {
   volumes = all-mem allowed;
   old-list = refl;
   new-list = refl;
+  old-bans = refl;
+  new-bans = refl;
+  old-points = refl;
+  new-points = refl;
   old-skills = refl;
   new-skills = refl;
 }

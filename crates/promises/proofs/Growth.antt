@@ -22,15 +22,19 @@ use Rattle.fit.specs.Fit as Fit
 use Rattle.entry.specs.declared.Entry.{Entry}
 use Rattle.entry.specs.declared.Rule.the-variants.{NotAHull}
 use Rattle.entry.specs.Entries.{onShip}
-use Rattle.context.specs.Context.{Pair, Context, pairOf, pairsFrom, pairs, context, isIn}
+use Rattle.context.specs.Context.{Pair, Context, pairOf, pairsFrom, pairs, context, isFitted, isIn}
 use Rattle.validate.specs.Kind.{isHull, notAMode, notASkill}
 use Rattle.resource.specs.Resource.{resource, launched, cargoVolume, cargoUsed, loads, launchedDrones, cargo, resources}
 use Rattle.racks.specs.Racks.{RACKS, HARDPOINTS, slots, racks, hardpoints}
 use Rattle.slot.specs.Slot.{wrongSlot, notAModule, notADrone, notAFighter, notAnImplant, wrongSlotIndex, slotTaken, subsystemTaken, slotChecks}
 use Rattle.item.specs.Item.{rigSize, shipRestricted, capitalItem, standup}
 use Rattle.limits.specs.Limits.{GROUP-LIMITS, groupLimitAt, groupLimit, groupLimits, typeLimitAt, typeLimit}
-use Rattle.validate.specs.Validate.{hullRules, listWith, listOf}
-use Rattle.promises.specs.Compare.{Grown, volumeAllowed, AddedVolumes, addedItems}
+use Rattle.validate.specs.Validate.{hullRules, listWith}
+use Rattle.profile.specs.Profile.{Price, pricesOf}
+use Rattle.league.specs.League.{banned, cost, points, overAllowance, league}
+use Rattle.lists.specs.Terms.{Terms}
+use Rattle.lists.specs.Lists.{onHull, leagueOf, wholeWith, wholeList}
+use Rattle.promises.specs.Compare.{Grown, volumeAllowed, AddedVolumes, addedItems, Alike}
 use Rattle.promises.proofs.Placed.{Into, into-append, only-into, count-into, sum-into, any-into, Placed, placed-join, placed-refl}
 use Rattle.promises.proofs.Placed.{placed-when, placed-unless, placed-bind, placed-each, placed-into, and-mono, ltb-mono}
 use Rattle.promises.proofs.Rises.{Rises, Covers}
@@ -118,6 +122,13 @@ module _ {ps qs : List Pair} (s : Into ps qs) where
     typeLimit-grows = placed-bind _ λ id. placed-into s λ p. placed-bind _ λ allowed.
         let h = count-into _ s in above _ _ _ h (record { target = refl; rule = Rises.maxType h })
 
+  -- ---- a league's
+  league-grows : (prices : List Price) (allowance : ℕ) → Within (league prices allowance ps) (league prices allowance qs)
+  unfolding league banned overAllowance points
+  league-grows prices allowance =
+      let h = sum-into (cost prices) (only-into isFitted s) in
+      placed-join (each-alone _) (above _ _ _ h (record { target = refl; rule = Rises.points h }))
+
 -- ---- resource.rs
 resource-grows : (r : ℕ) (u v a : Float) → (T (over u a) → T (le u v)) → Within (resource r u a) (resource r v a)
 unfolding resource
@@ -172,6 +183,18 @@ module _ (ps added : List Pair) (volumes : (p : Pair) → List·Memᴰ p added �
           (cond b (notAMode c (modeOf k) ++ notASkill c ids ++ hullRules (context c k) (ps ++ added)) (onShip NotAHull ∷ []))
       go true = placed-join (same-list (notAMode c (modeOf k) ++ notASkill c ids)) (hullRules-grow (context c k))
       go false = same-list (onShip NotAHull ∷ [])
+
+  -- what is put behind the list of a hull
+  wholeWith-grows : {t t′ : Terms} → Alike t t′ → (c : Catalogue) (k : Frame) (ids : List Id)
+      → Within (wholeWith t c k ids ps) (wholeWith t′ c k ids (ps ++ added))
+  unfolding wholeWith onHull
+  wholeWith-grows {t} {t′} alike c k ids = placed-join (listWith-grows c k ids) (go (isHull c (k .ship)))
+    where
+      go : (b : Bool) → Within (cond b (leagueOf t ps) []) (cond b (leagueOf t′ (ps ++ added)) [])
+      go true =
+          subst (Within (leagueOf t ps)) (ap₂ (λ (b : List ℕ) (a : ℕ). league (pricesOf b) a (ps ++ added)) (alike .profile) (alike .allowance))
+          (league-grows (into-append ps added) (pricesOf (t .profile)) (t .allowance))
+      go false = same-list []
 
 -- ---- the pairs of a grown fit
 pairs-append : (c : Catalogue) (n : ℕ) (is js : List Fit.Item) (rs ss : List Result) → length is ≡ length rs
@@ -231,9 +254,9 @@ module _ (c : Catalogue) (old new : Fit) (g : Grown old new) (v : AddedVolumes c
         subst (λ (x : Float). T (isVolume x)) (sym (h .3)) (allowed-volume c (h .0 .type) (v (h .0) (h .1) (sym (h .2) ∙ eqb→eq _ _ t))),
       )
 
-  pub list-grows : Within (listOf c old) (listOf c new)
-  unfolding listOf
-  list-grows =
-      let e : listOf c new ≡ listWith c (old .frame) (old .skills) (pairs c old ++ added) =
-      ap (λ (k : Frame). listWith c k (new .skills) (pairs c new)) (g .frame) ∙ ap₂ (listWith c (old .frame)) (g .skills) new-pairs in
-      subst (Within (listOf c old)) (sym e) (listWith-grows (pairs c old) added volumes c (old .frame) (old .skills))
+  pub whole-grows : {t t′ : Terms} → Alike t t′ → Within (wholeList t c old) (wholeList t′ c new)
+  unfolding wholeList
+  whole-grows {t} {t′} alike =
+      let e : wholeList t′ c new ≡ wholeWith t′ c (old .frame) (old .skills) (pairs c old ++ added) =
+      ap (λ (k : Frame). wholeWith t′ c k (new .skills) (pairs c new)) (g .frame) ∙ ap₂ (wholeWith t′ c (old .frame)) (g .skills) new-pairs in
+      subst (Within (wholeList t c old)) (sym e) (wholeWith-grows (pairs c old) added volumes alike c (old .frame) (old .skills))

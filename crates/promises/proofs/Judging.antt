@@ -10,17 +10,21 @@ use mathlib.Core.Logic.{_⊎_, _↔_, inl, inr}
 use lib.Dec.{T, T-not, not-T, eqb, eqb→eq, ltb, lt→ltb, nltb→le}
 use lib.ListN.{length, take, drop}
 use borrow.Author.Tests.{lt-ltb, le-ltb, eq-eqb}
-use Rattle.words.specs.Words.{only, countOf, isEmpty, firstOf}
+use Rattle.words.specs.Words.{only, countOf, isEmpty, anyOf, inOrder, tableFrom, firstOf}
 use Rattle.words.proofs.Tables.{length-table}
+use Rattle.image.specs.Bytes.{u32At}
 use Rattle.catalogue.specs.Catalogue.{Catalogue, catalogueOf}
 use Rattle.catalogue.specs.Refusals.{catalogueRefusals}
 use Rattle.fit.specs.Fit.{fitOf, itemCount, resultCount}
 use Rattle.fit.specs.Refusals.{fitRefusals, fitRefusal}
+use Rattle.profile.specs.Profile.{pricesOf, badProfile, badPrices}
 use Rattle.entry.specs.declared.Entry.{Entry}
-use Rattle.validate.specs.Validate.{listOf}
+use Rattle.lists.specs.Terms.{main}
+use Rattle.lists.specs.Lists.{wholeList}
 use Rattle.fitcheck.specs.Calls.{listCall, tooShort}
 use Rattle.fitcheck.specs.Hall.{fitCount, lengthAt, fitStart, fits, badInput, fitRefused, isClear, isFaulted, HallAnswer, hallBy, hallCall, hallReturned}
-use Rattle.promises.specs.Answers.{Outcome, outcome, refusal, count, Conditions, catalogueConditions, listConditions, First, None, Answers}
+use Rattle.promises.specs.Answers.{Outcome, outcome, refusal, count, Conditions, catalogueConditions, profileConditions, listConditions}
+use Rattle.promises.specs.Answers.{First, None, Answers}
 use Rattle.promises.specs.Halls.{hallConditions, clearIn, faultedIn, refusedIn, HallAnswers, Judged}
 use Rattle.promises.proofs.Conditions.{first-is, is-first, none-is, is-none, prefix-first, behind-first, none-join, first-between}
 use Rattle.promises.proofs.Lengths.{list-short}
@@ -52,7 +56,7 @@ count-parts p q r h (x ∷ l) =
 
 parts : (c : Catalogue) (b : List ℕ) → bit (isClear c b) + bit (isFaulted c b) + bit (fitRefused b) ≡ 1
 unfolding bit isClear isFaulted
-parts c b = go (fitRefused b) (isEmpty (listOf c (fitOf b)) && eqb (itemCount b) (resultCount b))
+parts c b = go (fitRefused b) (isEmpty (wholeList main c (fitOf b)) && eqb (itemCount b) (resultCount b))
   where
     go : (r e : Bool) → bit (cond r false e) + bit (not (cond r false e || r)) + bit r ≡ 1
     go true e = refl
@@ -102,7 +106,7 @@ module _ (catalogue input : List ℕ) where
       (HallAnswer.Numbers (countOf (isClear c) (fits input)) (countOf (isFaulted c) (fits input)) (countOf fitRefused (fits input)))))
   unfolding hallBy hallReturned
   go zero e =
-      let n = is-none (hallConditions catalogue input) (omega arith) e in
+      let n = is-none 4 (hallConditions catalogue input) (omega arith) e in
       let s = few (n .1 .1 .1 .0) in
       let t = total in
       let x = countOf (isClear c) (fits input) in
@@ -156,13 +160,18 @@ or-false : (b : Bool) → T (b || false) → T b
 or-false true t = tt
 or-false false t = t
 
+-- no profile is not refused
+none-brought : None (profileConditions [])
+unfolding badProfile badPrices pricesOf isEmpty inOrder anyOf tableFrom u32At
+none-brought = (tt, (tt, tt))
+
 -- ---- a fit and its list call
 module _ (catalogue fit buffer : List ℕ) (fine : None (catalogueConditions catalogue)) where
   abbrev cat : Catalogue
   cat = catalogueOf catalogue
 
   abbrev es : List Entry
-  es = listOf cat (fitOf fit)
+  es = wholeList main cat (fitOf fit)
 
   -- nothing listed, as many results as items
   abbrev whole : Bool
@@ -172,24 +181,30 @@ module _ (catalogue fit buffer : List ℕ) (fine : None (catalogueConditions cat
   abbrev ownConditions : Conditions
   ownConditions = fitRefusals fit
 
-  abbrev A : Answers (listConditions catalogue fit buffer) es buffer (outcome buffer (listCall catalogue fit buffer))
-  A = list-answers catalogue fit buffer
+  abbrev A : Answers (listConditions main catalogue fit buffer) es buffer (outcome buffer (listCall main catalogue fit buffer))
+  A = list-answers main catalogue fit buffer
+
+  -- those behind them: no profile, and the room
+  abbrev behind : Conditions
+  behind = profileConditions [] ++ (10, tooShort buffer es) ∷ []
 
   -- none of them: what is left is the room
-  long-enough : 24 * length es ≤ length buffer → None ownConditions → None (listConditions catalogue fit buffer)
+  long-enough : 24 * length es ≤ length buffer → None ownConditions → None (listConditions main catalogue fit buffer)
   unfolding fitRefusals tooShort
   long-enough h n =
-      none-join (catalogueConditions catalogue) (ownConditions ++ (10, tooShort buffer es) ∷ []) fine
-      (none-join ownConditions ((10, tooShort buffer es) ∷ []) n (subst (λ (b : Bool). T (not b)) (sym (le-ltb (length buffer) (24 * length es) h)) tt, tt))
+      let enough : None ((10, tooShort buffer es) ∷ []) = (subst (λ (b : Bool). T (not b)) (sym (le-ltb (length buffer) (24 * length es) h)) tt, tt) in
+      none-join (catalogueConditions catalogue) (ownConditions ++ behind) fine
+      (none-join ownConditions behind n (none-join (profileConditions []) ((10, tooShort buffer es) ∷ []) none-brought enough))
 
-  too-short : length buffer < 24 * length es → None ownConditions → First 10 (listConditions catalogue fit buffer)
+  too-short : length buffer < 24 * length es → None ownConditions → First 10 (listConditions main catalogue fit buffer)
   unfolding fitRefusals tooShort
   too-short h n =
-      behind-first 10 (catalogueConditions catalogue) (ownConditions ++ (10, tooShort buffer es) ∷ []) fine
-      (behind-first 10 ownConditions ((10, tooShort buffer es) ∷ []) n (inl (refl, lt→ltb (length buffer) (24 * length es) h)))
+      let short : First 10 ((10, tooShort buffer es) ∷ []) = inl (refl, lt→ltb (length buffer) (24 * length es) h) in
+      behind-first 10 (catalogueConditions catalogue) (ownConditions ++ behind) fine
+      (behind-first 10 ownConditions behind n (behind-first 10 (profileConditions []) ((10, tooShort buffer es) ∷ []) none-brought short))
 
   abbrev o : Outcome
-  o = outcome buffer (listCall catalogue fit buffer)
+  o = outcome buffer (listCall main catalogue fit buffer)
 
   -- what the call and the two numbers say of a clear fit, and of a faulted one
   abbrev Clear : Type 0
@@ -235,13 +250,13 @@ module _ (catalogue fit buffer : List ℕ) (fine : None (catalogueConditions cat
       away : (4 ≤ refusal o) × (refusal o ≤ 6) → T (fitRefused fit)
       away h = absurd (elim (either n) [ inl a ↦ (let k = h .0 in let l = a .0 in omega arith) | inr b ↦ (let k = h .1 in omega arith) ])
 
-      room : 123384 ≤ length buffer → 24 * length es ≤ length buffer
-      room b = let k = list-short fit (unfold fitRefusals in n .0) cat in omega arith
+      room : 129552 ≤ length buffer → 24 * length es ≤ length buffer
+      room b = let k = list-short fit (unfold fitRefusals in n .0) main cat in omega arith
 
       not-both : T (isFaulted cat fit) → length es ≡ 0 → itemCount fit ≡ resultCount fit → ⊥
       not-both t z q = T-not (whole || false) (subst T faulted-is t) (or-left whole (whole-is es (itemCount fit) (resultCount fit) .1 (z, q)))
 
-      to-faulted : 123384 ≤ length buffer → T (isFaulted cat fit) → Faulted
+      to-faulted : 129552 ≤ length buffer → T (isFaulted cat fit) → Faulted
       to-faulted b t = (a .0, go (decLe 1 (length es)))
         where
           a : (refusal o ≡ 0) × (count o ≡ length es)
@@ -251,7 +266,7 @@ module _ (catalogue fit buffer : List ℕ) (fine : None (catalogueConditions cat
           go (yes h) = inl (let e = a .1 in omega arith)
           go (no h) = inr λ q. not-both t (omega arith) (omega arith)
 
-      from-faulted : 123384 ≤ length buffer → Faulted → T (isFaulted cat fit)
+      from-faulted : 129552 ≤ length buffer → Faulted → T (isFaulted cat fit)
       from-faulted b h = subst T (sym faulted-is) (not-T (whole || false) whole-not)
         where
           whole-not : T (whole || false) → ⊥
@@ -282,13 +297,12 @@ module _ (catalogue fit buffer : List ℕ) (fine : None (catalogueConditions cat
       is : refusal o ≡ k
       is =
           A .refused k (let b = among .0 in omega arith) .1
-          (behind-first k (catalogueConditions catalogue) (ownConditions ++ (10, tooShort buffer es) ∷ []) fine
-          (prefix-first k ownConditions ((10, tooShort buffer es) ∷ []) f))
+          (behind-first k (catalogueConditions catalogue) (ownConditions ++ behind) fine (prefix-first k ownConditions behind f))
 
   pub judged : Judged catalogue fit buffer o
   unfolding fitRefused fitRefusal fitRefusals
   judged = go (firstOf ownConditions) refl
     where
       go : (k : ℕ) → firstOf ownConditions ≡ k → Judged catalogue fit buffer o
-      go zero e = passed (is-none ownConditions (omega arith) e) (ap (ltb 0) e)
+      go zero e = passed (is-none 6 ownConditions (omega arith) e) (ap (ltb 0) e)
       go (suc k) e = turned (suc k) (is-first (suc k) (omega arith) ownConditions e) (ap (ltb 0) e ∙ lt-ltb 0 (suc k) (omega arith))

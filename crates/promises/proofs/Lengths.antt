@@ -23,7 +23,10 @@ use Rattle.racks.specs.Racks.{RACKS, HARDPOINTS, slots, racks, hardpoints}
 use Rattle.slot.specs.Slot.{wrongSlot, notAModule, notADrone, notAFighter, notAnImplant, wrongSlotIndex, slotTaken, subsystemTaken, slotChecks}
 use Rattle.item.specs.Item.{rigSizeAt, rigSize, shipRestrictedAt, shipRestricted, isStructure, capitalItemAt, capitalItem, standupAt, standup}
 use Rattle.limits.specs.Limits.{GROUP-LIMITS, groupLimitAt, groupLimit, groupLimits, typeLimitAt, typeLimit}
-use Rattle.validate.specs.Validate.{hullRules, listWith, listOf}
+use Rattle.validate.specs.Validate.{hullRules, listWith}
+use Rattle.league.specs.League.{bannedAt, banned, overAllowance, league}
+use Rattle.lists.specs.Terms.{Terms}
+use Rattle.lists.specs.Lists.{onHull, leagueOf, wholeWith, wholeList}
 use Rattle.skill.specs.Skill.{tooMany, walkWithin, entryOf, skillList}
 
 -- ---- a list of at most n elements
@@ -152,6 +155,16 @@ listWith-few c k ids ps =
     few-join (few-join (few-bind _ λ _. few-when _ _) (few-each ids λ _. few-when _ _)) (few-rules (context c k) ps) in
     few-cond (isHull c (k .ship)) (few-more (omega arith) h) (record { most = omega arith })
 
+wholeWith-few : (t : Terms) (c : Catalogue) (k : Frame) (ids : List Id) (ps : List Pair)
+    → Few (22 + length ids + 17 * length ps) (wholeWith t c k ids ps)
+unfolding wholeWith onHull league banned bannedAt overAllowance
+wholeWith-few t c k ids ps =
+    let behind : Few (1 * length ps + 1) (leagueOf t ps) = few-join (few-each ps λ p. few-when _ _) (few-above _ _ _ _) in
+    let none : Few (1 * length ps + 1) [] = record { most = zero-le } in
+    let h : Few (21 + length ids + 16 * length ps + (1 * length ps + 1)) (wholeWith t c k ids ps) =
+    few-join (listWith-few c k ids ps) (few-cond (isHull c (k .ship)) behind none) in
+    few-more (omega arith) h
+
 first-two : (a b c d e f : Bool) → T (not (a || b || c || d || e || f)) → T (not a) × T (not b)
 first-two true b c d e f h = absurd h
 first-two false true c d e f h = absurd h
@@ -175,10 +188,10 @@ module _ (b : List ℕ) (fine : T (not (badSize b))) where
       let m = sizes .1 in
       omega arith
 
-  pub list-short : (c : Catalogue) → length (listOf c (fitOf b)) ≤ 5141
-  unfolding listOf fitOf
-  list-short c =
-      let h = listWith-few c (fitOf b .frame) (fitOf b .skills) (pairs c (fitOf b)) .most in
+  pub list-short : (t : Terms) (c : Catalogue) → length (wholeList t c (fitOf b)) ≤ 5398
+  unfolding wholeList fitOf
+  list-short t c =
+      let h = wholeWith-few t c (fitOf b .frame) (fitOf b .skills) (pairs c (fitOf b)) .most in
       let e = length-table 0 (skillCount b) λ i. i32At b (skillsAt b + 4 * i) in
       let p = pairs-short c in
       let m = sizes .0 in

@@ -4,9 +4,10 @@ pub mod Entries
 pub mod Rises
 pub mod Growth
 pub mod All
+pub mod Conditions
 pub mod Sounds
 pub mod Lengths
-pub mod Conditions
+pub mod Accepted
 pub mod Answering
 pub mod Calls
 pub mod Comparing
@@ -18,6 +19,7 @@ pub mod Judging
 pub mod Opened
 pub mod Large
 pub mod Seven
+pub mod Leagues
 pub mod Widening
 pub mod Edges
 pub mod Deciding

@@ -24,11 +24,14 @@ use Rattle.item.specs.Item.{capitalItemAt, capitalItem, isStandup, standupAt, s
 use Rattle.limits.specs.Limits.{inGroup, groupLimitAt, groupLimit, groupLimits, ofType, typeLimitAt, typeLimit}
 use Rattle.validate.specs.Kind.{isHullKind, isHull, isMode, isSkill, notAMode, notASkill}
 use Rattle.validate.specs.Validate.{hullRules, listWith, listOf}
+use Rattle.profile.specs.Profile as Profile
+use Rattle.league.specs.League.{bannedAt, banned, cost, points, overAllowance, league}
+use Rattle.lists.specs.Lists.{onHull, wholeWith, wholeList}
 use Rattle.skill.specs.Skill.{required, demandOf, demands, ofResult, ofSkill, note, noted, skillAt, met, walkWithin, tooMany, entryOf, skillList}
 use Rattle.fitcheck.specs.Calls.{answerBy, answer, tooShort, listCall, skillCall, buffered, returned}
 use Rattle.fitcheck.specs.Hall.{fitStart, fits, badInput, fitRefused, isClear, isFaulted, hallBy, hallCall, hallReturned}
 use Rattle.fitcheck.specs.Widen.{outputBy, output, filled, outputWord, noRoom, widenCall}
-use Rattle.promises.specs.Before.{tooManyDrones, listBefore}
+use Rattle.promises.specs.Before.{tooManyDrones, listBefore, rustCall}
 use Rattle.promises.specs.Cases.{known, outcomeOf}
 
 open-floats : Unit {0}
@@ -92,7 +95,7 @@ unfolding required demandOf demands ofResult ofSkill note noted skillAt met walk
 open-skills = tt
 
 open-calls : Unit {0}
-unfolding answerBy answer tooShort listCall skillCall buffered returned tooManyDrones listBefore
+unfolding answerBy answer tooShort listCall skillCall buffered returned tooManyDrones listBefore rustCall
 open-calls = tt
 
 open-hall : Unit {0}
@@ -103,8 +106,16 @@ open-widening : Unit {0}
 unfolding oldCatalogueOf oldBadLength oldRefusals wideBits wideValue wideValues widened outputBy output filled outputWord noRoom widenCall
 open-widening = tt
 
+open-league : Unit {0}
+unfolding Profile.pricesOf Profile.badProfile Profile.badPrices Profile.profileRefusals Profile.profileRefusal Profile.pointsOf
+open-league = tt
+
+open-lists : Unit {0}
+unfolding open-league bannedAt banned cost points overAllowance league onHull wholeWith wholeList
+open-lists = tt
+
 open-rules : Unit {0}
-unfolding open-kinds open-resources open-slots open-slot-checks open-items open-standup open-limits open-skills
+unfolding open-lists open-kinds open-resources open-slots open-slot-checks open-items open-standup open-limits open-skills
 open-rules = tt
 
 unfoldable pub opened : Unit {0}

@@ -1,8 +1,10 @@
 -- The promises, all of them. Each is proved in a file of its own.
-use mathlib.Core.Path.{refl}
+use mathlib.Core.Path.{_≡_, refl}
 use Rattle.words.specs.Words.{each, tableFrom}
+use Rattle.lists.specs.Terms.{Terms, main}
+use Rattle.promises.specs.Answers.{refusal}
 use Rattle.promises.specs.Compare.{Kept}
-use Rattle.promises.specs.GrownCase.{CATALOGUE, OLD, NEW, ROOM}
+use Rattle.promises.specs.GrownCase.{CATALOGUE, OLD, NEW, BANNING, PRICING, ROOM}
 use Rattle.promises.specs.Promises.{listOutcome, skillOutcome, Names, Promises}
 use Rattle.promises.proofs.Calls.{list-answers, skill-answers, list-room, skill-room}
 use Rattle.promises.proofs.Comparing.{list-kept, skills-kept}
@@ -12,6 +14,7 @@ use Rattle.promises.proofs.Wanting.{more-wanted, skill-lists}
 use Rattle.promises.proofs.Judging.{hall-answers, judged}
 use Rattle.promises.proofs.Opened.{opened}
 use Rattle.promises.proofs.Seven.{no-seven, list-as-before, drones-exact}
+use Rattle.promises.proofs.Leagues.{no-profile}
 use Rattle.promises.proofs.Widening.{widen-answers, widen-decodes, widen-stands}
 use Rattle.promises.proofs.Edges.{edges}
 
@@ -27,6 +30,7 @@ promised = record {
   skill-room = skill-room;
   no-seven = no-seven;
   list-as-before = list-as-before;
+  no-profile = no-profile;
   drones-exact = drones-exact;
   list-kept = list-kept;
   skill-kept = skills-kept;
@@ -45,9 +49,22 @@ promised = record {
 }
 
 -- Demand 3 as it is promised, of the two images: its premises are those that they meet.
-list-applies : Kept (listOutcome CATALOGUE OLD ROOM) (listOutcome CATALOGUE NEW ROOM)
+applies : (t : Terms) → refusal (listOutcome t CATALOGUE OLD ROOM) ≡ 0 → refusal (listOutcome t CATALOGUE NEW ROOM) ≡ 0
+    → Kept (listOutcome t CATALOGUE OLD ROOM) (listOutcome t CATALOGUE NEW ROOM)
+applies t =
+    promised .list-kept t t CATALOGUE OLD NEW ROOM ROOM (record { profile = refl; allowance = refl }) (example .bytes) (example .grown) (example .volumes)
+
+list-applies : Kept (listOutcome main CATALOGUE OLD ROOM) (listOutcome main CATALOGUE NEW ROOM)
 unfolding opened
-list-applies = promised .list-kept CATALOGUE OLD NEW ROOM ROOM (example .bytes) (example .grown) (example .volumes) refl refl
+list-applies = applies main refl refl
+
+bans-apply : Kept (listOutcome BANNING CATALOGUE OLD ROOM) (listOutcome BANNING CATALOGUE NEW ROOM)
+unfolding opened
+bans-apply = applies BANNING refl refl
+
+points-apply : Kept (listOutcome PRICING CATALOGUE OLD ROOM) (listOutcome PRICING CATALOGUE NEW ROOM)
+unfolding opened
+points-apply = applies PRICING refl refl
 
 skill-applies : Kept (skillOutcome CATALOGUE OLD 2 ROOM) (skillOutcome CATALOGUE NEW 2 ROOM)
 unfolding opened

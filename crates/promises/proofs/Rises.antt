@@ -18,7 +18,7 @@ use Rattle.entry.specs.declared.Entry.{Entry}
 use Rattle.entry.specs.declared.Rule.{Rule}
 use Rattle.entry.specs.declared.Rule.the-variants.{Resource, Slots, WrongSlot, NotAModule, NotADrone, NotAFighter, NotAnImplant, SlotTaken}
 use Rattle.entry.specs.declared.Rule.the-variants.{WrongSlotIndex, SubsystemTaken, Skill, RigSize, ShipRestricted, CapitalItem}
-use Rattle.entry.specs.declared.Rule.the-variants.{StructureItem, ShipItem, MaxGroup, MaxType, NotAHull, NotAMode, NotASkill}
+use Rattle.entry.specs.declared.Rule.the-variants.{StructureItem, ShipItem, MaxGroup, MaxType, NotAHull, NotAMode, NotASkill, Banned, Points}
 use Rattle.entry.specs.Entries.{fields, entryBytes}
 use Rattle.promises.specs.Compare.{varies, blank, Stays}
 
@@ -29,6 +29,7 @@ pub data Rises : Rule → Rule → Type 0 where
   skill : {t : Id} {r l m : ℕ} → m ≤ l → Rises (Skill t r l) (Skill t r m)
   maxGroup : {g : Id} {l u v a : ℕ} → u ≤ v → Rises (MaxGroup g l u a) (MaxGroup g l v a)
   maxType : {t : Id} {u v a : ℕ} → u ≤ v → Rises (MaxType t u a) (MaxType t v a)
+  points : {u v a : ℕ} → u ≤ v → Rises (Points u a) (Points v a)
 
 pub record Covers (a b : Entry) : Type 0 where
   pub target : a .target ≡ b .target
@@ -57,6 +58,8 @@ Sound (MaxType t u a) = u < 2 ^ 32
 Sound NotAHull = Unit {0}
 Sound NotAMode = Unit {0}
 Sound (NotASkill t) = Unit {0}
+Sound (Banned g) = Unit {0}
+Sound (Points u a) = u < 2 ^ 32
 
 -- ---- numbers read back from their bytes
 four : (n : ℕ) → n < 2 ^ 32 → n % 256 + 256 * (n / 256 % 256) + 65536 * (n / 256 / 256 % 256) + 16777216 * (n / 256 / 256 / 256 % 256) ≡ n
@@ -99,31 +102,93 @@ module _ (t : Target) where
   own NotAHull s q = absurd (omega arith)
   own NotAMode s q = absurd (omega arith)
   own (NotASkill t) s q = absurd (omega arith)
+  own (Banned g) s q = absurd (omega arith)
+  own (Points u a) s q = absurd (omega arith)
 
   stays : {r r′ : Rule} → Rises r r′ → Sound r → Sound r′ → Stays (bytes r) (bytes r′)
   unfolding fields each entryBytes u32At tableFrom varies blank
   stays (same {r}) s s′ =
-      record { bytes = refl; resource = own r s; slots = λ _. le-refl _; skill = λ _. le-refl _; maxGroup = λ _. le-refl _; maxType = λ _. le-refl _ }
+      record {
+        bytes = refl;
+        resource = own r s;
+        slots = λ _. le-refl _;
+        skill = λ _. le-refl _;
+        maxGroup = λ _. le-refl _;
+        maxType = λ _. le-refl _;
+        points = λ _. le-refl _;
+      }
   stays (resource {r = k} {u = u} {v = v} {a = a} h) s s′ =
       let e : T (Ieee.le (f64At (bytes (Resource k u a)) 8) (f64At (bytes (Resource k v a)) 8)) =
       subst₂ (λ (x y : Float). T (Ieee.le x y)) (sym (resource-back k u a (s .0))) (sym (resource-back k v a (s′ .0))) h in
-      record { bytes = refl; resource = λ _. e; slots = omega arith; skill = omega arith; maxGroup = omega arith; maxType = omega arith }
+      record {
+        bytes = refl;
+        resource = λ _. e;
+        slots = omega arith;
+        skill = omega arith;
+        maxGroup = omega arith;
+        maxType = omega arith;
+        points = omega arith;
+      }
   stays (slots {u = u} {v = v} h) s s′ =
       let p = four u s in
       let q = four v s′ in
-      record { bytes = refl; resource = λ n. absurd (omega arith); slots = omega arith; skill = omega arith; maxGroup = omega arith; maxType = omega arith }
+      record {
+        bytes = refl;
+        resource = λ n. absurd (omega arith);
+        slots = omega arith;
+        skill = omega arith;
+        maxGroup = omega arith;
+        maxType = omega arith;
+        points = omega arith;
+      }
   stays (skill {l = l} {m = m} h) s s′ =
       let p = four l s in
       let q = four m s′ in
-      record { bytes = refl; resource = λ n. absurd (omega arith); slots = omega arith; skill = omega arith; maxGroup = omega arith; maxType = omega arith }
+      record {
+        bytes = refl;
+        resource = λ n. absurd (omega arith);
+        slots = omega arith;
+        skill = omega arith;
+        maxGroup = omega arith;
+        maxType = omega arith;
+        points = omega arith;
+      }
   stays (maxGroup {u = u} {v = v} h) s s′ =
       let p = four u s in
       let q = four v s′ in
-      record { bytes = refl; resource = λ n. absurd (omega arith); slots = omega arith; skill = omega arith; maxGroup = omega arith; maxType = omega arith }
+      record {
+        bytes = refl;
+        resource = λ n. absurd (omega arith);
+        slots = omega arith;
+        skill = omega arith;
+        maxGroup = omega arith;
+        maxType = omega arith;
+        points = omega arith;
+      }
   stays (maxType {u = u} {v = v} h) s s′ =
       let p = four u s in
       let q = four v s′ in
-      record { bytes = refl; resource = λ n. absurd (omega arith); slots = omega arith; skill = omega arith; maxGroup = omega arith; maxType = omega arith }
+      record {
+        bytes = refl;
+        resource = λ n. absurd (omega arith);
+        slots = omega arith;
+        skill = omega arith;
+        maxGroup = omega arith;
+        maxType = omega arith;
+        points = omega arith;
+      }
+  stays (points {u = u} {v = v} h) s s′ =
+      let p = four u s in
+      let q = four v s′ in
+      record {
+        bytes = refl;
+        resource = λ n. absurd (omega arith);
+        slots = omega arith;
+        skill = omega arith;
+        maxGroup = omega arith;
+        maxType = omega arith;
+        points = omega arith;
+      }
 
 pub covers-stays : (a b : Entry) → Covers a b → Sound (a .rule) → Sound (b .rule) → Stays (entryBytes a) (entryBytes b)
 covers-stays a b h s s′ =

@@ -18,8 +18,9 @@ use Rattle.fit.specs.Refusals.{badSize}
 use Rattle.entry.specs.declared.Entry.{Entry}
 use Rattle.context.specs.Context.{Pair, pairsFrom, pairs}
 use Rattle.resource.specs.Resource.{isLaunched, launched}
-use Rattle.validate.specs.Validate.{listOf}
-use Rattle.fitcheck.specs.Calls.{answerBy, answer, returned, imageRefusals, listRefusals, listCall, skillCall}
+use Rattle.lists.specs.Terms.{Terms}
+use Rattle.lists.specs.Lists.{wholeList}
+use Rattle.fitcheck.specs.Calls.{answerBy, answer, returned, inputRefusals, bufferRefusals, listCall, skillCall}
 use Rattle.fitcheck.specs.Hall.{hallCall, hallReturned}
 use Rattle.promises.specs.Answers.{outcome, refusal, listConditions, skillConditions}
 use Rattle.promises.specs.Before.{tooManyDrones, listBefore}
@@ -32,12 +33,12 @@ use Rattle.promises.proofs.Calls.{list-answers, skill-answers}
 use Rattle.promises.proofs.Comparing.{quantities}
 use Rattle.promises.proofs.Judging.{hall-answers}
 
-pub no-seven : (catalogue fit input buffer : List ℕ) (result : ℕ)
-    → (refusal (outcome buffer (listCall catalogue fit buffer)) ≡ 7 → ⊥)
+pub no-seven : (t : Terms) (catalogue fit input buffer : List ℕ) (result : ℕ)
+    → (refusal (outcome buffer (listCall t catalogue fit buffer)) ≡ 7 → ⊥)
     × (refusal (outcome buffer (skillCall catalogue fit result buffer)) ≡ 7 → ⊥)
     × (hallReturned (hallCall catalogue input) / 4294967296 ≡ 7 → ⊥)
-no-seven catalogue fit input buffer result = (
-  λ h. never-first 7 (listConditions catalogue fit buffer) (omega arith) (list-answers catalogue fit buffer .refused 7 (omega arith) .0 h),
+no-seven t catalogue fit input buffer result = (
+  λ h. never-first 7 (listConditions t catalogue fit buffer) (omega arith) (list-answers t catalogue fit buffer .refused 7 (omega arith) .0 h),
   λ h. never-first 7 (skillConditions catalogue fit result buffer) (omega arith) (skill-answers catalogue fit result buffer .refused 7 (omega arith) .0 h),
   λ h. never-first 7 (hallConditions catalogue input) (omega arith) (hall-answers catalogue input .refused 7 (omega arith) .0 h),
 )
@@ -47,15 +48,15 @@ given-seven : (buffer : List ℕ) (es : List Entry) (k : ℕ) → k ≡ 7 → re
 unfolding answerBy returned
 given-seven buffer es k e = ap (λ (n : ℕ). refusal (outcome buffer (answerBy n es))) e
 
-pub list-as-before : (catalogue fit buffer : List ℕ) → (refusal (outcome buffer (listBefore catalogue fit buffer)) ≡ 7 → ⊥)
-    → outcome buffer (listCall catalogue fit buffer) ≡ outcome buffer (listBefore catalogue fit buffer)
+pub list-as-before : (t : Terms) (catalogue fit buffer : List ℕ) → (refusal (outcome buffer (listBefore t catalogue fit buffer)) ≡ 7 → ⊥)
+    → outcome buffer (listCall t catalogue fit buffer) ≡ outcome buffer (listBefore t catalogue fit buffer)
 unfolding listBefore listCall answer
-list-as-before catalogue fit buffer h =
+list-as-before t catalogue fit buffer h =
     let c = catalogueOf catalogue in
     let f = fitOf fit in
-    let es = listOf c f in
-    let l = imageRefusals catalogue fit in
-    let m = listRefusals c f buffer in
+    let es = wholeList t c f in
+    let l = inputRefusals t catalogue fit in
+    let m = bufferRefusals buffer es in
     let e = left-out 7 (tooManyDrones c f) l m (λ q. h (given-seven buffer es (firstOf (l ++ (7, tooManyDrones c f) ∷ m)) q)) in
     ap (λ (k : ℕ). outcome buffer (answerBy k es)) (sym e)
 

@@ -1,8 +1,11 @@
 -- Every entry of a list has numbers that fit its bytes, and no used number that is a NaN. Rule by rule, by what the words do to `All`.
 --
-use Prim.Native.Nat.{ℕ, zero, suc, _^_, _≤_, _<_, max, zero-le, suc-le-suc}
+use Prim.Native.Nat.{ℕ, zero, suc, _*_, _^_, _≤_, _<_, max, zero-le, suc-le-suc}
 use native.Mathlib.Omega.{arith}
-use mathlib.Core.Bool.{Bool, true, false, cond}
+use mathlib.Core.Path.{_≡_, refl, sym, _∙_}
+use mathlib.Core.Bool.{Bool, true, false, cond, true≢false}
+use mathlib.Core.Logic.{inl, inr}
+use borrow.Author.Tests.{eq-eqb}
 use mathlib.Core.List.{List, [], _∷_, foldl}
 use mathlib.Core.Option.{Option, none, some}
 use lib.Dec.{T, ltb→lt}
@@ -10,7 +13,8 @@ use lib.ListN.{length}
 use lib.Ieee.{Float, binary64, fits}
 use lib.Ieee.Fits.{ofInt-fits}
 use lib.Ieee.Casts.{toUnsigned-lt}
-use Rattle.words.specs.Words.{whenAny, whenAbove, only, countOf, given, same}
+use Rattle.words.specs.Words.{whenAny, whenAbove, only, countOf, sumOf, given, same}
+use Rattle.numbers.specs.Sizes as Sizes
 use Rattle.floats.specs.Floats.{zeroF}
 use Rattle.floats.proofs.Bits.{f64At-fits}
 use Rattle.floats.proofs.Loads.{over-self}
@@ -19,15 +23,25 @@ use Rattle.catalogue.specs.Catalogue.{Id, Catalogue}
 use Rattle.fit.specs.Fit.{Attribute, Result, Frame, Fit, modeOf, fitOf, resultOf}
 use Rattle.fit.specs.Lookups.{value, amount, trained}
 use Rattle.entry.specs.declared.Entry.{Entry}
-use Rattle.context.specs.Context.{Pair, Context, pairs, context, isIn}
+use Rattle.context.specs.Context.{Pair, Context, pairs, context, isFitted, isIn}
 use Rattle.validate.specs.Kind.{isHull, notAMode, notASkill}
 use Rattle.resource.specs.Resource.{LOADS, resource, cargoVolume, cargoUsed, loads, launchedDrones, cargo, resources}
 use Rattle.racks.specs.Racks.{RACKS, HARDPOINTS, slots, racks, hardpoints}
 use Rattle.slot.specs.Slot.{wrongSlot, notAModule, notADrone, notAFighter, notAnImplant, wrongSlotIndex, slotTaken, subsystemTaken, slotChecks}
 use Rattle.item.specs.Item.{rigSizeAt, rigSize, shipRestrictedAt, shipRestricted, isStructure, capitalItemAt, capitalItem, standupAt, standup}
 use Rattle.limits.specs.Limits.{GROUP-LIMITS, groupLimitAt, groupLimit, groupLimits, typeLimitAt, typeLimit}
-use Rattle.validate.specs.Validate.{hullRules, listWith, listOf}
+use Rattle.validate.specs.Validate.{hullRules, listWith}
+use Rattle.profile.specs.Profile.{pricesOf, isBan, profileRefusals, profileRefusal}
+use Rattle.profile.specs.Sound as Profile
+use Rattle.profile.specs.Sound.{Fair}
+use Rattle.profile.proofs.Accepted.{sound}
+use Rattle.profile.proofs.Prices.{points-fair}
+use Rattle.league.specs.League.{priceOf, bannedAt, banned, cost, points, overAllowance, league}
+use Rattle.lists.specs.Terms.{Terms}
+use Rattle.lists.specs.Lists.{onHull, wholeWith, wholeList}
 use Rattle.skill.specs.Skill.{Demand, required, demandOf, demands, ofResult, ofSkill, note, noted, met, walkWithin, entryOf, skillList}
+use Rattle.promises.specs.Answers.{profileConditions, None}
+use Rattle.promises.proofs.Conditions.{none-is}
 use Rattle.promises.proofs.All.{All, nil, cons, all-join, all-table, all-when, all-unless, all-cond, all-bind, all-each, all-each-of, all-find}
 use Rattle.promises.proofs.Rises.{Sound}
 
@@ -158,9 +172,38 @@ result-fits b j id =
     (all-table {P = λ (x : Attribute). T (fits binary64 (x .value))} _ (λ i. f64At-fits b _) 0 _)
     none (λ (x : Attribute). some (x .value)) (unfold fits in tt) (λ x h. h)
 
-pub list-sound : (c : Catalogue) (b : List ℕ) → length (pairs c (fitOf b)) < 2 ^ 32 → AllSound (listOf c (fitOf b))
-unfolding listOf fitOf
-list-sound c b few = listWith-sound c _ _ _ few (result-fits b 0)
+-- ---- a league's entries
+-- what a pair costs under a profile that is not refused
+cost-most : (profile : List ℕ) → Profile.Sound profile → (p : Pair) → cost (pricesOf profile) p ≤ 1000000
+unfolding cost
+cost-most profile s p = go (isBan (priceOf (pricesOf profile) p)) refl (points-fair profile s (p .group))
+  where
+    go : (b : Bool) → isBan (priceOf (pricesOf profile) p) ≡ b → Fair (priceOf (pricesOf profile) p) → cond b 0 (priceOf (pricesOf profile) p) ≤ 1000000
+    go true e f = zero-le
+    go false e (inl h) = h
+    go false e (inr h) = absurd (true≢false (sym (eq-eqb (priceOf (pricesOf profile) p) Sizes.banned h) ∙ e))
+
+sum-most : {A : Type 0} (f : A → ℕ) → ((x : A) → f x ≤ 1000000) → (l : List A) → sumOf f l ≤ 1000000 * length l
+unfolding sumOf
+sum-most f h [] = zero-le
+sum-most f h (x ∷ l) = omega (arith, h x, sum-most f h l)
+
+league-sound : (profile : List ℕ) → Profile.Sound profile → (allowance : ℕ) (ps : List Pair) → length ps ≤ 256
+    → AllSound (league (pricesOf profile) allowance ps)
+unfolding league banned bannedAt overAllowance points
+league-sound profile s allowance ps few =
+    let most = sum-most (cost (pricesOf profile)) (cost-most profile s) (only isFitted ps) in
+    let some : length (only isFitted ps) ≤ length ps = unfold countOf in count-le isFitted ps in
+    all-join (all-each ps λ p. all-when _ _ (λ _. tt)) (above-sound _ _ _ _ (omega arith))
+
+-- ---- the whole list of an image
+pub whole-sound : (t : Terms) (c : Catalogue) (b : List ℕ) → None (profileConditions (t .profile)) → length (pairs c (fitOf b)) ≤ 256
+    → AllSound (wholeList t c (fitOf b))
+unfolding wholeList wholeWith onHull fitOf
+whole-sound t c b fine few =
+    let profile = sound (t .profile) (unfold profileRefusal profileRefusals in none-is (profileConditions (t .profile)) fine) in
+    all-join (listWith-sound c _ _ _ (omega arith) (result-fits b 0))
+    (all-cond (isHull c (fitOf b .frame .ship)) (league-sound (t .profile) profile (t .allowance) _ few) nil)
 
 -- ---- the entries of a result's skills
 abbrev Small : Demand → Type 0

@@ -25,6 +25,7 @@ use Rattle.promises.proofs.Walking.{walked, listed-iff-wanted}
 use Rattle.promises.proofs.Refusing.{mem-contains, refused-many, answered-few}
 use Rattle.promises.proofs.Meeting.{walk-order}
 use Rattle.promises.proofs.Answering.{elem-of}
+use Rattle.promises.proofs.Accepted.{asked}
 use Rattle.promises.proofs.Calls.{skill-answers}
 
 twice : (w : Demand) (ws : List Demand) → Once (idsOf (w ∷ ws)) → (s : Id) (l : ℕ) → s ≡ w .0 → List·Memᴰ (s, l) ws → ⊥
@@ -141,9 +142,9 @@ unfolding resultAt given
 skill-lists catalogue fit n buffer h =
     let c = catalogueOf catalogue in
     let f = fitOf fit in
-    let a = skill-answers catalogue fit n buffer .answered .0 h .1 .1 .1 .1 .1 .1 in
-    let l = nltb→le (length (f .results) + 1) n (a .0) in
+    let a = asked catalogue fit n buffer (skill-answers catalogue fit n buffer .answered .0 h) in
+    let l = a .inside in
     let r = getD (allResults f) n (f .frame .shipResult) in
     let e : getElem? (allResults f) n ≡ some r = elem-of (f .frame .shipResult) (allResults f) n (omega arith) in
-    let few : T (not (tooMany 512 c r)) = subst (λ (o : Option Result). T (not (given o false (tooMany 512 c)))) e (a .1 .0) in
+    let few : T (not (tooMany 512 c r)) = subst (λ (o : Option Result). T (not (given o false (tooMany 512 c)))) e (a .few) in
     record { result = r; found = e; walk = walk-of 512 c r few; entries = lacks c f n r e few }

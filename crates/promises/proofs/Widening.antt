@@ -19,9 +19,10 @@ use Rattle.widening.proofs.Bytes.{widened-length}
 use Rattle.widening.proofs.Decoding.{decoded, n-bases, bases-at}
 use Rattle.fit.specs.Fit.{fitOf}
 use Rattle.fit.specs.Refusals.{fitRefusals}
-use Rattle.validate.specs.Validate.{listOf}
+use Rattle.profile.specs.Profile.{profileRefusals}
 use Rattle.skill.specs.Skill.{skillList}
-use Rattle.fitcheck.specs.Calls.{Answer, answer, listRefusals, skillRefusals, listCall, skillCall}
+use Rattle.lists.specs.Lists.{wholeList}
+use Rattle.fitcheck.specs.Calls.{Answer, answer, bufferRefusals, skillRefusals, listCall, skillCall}
 use Rattle.fitcheck.specs.Widen.{outputBy, output, outputWord, filled, noRoom, widenCall}
 use Rattle.fitcheck.proofs.First.{Numbered}
 use Rattle.promises.specs.Answers.{Outcome, refusal, count, Conditions, None}
@@ -37,14 +38,14 @@ module _ (l : Conditions) (numbered : Numbered 10 l) (bs before : List ℕ)
   go : (k : ℕ) → firstOf l ≡ k → Fills l bs before (gives k)
   unfolding outputBy outputWord filled
   go zero e =
-      let n = is-none l numbered e in
+      let n = is-none 10 l numbered e in
       let s = small n in
       let r = room n in
       let q : firstOf l ≡ length bs / 4294967296 = omega arith in
       record {
-        refused = word-refused l numbered (length bs) q;
-        answered = word-answered l numbered (length bs) q;
-        numbered = word-numbered l numbered (length bs) q;
+        refused = word-refused 10 l numbered (length bs) q;
+        answered = word-answered 10 l numbered (length bs) q;
+        numbered = word-numbered 10 l numbered (length bs) q;
         nothing = λ p. absurd (omega arith);
         counted = λ h. omega arith;
         front = λ h. take-at bs (drop (length bs) before) (length bs) refl;
@@ -60,9 +61,9 @@ module _ (l : Conditions) (numbered : Numbered 10 l) (bs before : List ℕ)
   go (suc k) e =
       let q : firstOf l ≡ suc k * 4294967296 / 4294967296 = omega arith in
       record {
-        refused = word-refused l numbered (suc k * 4294967296) q;
-        answered = word-answered l numbered (suc k * 4294967296) q;
-        numbered = word-numbered l numbered (suc k * 4294967296) q;
+        refused = word-refused 10 l numbered (suc k * 4294967296) q;
+        answered = word-answered 10 l numbered (suc k * 4294967296) q;
+        numbered = word-numbered 10 l numbered (suc k * 4294967296) q;
         nothing = λ p. (omega arith, refl);
         counted = λ h. absurd (omega arith);
         front = λ h. absurd (omega arith);
@@ -127,8 +128,10 @@ module _ (old buffer : List ℕ) where
       unfolding catalogueRefusal oldRefusals listCall skillCall
       stands = record {
         accepted = ap firstOf same-refusals ∙ none-is (oldRefusals old) (none .0, (none .1 .0, (none .1 .1 .0, tt)));
-        lists = λ fit buffer.
-            ap₂ (λ (l : Conditions) (c : Catalogue). answer (l ++ fitRefusals fit ++ listRefusals c (fitOf fit) buffer) (listOf c (fitOf fit)))
+        lists = λ t fit buffer.
+            ap₂ (λ (l : Conditions) (c : Catalogue).
+            let es = wholeList t c (fitOf fit) in
+            answer (l ++ fitRefusals fit ++ profileRefusals (t .profile) ++ bufferRefusals buffer es) es)
             same-refusals (decoded old (old-size none));
         skills = λ fit result buffer.
             ap₂ (λ (l : Conditions) (c : Catalogue). answer (l ++ fitRefusals fit ++ skillRefusals c (fitOf fit) result buffer) (skillList c (fitOf fit) result))

@@ -1,4 +1,4 @@
--- Document 01, "Refusals in their order": what a caller has after a call, and the order of the refusals.
+-- Document 01, "Refusals in their order", and document 02: what a caller has after a call, and the order of the refusals.
 use Prim.Native.Nat.{ℕ, _+_, _*_, _/_, _%_, _≤_, _<_}
 use mathlib.Core.Path.{_≡_}
 use mathlib.Core.Bool.{Bool, false, not}
@@ -14,8 +14,10 @@ use Rattle.fit.specs.Fit.{fitOf, resultAt}
 use Rattle.fit.specs.Refusals as Fit
 use Rattle.entry.specs.declared.Entry.{Entry}
 use Rattle.entry.specs.Entries.{entryBytes}
-use Rattle.validate.specs.Validate.{listOf}
+use Rattle.profile.specs.Profile.{pricesOf, badProfile, badPrices}
 use Rattle.skill.specs.Skill.{tooMany, skillList}
+use Rattle.lists.specs.Terms.{Terms}
+use Rattle.lists.specs.Lists.{wholeList}
 use Rattle.fitcheck.specs.Calls.{Answer, buffered, returned, tooShort}
 
 -- ---- what a caller has after a call: the word, and the buffer
@@ -37,7 +39,11 @@ count o = o .word % 4294967296
 abbrev pub entryAt : Outcome → ℕ → List ℕ
 entryAt o i = take 24 (drop (24 * i) (o .buffer))
 
--- ---- the refusals, each with its condition, in document 01's order
+-- ---- the refusals, each with its condition, in their order
+-- no call gives a higher number
+abbrev pub highest : ℕ
+highest = 12
+
 abbrev pub Conditions : Type 0
 Conditions = List (ℕ × Bool)
 
@@ -51,11 +57,16 @@ fitConditions fit =
     let f = fitOf fit in
     (4, Fit.badSize fit) ∷ (5, Fit.badOrder f) ∷ (6, Fit.badField f) ∷ []
 
-abbrev pub listConditions : (catalogue fit buffer : List ℕ) → Conditions
-listConditions catalogue fit buffer =
-    let c = catalogueOf catalogue in
-    let f = fitOf fit in
-    catalogueConditions catalogue ++ fitConditions fit ++ (10, tooShort buffer (listOf c f)) ∷ []
+abbrev pub profileConditions : (profile : List ℕ) → Conditions
+profileConditions profile = (11, badProfile profile) ∷ (12, badPrices (pricesOf profile)) ∷ []
+
+-- of all that a list call brings
+abbrev pub inputConditions : Terms → (catalogue fit : List ℕ) → Conditions
+inputConditions t catalogue fit = catalogueConditions catalogue ++ fitConditions fit ++ profileConditions (t .profile)
+
+abbrev pub listConditions : Terms → (catalogue fit buffer : List ℕ) → Conditions
+listConditions t catalogue fit buffer =
+    inputConditions t catalogue fit ++ (10, tooShort buffer (wholeList t (catalogueOf catalogue) (fitOf fit))) ∷ []
 
 abbrev pub skillConditions : (catalogue fit : List ℕ) (result : ℕ) (buffer : List ℕ) → Conditions
 skillConditions catalogue fit result buffer =
@@ -79,10 +90,10 @@ None (x ∷ l) = T (not (x .1)) × None l
 
 -- ---- a call under some conditions, which lists es where none of them holds
 pub record Answers (conditions : Conditions) (es : List Entry) (before : List ℕ) (o : Outcome) : Type 0 where
-  -- a number refuses exactly where its condition is the first that holds, and is one of 1 to 10
+  -- a number refuses exactly where its condition is the first that holds, and is one of 1 to 12
   pub refused : (n : ℕ) → 0 < n → (refusal o ≡ n) ↔ First n conditions
   pub answered : (refusal o ≡ 0) ↔ None conditions
-  pub numbered : refusal o ≤ 10
+  pub numbered : refusal o ≤ highest
   -- a refusal counts nothing and changes no byte
   pub nothing : 0 < refusal o → (count o ≡ 0) × (o .buffer ≡ before)
   -- a list has its entries from byte 0 on, and leaves every byte behind them

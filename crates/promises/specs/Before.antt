@@ -1,4 +1,5 @@
--- The list call as it was before drones were totalled without loss: refusal 7 stood in front of 10.
+-- The list call as it was: before drones were totalled without loss, when refusal 7 stood in front of 10; and before there were leagues,
+-- when it gave the Rust's list.
 use Prim.Native.Nat.{ℕ}
 use mathlib.Core.Bool.{Bool, true, false, _&&_}
 use mathlib.Core.List.{List, _∷_, _++_}
@@ -12,15 +13,24 @@ use Rattle.context.specs.Context.{pairs}
 use Rattle.resource.specs.Resource.{launched}
 use Rattle.validate.specs.Kind.{isHull}
 use Rattle.validate.specs.Validate.{listOf}
-use Rattle.fitcheck.specs.Calls.{Answer, answer, imageRefusals, listRefusals}
+use Rattle.lists.specs.Terms.{Terms}
+use Rattle.lists.specs.Lists.{wholeList}
+use Rattle.fitcheck.specs.Calls.{Answer, answer, imageRefusals, inputRefusals, bufferRefusals}
 
 -- 7: on a hull, its name present, launched drones over 4,294,967,295
 unfoldable pub tooManyDrones : Catalogue → Fit → Bool
 tooManyDrones c f =
     isHull c (f .frame .ship) && given (nameId (c .names) Names.maxActiveDrones) false (λ _. true) && ltb 4294967295 (launched (pairs c f))
 
-unfoldable pub listBefore : (catalogue fit buffer : List ℕ) → Answer
-listBefore catalogue fit buffer =
+unfoldable pub listBefore : Terms → (catalogue fit buffer : List ℕ) → Answer
+listBefore t catalogue fit buffer =
     let c = catalogueOf catalogue in
     let f = fitOf fit in
-    answer (imageRefusals catalogue fit ++ (7, tooManyDrones c f) ∷ listRefusals c f buffer) (listOf c f)
+    let es = wholeList t c f in
+    answer (inputRefusals t catalogue fit ++ (7, tooManyDrones c f) ∷ bufferRefusals buffer es) es
+
+-- with no profile to bring
+unfoldable pub rustCall : (catalogue fit buffer : List ℕ) → Answer
+rustCall catalogue fit buffer =
+    let es = listOf (catalogueOf catalogue) (fitOf fit) in
+    answer (imageRefusals catalogue fit ++ bufferRefusals buffer es) es

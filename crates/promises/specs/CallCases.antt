@@ -11,7 +11,7 @@ use Rattle.floats.specs.Floats.{ofNat}
 use Rattle.entry.specs.declared.Rule.{Rule}
 use Rattle.entry.specs.declared.Rule.the-variants.{Resource, Slots, WrongSlot, NotAModule, NotADrone, NotAFighter, NotAnImplant, SlotTaken}
 use Rattle.entry.specs.declared.Rule.the-variants.{WrongSlotIndex, SubsystemTaken, Skill, RigSize, ShipRestricted, CapitalItem}
-use Rattle.entry.specs.declared.Rule.the-variants.{StructureItem, ShipItem, MaxGroup, MaxType, NotAHull, NotAMode, NotASkill}
+use Rattle.entry.specs.declared.Rule.the-variants.{StructureItem, ShipItem, MaxGroup, MaxType, NotAHull, NotAMode, NotASkill, Banned, Points}
 use Rattle.entry.specs.Entries.{onShip, onItem}
 use Rattle.promises.specs.Cases.{Written, BadSize, ListCall, SkillCall, HallCall, Number, Holds, InBytes, Returns, Case}
 
@@ -51,6 +51,8 @@ ENTRIES =
     ∷ entry NotAHull 19 0 (0 ∷ 0 ∷ 0 ∷ 0 ∷ [])
     ∷ entry NotAMode 20 0 (0 ∷ 0 ∷ 0 ∷ 0 ∷ [])
     ∷ entry (NotASkill (negsuc 1)) 21 0 (0xFFFFFFFE ∷ 0 ∷ 0 ∷ 0 ∷ [])
+    ∷ entry (Banned (negsuc 1)) 24 0 (0xFFFFFFFE ∷ 0 ∷ 0 ∷ 0 ∷ [])
+    ∷ entry (Points 7 5) 25 0 (7 ∷ 5 ∷ 0 ∷ 0 ∷ [])
     ∷ []
 
 -- ---- images
@@ -89,7 +91,7 @@ small = wanting (0, 0x40200000) (0, 0x40000000)
 abbrev pub empty : List ℕ
 empty = replicate 36 0
 
-abbrev flying : List ℕ
+abbrev pub flying : List ℕ
 flying = words (0 ∷ 0 ∷ 0 ∷ 0 ∷ 1 ∷ 0 ∷ 0 ∷ []) ++ replicate 8 0
 
 -- ship 1 with one High slot; skill 9 at 3; an item of type 9 in High slot 0, whose result has attribute 4 at 9

@@ -15,7 +15,9 @@ use Rattle.fit.specs.Fit.{Attribute, Item, Result, Fit}
 use Rattle.fit.specs.Refusals.{badSize}
 use Rattle.entry.specs.declared.Entry.{Entry}
 use Rattle.entry.specs.Entries.{entryBytes}
-use Rattle.validate.specs.Validate.{listOf}
+use Rattle.profile.specs.Profile.{profileRefusal}
+use Rattle.lists.specs.Terms.{Terms, main}
+use Rattle.lists.specs.Lists.{wholeList}
 use Rattle.skill.specs.Skill.{Demand, wantedSkills, tooMany, skillList}
 use Rattle.fitcheck.specs.Calls.{returned, buffered, skillRefusals, listCall, skillCall}
 use Rattle.fitcheck.specs.Hall.{hallCall, hallReturned}
@@ -190,20 +192,23 @@ pub data Input : Type 0 where
   -- used and available; or any used number
   Over : Float → Float → Input
   AnyOver : Float → Input
-  -- the list of a fit
+  -- the list of a fit, and under a profile
   Fitted : Catalogue → Fit → Input
+  InLeague : Terms → Catalogue → Fit → Input
   -- the wanted skills of a result; whether they are more than a limit; the skill list of a result number
   Wants : Catalogue → Result → Input
   Exceeds : ℕ → Catalogue → Result → Input
   Skilled : Catalogue → Fit → ℕ → Input
   -- an entry in bytes
   Written : Entry → Input
-  -- the conditions of refusals 1 and 4; the first of 8, 9 and 10 that holds, or 0
+  -- the conditions of refusals 1 and 4; the first of 8, 9 and 10 that holds, or of 11 and 12, or 0
   BadLength : (catalogue : List ℕ) → Input
   BadSize : (fit : List ℕ) → Input
   SkillRefusal : Catalogue → Fit → (result : ℕ) → (buffer : List ℕ) → Input
+  ProfileRefusal : (profile : List ℕ) → Input
   -- the calls, of bytes
   ListCall : (catalogue fit buffer : List ℕ) → Input
+  LeagueCall : Terms → (catalogue fit buffer : List ℕ) → Input
   SkillCall : (catalogue fit : List ℕ) (result : ℕ) (buffer : List ℕ) → Input
   HallCall : (catalogue input : List ℕ) → Input
   -- the list call as it was before
@@ -229,7 +234,8 @@ outcomeOf (Unsigned w x) = Number (toU w x)
 outcomeOf (Signed x) = Integer (toI32 x)
 outcomeOf (Over used available) = Holds (over used available)
 outcomeOf (AnyOver available) = HoldsOf λ used. over used available
-outcomeOf (Fitted c f) = Entries (listOf c f)
+outcomeOf (Fitted c f) = Entries (wholeList main c f)
+outcomeOf (InLeague t c f) = Entries (wholeList t c f)
 outcomeOf (Wants c r) = Demands (wantedSkills c r)
 outcomeOf (Exceeds limit c r) = Holds (tooMany limit c r)
 outcomeOf (Skilled c f n) = Entries (skillList c f n)
@@ -237,10 +243,12 @@ outcomeOf (Written e) = InBytes (entryBytes e)
 outcomeOf (BadLength catalogue) = Holds (badLength catalogue)
 outcomeOf (BadSize fit) = Holds (badSize fit)
 outcomeOf (SkillRefusal c f n buffer) = Number (firstOf (skillRefusals c f n buffer))
-outcomeOf (ListCall catalogue fit buffer) = let a = listCall catalogue fit buffer in Returns (returned a) (buffered buffer a)
+outcomeOf (ProfileRefusal profile) = Number (profileRefusal profile)
+outcomeOf (ListCall catalogue fit buffer) = let a = listCall main catalogue fit buffer in Returns (returned a) (buffered buffer a)
+outcomeOf (LeagueCall t catalogue fit buffer) = let a = listCall t catalogue fit buffer in Returns (returned a) (buffered buffer a)
 outcomeOf (SkillCall catalogue fit result buffer) = let a = skillCall catalogue fit result buffer in Returns (returned a) (buffered buffer a)
 outcomeOf (HallCall catalogue input) = Number (hallReturned (hallCall catalogue input))
-outcomeOf (ListBefore catalogue fit buffer) = let a = listBefore catalogue fit buffer in Returns (returned a) (buffered buffer a)
+outcomeOf (ListBefore catalogue fit buffer) = let a = listBefore main catalogue fit buffer in Returns (returned a) (buffered buffer a)
 outcomeOf (Single n) = Number (wideBits (le 4 n) 0)
 outcomeOf (WidenCall old buffer) = let o = widenCall old buffer in Returns (outputWord o) (filled buffer o)
 

@@ -1,4 +1,4 @@
--- Document 01, "Two fits compared": the premises of demand 3, and what it claims of the bytes of two buffers.
+-- Document 01, "Two fits compared", and document 02: the premises of demand 3, and what it claims of the bytes of two buffers.
 use Prim.Native.Nat.{ℕ, _+_, _≤_, _<_}
 use mathlib.Core.Path.{_≡_}
 use mathlib.Core.Bool.{Bool, true, _&&_, _||_, cond}
@@ -13,6 +13,7 @@ use Rattle.floats.specs.Floats.{f64At, isVolume}
 use Rattle.catalogue.specs.Catalogue.{Id, Catalogue}
 use Rattle.catalogue.specs.Lookups.{typeOf}
 use Rattle.fit.specs.Fit.{Item, Fit}
+use Rattle.lists.specs.Terms.{Terms}
 use Rattle.promises.specs.Answers.{Outcome, count, entryAt}
 
 -- ---- the premises
@@ -41,12 +42,17 @@ addedItems old new = drop (length (old .items)) (new .items)
 abbrev pub AddedVolumes : Catalogue → Fit → Fit → Type 0
 AddedVolumes c old new = (i : Item) → List·Memᴰ i (addedItems old new) → i .slot ≡ Slots.cargo → T (volumeAllowed c (i .type))
 
+-- the two calls bring the same profile and the same allowance
+pub record Alike (t t′ : Terms) : Type 0 where
+  pub profile : t .profile ≡ t′ .profile
+  pub allowance : t .allowance ≡ t′ .allowance
+
 -- ---- the claim
 -- where an entry of a rule has its used number or its trained level: the first byte, and how many; the other rules have neither
 unfoldable pub varies : ℕ → ℕ × ℕ
 varies rule =
     cond (eqb rule 1) (8, 8)
-    (cond (eqb rule 2) (8, 4)
+    (cond (eqb rule 2 || eqb rule 25) (8, 4)
     (cond (eqb rule 17 || eqb rule 18) (12, 4)
     (cond (eqb rule 11) (16, 4)
     (0, 0))))
@@ -65,6 +71,7 @@ pub record Stays (old new : List ℕ) : Type 0 where
   pub skill : u8At old 1 ≡ 11 → u32At new 16 ≤ u32At old 16
   pub maxGroup : u8At old 1 ≡ 17 → u32At old 12 ≤ u32At new 12
   pub maxType : u8At old 1 ≡ 18 → u32At old 12 ≤ u32At new 12
+  pub points : u8At old 1 ≡ 25 → u32At old 8 ≤ u32At new 8
 
 -- positions in the new list, one for each old entry, strictly rising, where the old entry stays
 pub record Kept (old new : Outcome) : Type 0 where

@@ -20,6 +20,7 @@ use Rattle.promises.specs.RuleCases.{KINDS, RESOURCES, SLOTS, ITEMS, CRO
 use Rattle.promises.specs.CallCases.{ENTRIES, CALLS}
 use Rattle.promises.specs.RefusalCases.{LENGTHS, KEYS, FIELDS, SIZES, IDS, RANGES, DRONES, NUMBERS, BUFFERS, FIRSTS, LARGE, ZEROS}
 use Rattle.promises.specs.WidenCases.{VALUES, WIDENED}
+use Rattle.promises.specs.LeagueCases.{PROFILES, LEAGUE, PROFILED}
 
 -- ---- skills
 -- skills 1 and 2 demand each other: 2 at 1, and 1 at 4
@@ -103,7 +104,7 @@ abbrev pub PARTS : List (List Case)
 PARTS =
     STARRED ∷ SKILLS ∷ KINDS ∷ RESOURCES ∷ SLOTS ∷ ITEMS ∷ CROWDS ∷ ORDER ∷ ENTRIES ∷ CALLS
     ∷ LENGTHS ∷ KEYS ∷ FIELDS ∷ SIZES ∷ IDS ∷ RANGES ∷ DRONES ∷ NUMBERS ∷ BUFFERS ∷ FIRSTS ∷ LARGE ∷ ZEROS
-    ∷ VALUES ∷ WIDENED ∷ []
+    ∷ VALUES ∷ WIDENED ∷ PROFILES ∷ LEAGUE ∷ PROFILED ∷ []
 
 abbrev pub EDGES : List Case
 EDGES = each PARTS λ part. part

@@ -14,8 +14,9 @@ use Rattle.floats.specs.Floats.{zeroF, ofNat, f64Bits}
 use Rattle.catalogue.specs.Catalogue.{Id, TypeData, Catalogue, catalogueOf}
 use Rattle.fit.specs.Fit.{Item, Result, Fit, allResults, fitOf}
 use Rattle.entry.specs.declared.Entry.{Entry}
-use Rattle.entry.specs.declared.Rule.the-variants.{Resource, Slots, SlotTaken, Skill, MaxGroup, MaxType, NotASkill}
+use Rattle.entry.specs.declared.Rule.the-variants.{Resource, Slots, SlotTaken, Skill, MaxGroup, MaxType, NotASkill, Banned, Points}
 use Rattle.entry.specs.Entries.{onShip, onItem}
+use Rattle.lists.specs.Terms.{Terms, terms, main}
 use Rattle.fitcheck.specs.Calls.{Listed, listCall, skillCall}
 use Rattle.promises.specs.Compare.{Bytes, Grown, AddedVolumes}
 use Rattle.promises.specs.Cases.{ship, gun, gunnery, ore, ghost, unknown, attribute, has, result, Thing, stack, one}
@@ -155,9 +156,20 @@ NEW-LIST =
 abbrev pub lacks : ℕ → List Entry
 lacks level = onItem 0 (Skill gunnery 5 level) ∷ []
 
+-- a league that bans guns; one that prices them at 3, and allows 5
+abbrev pub BANNING : Terms
+BANNING = terms (words (1 ∷ 50 ∷ 4294967295 ∷ [])) 5
+
+abbrev pub PRICING : Terms
+PRICING = terms (words (1 ∷ 50 ∷ 3 ∷ [])) 5
+
+-- a ban of the guns at these positions
+abbrev pub bans : List ℕ → List Entry
+bans positions = map (λ i. onItem i (Banned (pos 50))) positions
+
 -- room for all of them
 abbrev pub ROOM : List ℕ
-ROOM = replicate 192 7
+ROOM = replicate 264 7
 
 -- the images are these fits; they meet the premises, though unequal numbers are added; and of every rule with a number that may change, the
 -- old lists have an entry
@@ -171,7 +183,11 @@ pub record Example : Type 0 where
   pub grown : Grown (fitOf OLD) (fitOf NEW)
   pub volumes : AddedVolumes (catalogueOf CATALOGUE) (fitOf OLD) (fitOf NEW)
   -- all calls are answered
-  pub old-list : listCall CATALOGUE OLD ROOM ≡ Listed OLD-LIST
-  pub new-list : listCall CATALOGUE NEW ROOM ≡ Listed NEW-LIST
+  pub old-list : listCall main CATALOGUE OLD ROOM ≡ Listed OLD-LIST
+  pub new-list : listCall main CATALOGUE NEW ROOM ≡ Listed NEW-LIST
+  pub old-bans : listCall BANNING CATALOGUE OLD ROOM ≡ Listed (OLD-LIST ++ bans (0 ∷ 1 ∷ []))
+  pub new-bans : listCall BANNING CATALOGUE NEW ROOM ≡ Listed (NEW-LIST ++ bans (0 ∷ 1 ∷ 4 ∷ []))
+  pub old-points : listCall PRICING CATALOGUE OLD ROOM ≡ Listed (OLD-LIST ++ onShip (Points 6 5) ∷ [])
+  pub new-points : listCall PRICING CATALOGUE NEW ROOM ≡ Listed (NEW-LIST ++ onShip (Points 9 5) ∷ [])
   pub old-skills : skillCall CATALOGUE OLD 2 ROOM ≡ Listed (lacks 3)
   pub new-skills : skillCall CATALOGUE NEW 2 ROOM ≡ Listed (lacks 1)

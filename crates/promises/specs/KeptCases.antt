@@ -11,7 +11,7 @@ use Rattle.floats.specs.Floats.{ofNat}
 use Rattle.entry.specs.declared.Rule.{Rule}
 use Rattle.entry.specs.declared.Rule.the-variants.{Resource, Slots, WrongSlot, NotAModule, NotADrone, NotAFighter, NotAnImplant, SlotTaken}
 use Rattle.entry.specs.declared.Rule.the-variants.{WrongSlotIndex, SubsystemTaken, Skill, RigSize, ShipRestricted, CapitalItem}
-use Rattle.entry.specs.declared.Rule.the-variants.{StructureItem, ShipItem, MaxGroup, MaxType, NotAHull, NotAMode, NotASkill}
+use Rattle.entry.specs.declared.Rule.the-variants.{StructureItem, ShipItem, MaxGroup, MaxType, NotAHull, NotAMode, NotASkill, Banned, Points}
 use Rattle.entry.specs.Entries.{onShip, onItem, entryBytes}
 use Rattle.promises.specs.Answers.{Outcome}
 use Rattle.promises.specs.Compare.{Kept}
@@ -48,6 +48,10 @@ ofType = entryBytes (onItem 258 (MaxType (pos 60) 4 3))
 abbrev lack : List ℕ
 lack = entryBytes (onItem 258 (Skill (pos 7) 5 3))
 
+-- 141 points of 120
+abbrev spent : List ℕ
+spent = entryBytes (onShip (Points 141 120))
+
 -- the rules that have neither a used number nor a trained level
 abbrev taken : List ℕ
 taken = entryBytes (onItem 258 SlotTaken)
@@ -57,7 +61,7 @@ OTHERS =
     taken
     ∷ map (λ r. entryBytes (onItem 258 r))
     (WrongSlot 5 ∷ NotAModule ∷ NotADrone ∷ NotAFighter ∷ NotAnImplant ∷ WrongSlotIndex 300 ∷ SubsystemTaken ∷ RigSize 1 2
-    ∷ ShipRestricted ∷ CapitalItem ∷ StructureItem ∷ ShipItem ∷ NotAHull ∷ NotAMode ∷ NotASkill (pos 7) ∷ [])
+    ∷ ShipRestricted ∷ CapitalItem ∷ StructureItem ∷ ShipItem ∷ NotAHull ∷ NotAMode ∷ NotASkill (pos 7) ∷ Banned (pos 50) ∷ [])
 
 -- a number below zero
 abbrev minus : ℕ → Float
@@ -93,6 +97,8 @@ HIGHER =
     ∷ onAPair (MaxType (pos 60) 4 3) (MaxType (pos 60) 5 3)
     -- a trained level that is lower
     ∷ onAPair (Skill (pos 7) 5 3) (Skill (pos 7) 5 0)
+    -- more points
+    ∷ onTheShip (Points 141 120) (Points 256 120)
     ∷ []
 
 -- ---- not kept
@@ -121,6 +127,8 @@ LOWER =
     ∷ onAPair (MaxType (pos 60) 5 3) (MaxType (pos 60) 4 3)
     -- a trained level that is higher
     ∷ onAPair (Skill (pos 7) 5 3) (Skill (pos 7) 5 4)
+    -- fewer points
+    ∷ onTheShip (Points 256 120) (Points 141 120)
     ∷ []
 
 abbrev pub OTHER-NUMBERS : List Lists
@@ -137,6 +145,8 @@ OTHER-NUMBERS =
     ∷ onAPair (WrongSlotIndex 1) (WrongSlotIndex 2)
     ∷ onAPair (RigSize 1 2) (RigSize 2 2)
     ∷ onAPair (RigSize 1 2) (RigSize 1 3)
+    -- the allowance
+    ∷ onTheShip (Points 141 120) (Points 142 121)
     ∷ []
 
 abbrev pub OTHER-ENTRIES : List Lists
@@ -158,6 +168,7 @@ OTHER-ENTRIES =
     ∷ onAPair (MaxGroup (pos 50) 0 4 3) (MaxGroup (negsuc 49) 0 4 3)
     ∷ onAPair (MaxType (pos 60) 4 3) (MaxType (pos 61) 4 3)
     ∷ onTheShip (NotASkill (pos 7)) (NotASkill (pos 8))
+    ∷ onAPair (Banned (pos 50)) (Banned (pos 51))
     ∷ []
 
 -- ---- byte by byte
@@ -177,6 +188,7 @@ RISEN =
     ++ raised (from 12 4) ofGroup
     ++ raised (from 12 4) ofType
     ++ turned (raised (from 16 4) lack)
+    ++ raised (from 8 4) spent
 
 -- any other byte
 abbrev pub CHANGED : List Lists
@@ -186,6 +198,7 @@ CHANGED =
     ++ raised (from 0 12 ++ from 16 8) ofGroup
     ++ raised (from 0 12 ++ from 16 8) ofType
     ++ raised (from 0 16 ++ from 20 4) lack
+    ++ raised (from 0 8 ++ from 12 12) spent
     ++ each OTHERS (raised (from 0 24))
 
 -- The last three go through every byte of an entry of every rule: none but a used number's and a trained level's may change, and those one

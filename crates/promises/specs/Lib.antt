@@ -15,3 +15,4 @@ pub mod RuleCases
 pub mod CallCases
 pub mod RefusalCases
 pub mod WidenCases
+pub mod LeagueCases

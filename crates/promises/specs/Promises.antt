@@ -1,11 +1,11 @@
 -- Every promise, whole, with no proof in it; `proofs/Promised.antt` has the theorem. The calls are `listCall`, `skillCall`, `hallCall` and
 -- `widenCall` of fitcheck/specs, functions of bytes, and the exported functions are proved equal to them: the word by `returned`,
 -- `hallReturned`, `outputWord`, the buffer by `buffered`, `filled`. Read `Answers`, `Compare`, `GrownCase`, `KeptCases`, `Walks`, `Halls`,
--- `Widens`, `Edges` beside this file, and validate/specs for the list.
+-- `Widens`, `Edges` beside this file, and lists/specs for the list. `Terms` is what a call brings beside images and buffer.
 use Prim.Native.Nat.{ℕ, _/_, _≤_}
 use mathlib.Core.Path.{_≡_}
 use mathlib.Core.Bool.{false, not}
-use mathlib.Core.List.{List, map}
+use mathlib.Core.List.{List, [], map}
 use mathlib.Core.Logic.{_↔_}
 use lib.Dec.{T}
 use lib.ListN.{length, getD}
@@ -19,13 +19,14 @@ use Rattle.fit.specs.Fit.{Item, Result, Fit, fitOf}
 use Rattle.fit.specs.Refusals.{badSize}
 use Rattle.context.specs.Context.{pairs}
 use Rattle.resource.specs.Resource.{launched}
-use Rattle.validate.specs.Validate.{listOf}
 use Rattle.skill.specs.Skill.{tooMany, skillList}
+use Rattle.lists.specs.Terms.{Terms, main}
+use Rattle.lists.specs.Lists.{wholeList}
 use Rattle.fitcheck.specs.Calls.{listCall, skillCall}
 use Rattle.fitcheck.specs.Hall.{hallCall, hallReturned}
 use Rattle.promises.specs.Answers.{Outcome, outcome, refusal, count, catalogueConditions, listConditions, skillConditions, None, Answers}
-use Rattle.promises.specs.Before.{listBefore}
-use Rattle.promises.specs.Compare.{Bytes, Grown, AddedVolumes, Kept}
+use Rattle.promises.specs.Before.{listBefore, rustCall}
+use Rattle.promises.specs.Compare.{Bytes, Grown, AddedVolumes, Alike, Kept}
 use Rattle.promises.specs.GrownCase.{grownBy, Example}
 use Rattle.promises.specs.KeptCases.{Tables}
 use Rattle.promises.specs.Walks.{MoreWanted, SkillsOf}
@@ -35,43 +36,49 @@ use Rattle.promises.specs.Names.{numbered, nameNumbers}
 use Rattle.promises.specs.Edges.{EDGES, Agree}
 
 -- the two calls, as a caller sees them
-abbrev pub listOutcome : (catalogue fit buffer : List ℕ) → Outcome
-listOutcome catalogue fit buffer = outcome buffer (listCall catalogue fit buffer)
+abbrev pub listOutcome : Terms → (catalogue fit buffer : List ℕ) → Outcome
+listOutcome t catalogue fit buffer = outcome buffer (listCall t catalogue fit buffer)
 
 abbrev pub skillOutcome : (catalogue fit : List ℕ) (result : ℕ) (buffer : List ℕ) → Outcome
 skillOutcome catalogue fit result buffer = outcome buffer (skillCall catalogue fit result buffer)
 
--- Demand 1. Of any bytes, a call gives the first refusal of document 01's order whose condition holds, and no other byte than the
+-- Demand 1. Of any bytes, a call gives the first refusal of the documents' order whose condition holds, and no other byte than the
 -- entries' own changes; where no condition holds, it gives the list.
 abbrev pub ListAnswers : Type 0
-ListAnswers = (catalogue fit buffer : List ℕ)
-    → Answers (listConditions catalogue fit buffer) (listOf (catalogueOf catalogue) (fitOf fit)) buffer (listOutcome catalogue fit buffer)
+ListAnswers = (t : Terms) (catalogue fit buffer : List ℕ)
+    → Answers (listConditions t catalogue fit buffer) (wholeList t (catalogueOf catalogue) (fitOf fit)) buffer (listOutcome t catalogue fit buffer)
 
 abbrev pub SkillAnswers : Type 0
 SkillAnswers = (catalogue fit : List ℕ) (result : ℕ) (buffer : List ℕ)
     → Answers (skillConditions catalogue fit result buffer) (skillList (catalogueOf catalogue) (fitOf fit) result) buffer
     (skillOutcome catalogue fit result buffer)
 
--- No list has more than 5,141 entries, no skill list more than 512: a buffer of 123,384 bytes, or of 12,288, is never too short.
+-- No list has more than 5,398 entries, no skill list more than 512: a buffer of 129,552 bytes, or of 12,288, is never too short.
 abbrev pub ListRoom : Type 0
-ListRoom = (catalogue fit buffer : List ℕ) → 123384 ≤ length buffer → refusal (listOutcome catalogue fit buffer) ≡ 10 → ⊥
+ListRoom = (t : Terms) (catalogue fit buffer : List ℕ) → 129552 ≤ length buffer → refusal (listOutcome t catalogue fit buffer) ≡ 10 → ⊥
 
 abbrev pub SkillRoom : Type 0
 SkillRoom = (catalogue fit : List ℕ) (result : ℕ) (buffer : List ℕ) → 12288 ≤ length buffer → refusal (skillOutcome catalogue fit result buffer) ≡ 10 → ⊥
 
 -- Drones over 4,294,967,295 were refused by 7. No call gives this number any more.
 abbrev pub NoSeven : Type 0
-NoSeven = (catalogue fit input buffer : List ℕ) (result : ℕ)
-    → (refusal (listOutcome catalogue fit buffer) ≡ 7 → ⊥)
+NoSeven = (t : Terms) (catalogue fit input buffer : List ℕ) (result : ℕ)
+    → (refusal (listOutcome t catalogue fit buffer) ≡ 7 → ⊥)
     × (refusal (skillOutcome catalogue fit result buffer) ≡ 7 → ⊥)
     × (hallReturned (hallCall catalogue input) / 4294967296 ≡ 7 → ⊥)
 
 -- Every list call that was not refused by 7 leaves what it left before, the word and every byte of the buffer: those that were answered, and
 -- those that another number refused.
 abbrev pub ListAsBefore : Type 0
-ListAsBefore = (catalogue fit buffer : List ℕ)
-    → (refusal (outcome buffer (listBefore catalogue fit buffer)) ≡ 7 → ⊥)
-    → listOutcome catalogue fit buffer ≡ outcome buffer (listBefore catalogue fit buffer)
+ListAsBefore = (t : Terms) (catalogue fit buffer : List ℕ)
+    → (refusal (outcome buffer (listBefore t catalogue fit buffer)) ≡ 7 → ⊥)
+    → listOutcome t catalogue fit buffer ≡ outcome buffer (listBefore t catalogue fit buffer)
+
+-- P2. Without a profile, whatever the allowance, a list call leaves what it left before there were leagues, the word and every byte: the
+-- Rust's list, or the number that refused it.
+abbrev pub NoProfile : Type 0
+NoProfile = (t : Terms) (catalogue fit buffer : List ℕ) → t .profile ≡ []
+    → listOutcome t catalogue fit buffer ≡ outcome buffer (rustCall catalogue fit buffer)
 
 -- The drones of a fit that 4 does not refuse, 256 stacks of 4,294,967,295 at most, are a number that an f64 holds: the one that is listed has
 -- the value of their total, with no rounding.
@@ -81,14 +88,14 @@ DronesExact = (c : Catalogue) (fit : List ℕ) → Bytes fit → T (not (badSize
 
 -- Demand 3 for the list. Items and results put behind those of a fit with as many results as items, drones in any number among them, and
 -- lowered levels, make no entry vanish: it has its own place in the new list, in the old order, with a used number no lower and every other
--- byte the same.
+-- byte the same. Rules 24 and 25 are among the entries, as both calls have the same profile and allowance.
 abbrev pub ListKept : Type 0
-ListKept = (catalogue old new oldBuffer newBuffer : List ℕ) → Bytes new
+ListKept = (t t′ : Terms) (catalogue old new oldBuffer newBuffer : List ℕ) → Alike t t′ → Bytes new
     → Grown (fitOf old) (fitOf new)
     → AddedVolumes (catalogueOf catalogue) (fitOf old) (fitOf new)
-    → refusal (listOutcome catalogue old oldBuffer) ≡ 0
-    → refusal (listOutcome catalogue new newBuffer) ≡ 0
-    → Kept (listOutcome catalogue old oldBuffer) (listOutcome catalogue new newBuffer)
+    → refusal (listOutcome t catalogue old oldBuffer) ≡ 0
+    → refusal (listOutcome t′ catalogue new newBuffer) ≡ 0
+    → Kept (listOutcome t catalogue old oldBuffer) (listOutcome t′ catalogue new newBuffer)
 
 -- Demand 3 for the skill lists of every old result, ship and character included: those are the results whose old call is answered.
 -- Volumes do not matter here.
@@ -121,10 +128,10 @@ TooMany = (c : Catalogue) (r : Result) → T (tooMany 512 c r) ↔ MoreWanted 51
 abbrev pub HallCall : Type 0
 HallCall = (catalogue input : List ℕ) → HallAnswers catalogue input (hallReturned (hallCall catalogue input))
 
--- Where the catalogue is not refused, a fit is clear exactly where its list call answers with no entry and it has as many results as items,
--- refused exactly where that refuses with 4 to 6, and faulted where it lists entries or has unequal numbers.
+-- Where the catalogue is not refused, a fit is clear exactly where its list call, with no profile, answers with no entry and it has as many
+-- results as items, refused exactly where that refuses with 4 to 6, and faulted where it lists entries or has unequal numbers.
 abbrev pub HallFits : Type 0
-HallFits = (catalogue fit buffer : List ℕ) → None (catalogueConditions catalogue) → Judged catalogue fit buffer (listOutcome catalogue fit buffer)
+HallFits = (catalogue fit buffer : List ℕ) → None (catalogueConditions catalogue) → Judged catalogue fit buffer (listOutcome main catalogue fit buffer)
 
 -- P10. Of any bytes, the widening call gives the first refusal whose condition holds, and no other byte than the new catalogue's own
 -- changes; where no condition holds, it gives the widened catalogue.
@@ -157,6 +164,7 @@ pub record Promises : Type 0 where
   pub skill-room : SkillRoom
   pub no-seven : NoSeven
   pub list-as-before : ListAsBefore
+  pub no-profile : NoProfile
   pub drones-exact : DronesExact
   pub list-kept : ListKept
   pub skill-kept : SkillKept

@@ -9,9 +9,11 @@ use Rattle.widening.specs.Old.{oldCatalogueOf, oldBadLength, oldRefusals}
 use Rattle.widening.specs.Widen.{widened}
 use Rattle.fit.specs.Fit.{fitOf}
 use Rattle.fit.specs.Refusals.{fitRefusals}
-use Rattle.validate.specs.Validate.{listOf}
+use Rattle.profile.specs.Profile.{profileRefusals}
 use Rattle.skill.specs.Skill.{skillList}
-use Rattle.fitcheck.specs.Calls.{Answer, answer, listRefusals, skillRefusals, listCall, skillCall}
+use Rattle.lists.specs.Terms.{Terms}
+use Rattle.lists.specs.Lists.{wholeList}
+use Rattle.fitcheck.specs.Calls.{Answer, answer, bufferRefusals, skillRefusals, listCall, skillCall}
 use Rattle.fitcheck.specs.Widen.{outputWord, filled, noRoom, widenCall}
 use Rattle.promises.specs.Answers.{Outcome, refusal, count, Conditions, First, None}
 
@@ -46,11 +48,10 @@ abbrev pub written : Outcome → List ℕ
 written o = take (count o) (o .buffer)
 
 -- ---- the list call and the skill call under an old catalogue, as they were
-abbrev pub listUnderOld : (old fit buffer : List ℕ) → Answer
-listUnderOld old fit buffer =
-    let c = oldCatalogueOf old in
-    let f = fitOf fit in
-    answer (oldRefusals old ++ fitRefusals fit ++ listRefusals c f buffer) (listOf c f)
+abbrev pub listUnderOld : Terms → (old fit buffer : List ℕ) → Answer
+listUnderOld t old fit buffer =
+    let es = wholeList t (oldCatalogueOf old) (fitOf fit) in
+    answer (oldRefusals old ++ fitRefusals fit ++ profileRefusals (t .profile) ++ bufferRefusals buffer es) es
 
 abbrev pub skillsUnderOld : (old fit : List ℕ) (result : ℕ) (buffer : List ℕ) → Answer
 skillsUnderOld old fit result buffer =
@@ -61,5 +62,5 @@ skillsUnderOld old fit result buffer =
 -- a catalogue that is not refused, under which every call answers as under the old one
 pub record Stands (old new : List ℕ) : Type 0 where
   pub accepted : catalogueRefusal new ≡ 0
-  pub lists : (fit buffer : List ℕ) → listCall new fit buffer ≡ listUnderOld old fit buffer
+  pub lists : (t : Terms) (fit buffer : List ℕ) → listCall t new fit buffer ≡ listUnderOld t old fit buffer
   pub skills : (fit : List ℕ) (result : ℕ) (buffer : List ℕ) → skillCall new fit result buffer ≡ skillsUnderOld old fit result buffer

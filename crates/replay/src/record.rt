@@ -24,10 +24,10 @@ pub fn length_at(b: &[u8], at: usize) -> usize
     ensures { λ r. ⌜ (at + r ≤ length (now (b .entry))) × (0 < r → r ≡ size (now (b .entry)) at) ⌝ }
 {
     let room = b.len() - at;
-    if room < 28 {
+    if room < 36 {
         return 0;
     }
-    let n = 28 + number(b, at) + number(b, at + 4) + number(b, at + 24);
+    let n = 36 + number(b, at) + number(b, at + 4) + number(b, at + 8) + number(b, at + 32);
     if room < n {
         return 0;
     }
@@ -50,9 +50,25 @@ fn is_left(out: &[u8], written: &[u8], fill: u8) -> bool {
     same
 }
 
-fn call(catalogue: &[u8], fit: &[u8], result: u32, out: &mut [u8]) -> u64 {
+// Where the profile of the record at a place begins: behind its 36 bytes of numbers, its catalogue and its fit.
+fn profile_at(b: &[u8], at: usize) -> usize
+    requires { ⌜ at + size (now b) at ≤ length (now b) ⌝ }
+    ensures { λ r. ⌜ r ≡ at + 36 + u32At (now (b .entry)) at + u32At (now (b .entry)) (at + 4) ⌝ }
+{
+    at + 36 + number(b, at) + number(b, at + 4)
+}
+
+// The call of the record at a place.
+fn call(b: &[u8], at: usize, out: &mut [u8]) -> u64
+    requires { ⌜ at + size (now b) at ≤ length (now b) ⌝ }
+{
+    let c = number(b, at);
+    let catalogue = image::part(b, at + 36, c);
+    let fit = image::part(b, at + 36 + c, number(b, at + 4));
+    let profile = image::part(b, profile_at(b, at), number(b, at + 8));
+    let result = image::u32_at(b, at + 16);
     if result == LIST {
-        return fitcheck::fit_list(catalogue, fit, out);
+        return fitcheck::fit_list(catalogue, fit, profile, image::u32_at(b, at + 12), out);
     }
     if result == HALL {
         return fitcheck::fit_hall(catalogue, fit);
@@ -63,39 +79,17 @@ fn call(catalogue: &[u8], fit: &[u8], result: u32, out: &mut [u8]) -> u64 {
     fitcheck::fit_skill(catalogue, fit, result, out)
 }
 
-// Whether the call on these images, with a buffer of `room` bytes, gives the word and leaves the bytes.
-fn gives(
-    catalogue: &[u8],
-    fit: &[u8],
-    result: u32,
-    room: usize,
-    fill: u8,
-    word: u64,
-    written: &[u8],
-) -> bool {
-    let mut buffer = [fill; 65536];
-    if 65536 < room {
-        return false;
-    }
-    let out = &mut buffer[..room];
-    let gave = call(catalogue, fit, result, out);
-    gave == word && is_left(out, written, fill)
-}
-
+// Whether the call of the record at a place gives its word and leaves its bytes.
 pub fn is_given(b: &[u8], at: usize, fill: u8) -> bool
     requires { ⌜ at + size (now b) at ≤ length (now b) ⌝ }
 {
-    let c = number(b, at);
-    let f = number(b, at + 4);
-    let w = number(b, at + 24);
-    let start = at + 28;
-    gives(
-        image::part(b, start, c),
-        image::part(b, start + c, f),
-        image::u32_at(b, at + 8),
-        number(b, at + 12),
-        fill,
-        image::u64_at(b, at + 16),
-        image::part(b, start + c + f, w),
-    )
+    let room = number(b, at + 20);
+    if 65536 < room {
+        return false;
+    }
+    let mut buffer = [fill; 65536];
+    let out = &mut buffer[..room];
+    let gave = call(b, at, out);
+    let written = image::part(b, profile_at(b, at) + number(b, at + 8), number(b, at + 32));
+    gave == image::u64_at(b, at + 24) && is_left(out, written, fill)
 }

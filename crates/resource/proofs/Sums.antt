@@ -1,13 +1,11 @@
 -- The drones in space and the cargo, one pair more at a time.
 use Prim.Native.Nat.{ℕ, _+_}
-use native.Mathlib.Nat.{add-zero}
 use mathlib.Core.Path.{_≡_, refl, ap, _∙_}
 use mathlib.Core.Bool.{Bool, true, false, cond}
 use mathlib.Core.List.{List, [], _∷_, foldl, foldl-append}
 use lib.Ieee.{Float, binary64, add}
-use Rattle.words.specs.Words.{table, tableFrom, only, sumOf}
-use Rattle.words.proofs.Steps.{sum-append}
-use Rattle.words.proofs.Tables.{only-more}
+use Rattle.words.specs.Words.{table, tableFrom, only}
+use Rattle.words.proofs.Tables.{only-more, sum-only-none, sum-only-more}
 use Rattle.numbers.specs.Slots as Slots
 use Rattle.floats.specs.Floats.{zeroF}
 use Rattle.context.specs.Context.{Pair, isIn}
@@ -15,19 +13,12 @@ use Rattle.resource.specs.Resource.{isLaunched, launched, cargoVolume, c
 
 module _ (f : ℕ → Pair) where
   pub launched-none : launched (table 0 f) ≡ 0
-  unfolding launched sumOf only tableFrom
-  launched-none = refl
+  unfolding launched
+  launched-none = sum-only-none f isLaunched (λ p. p .quantity)
 
   pub launched-more : (n : ℕ) → launched (table (n + 1) f) ≡ launched (table n f) + cond (isLaunched (f n)) (f n .quantity) 0
-  unfolding launched sumOf
-  launched-more n =
-      ap (sumOf (λ p. p .quantity)) (only-more f isLaunched n)
-      ∙ sum-append (λ p. p .quantity) (only isLaunched (table n f)) (cond (isLaunched (f n)) (f n ∷ []) [])
-      ∙ ap (λ (k : ℕ). sumOf (λ p. p .quantity) (only isLaunched (table n f)) + k) (go (isLaunched (f n)))
-    where
-      go : (b : Bool) → sumOf (λ p. p .quantity) (cond b (f n ∷ []) []) ≡ cond b (f n .quantity) 0
-      go true = add-zero (f n .quantity)
-      go false = refl
+  unfolding launched
+  launched-more = sum-only-more f isLaunched (λ p. p .quantity)
 
   pub cargo-none : cargoUsed (table 0 f) ≡ zeroF
   unfolding cargoUsed only tableFrom

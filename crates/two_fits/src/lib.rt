@@ -1,6 +1,7 @@
 // Demand 3 of the two calls as they are exported: an old and a new call, each with its own buffer, and what their contracts say of both.
 // Document 01, "Two fits compared".
 ghost use mathlib.Core.Path.{_≡_};
+ghost use Rattle.lists.specs.Terms.{terms};
 ghost use Rattle.fitcheck.specs.Calls.{listCall, skillCall};
 ghost use Rattle.promises.specs.Answers.{outcome};
 ghost use Rattle.promises.specs.Compare.{Bytes};
@@ -24,19 +25,29 @@ fn bytes(b: &[u8]) -> usize
     i
 }
 
-// Two list calls: their words and their buffers are the call's. Where both are answered, no entry of the old list vanishes.
-pub fn lists(catalogue: &[u8], old: &[u8], new: &[u8], before: &mut [u8], after: &mut [u8]) -> Words
+// Two list calls with one profile and one allowance: their words and their buffers are the call's. Where both are answered, no entry of the
+// old list vanishes.
+pub fn lists(
+    catalogue: &[u8],
+    profile: &[u8],
+    allowance: u32,
+    old: &[u8],
+    new: &[u8],
+    before: &mut [u8],
+    after: &mut [u8],
+) -> Words
     ensures { λ r.
         let c = now (catalogue .entry) in
+        let t = terms (now (profile .entry)) allowance in
         let o = left (r .old) (now (before .exit)) in
         let o′ = left (r .new) (now (after .exit)) in
-        ⌜ (outcome (now (before .entry)) (listCall c (now (old .entry)) (now (before .entry))) ≡ o)
-        × (outcome (now (after .entry)) (listCall c (now (new .entry)) (now (after .entry))) ≡ o′)
+        ⌜ (outcome (now (before .entry)) (listCall t c (now (old .entry)) (now (before .entry))) ≡ o)
+        × (outcome (now (after .entry)) (listCall t c (now (new .entry)) (now (after .entry))) ≡ o′)
         × ListsKept c (now (old .entry)) (now (new .entry)) o o′ ⌝ }
 {
     let _ = bytes(new);
-    let a = fitcheck::fit_list(catalogue, old, before);
-    let b = fitcheck::fit_list(catalogue, new, after);
+    let a = fitcheck::fit_list(catalogue, old, profile, allowance, before);
+    let b = fitcheck::fit_list(catalogue, new, profile, allowance, after);
     Words { old: a, new: b }
 }
 

@@ -265,6 +265,22 @@ module _ {A : Type 0} (f : ℕ → A) where
       ap (sumOf g) (table-more n f) ∙ sum-append g (table n f) (f n ∷ []) ∙
       (let q : sumOf g (table n f) + (g (f n) + 0) ≡ sumOf g (table n f) + g (f n) = omega arith in q)
 
+  -- the sum over those that pass
+  module _ (t : A → Bool) (g : A → ℕ) where
+    pub sum-only-none : sumOf g (only t (table 0 f)) ≡ 0
+    unfolding sumOf only tableFrom
+    sum-only-none = refl
+
+    pub sum-only-more : (n : ℕ) → sumOf g (only t (table (n + 1) f)) ≡ sumOf g (only t (table n f)) + cond (t (f n)) (g (f n)) 0
+    unfolding sumOf
+    sum-only-more n =
+        ap (sumOf g) (only-more t n) ∙ sum-append g (only t (table n f)) (cond (t (f n)) (f n ∷ []) [])
+        ∙ ap (λ (k : ℕ). sumOf g (only t (table n f)) + k) (go (t (f n)))
+      where
+        go : (b : Bool) → sumOf g (cond b (f n ∷ []) []) ≡ cond b (g (f n)) 0
+        go true = add-zero (g (f n))
+        go false = refl
+
   pub count-more : (t : A → Bool) (n : ℕ) → countOf t (table (n + 1) f) ≡ countOf t (table n f) + cond (t (f n)) 1 0
   unfolding countOf
   count-more t n =

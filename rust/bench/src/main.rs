@@ -10,6 +10,8 @@ use bench::stack::{self, Call};
 use bench::subject::{self, Catalogue, Fit, List};
 use bench::svg::{self, Chart, Curve};
 use bench::world::{self, FULL, PARTS, SMALL};
+use compare::checker::Terms;
+use compare::profile::League;
 
 const USAGE: &str = "\
 bench              all tables
@@ -73,6 +75,7 @@ fn everything(picture: Option<&str>) {
     let [small, .., full] = &catalogues;
     lists(small, full);
     hangars(small);
+    leagues(small, full);
     skills(small, full);
     hall(small, full);
     widen();
@@ -126,6 +129,28 @@ fn hangars(small: &Catalogue) {
         .map(|number| Fit::new(&fits::full_hangar(number)))
         .collect();
     report::hangar_table(subject::hangars(small, &ones, &full));
+    println!();
+}
+
+/// A profile of as many groups as may be, from those of the catalogues on.
+fn leagues(small: &Catalogue, full: &Catalogue) {
+    println!("## (h) A league of 4,096 groups, realistic fit, µs\n");
+    report::league_head();
+    let prices: Vec<(i32, u32)> = (0..4_096).map(|group| (group, group as u32 % 50)).collect();
+    let league = League::of(&prices, 120);
+    let profile = league.image();
+    let terms = Terms {
+        profile: &profile,
+        allowance: league.allowance,
+    };
+    let fits = of_shape(fits::REALISTIC, FITS);
+    for (title, catalogue, has_target) in [
+        ("small catalogue", small, false),
+        ("full-size catalogue", full, true),
+    ] {
+        let row = subject::leagues(catalogue, &fits, terms);
+        report::league_row(title, row, has_target);
+    }
     println!();
 }
 
@@ -260,7 +285,7 @@ fn stacks() {
 /// Makes the library's call of a case so many times, and nothing else.
 fn call(case: &str, times: usize) -> bool {
     let library = subject::library();
-    let mut buffer = vec![0; 123_384];
+    let mut buffer = vec![0; subject::ANY_LIST];
     let (catalogue, fit, result) = match case {
         "a" => (world::catalogue(SMALL), fits::fit(fits::SMALL, 0), None),
         "b" => (world::catalogue(FULL), fits::fit(fits::REALISTIC, 0), None),
@@ -295,7 +320,7 @@ fn call(case: &str, times: usize) -> bool {
         let catalogue = black_box(&catalogue);
         black_box(match result {
             Some(result) => library.skill(catalogue, &fit, result, &mut buffer),
-            None => library.list(catalogue, &fit, &mut buffer),
+            None => library.list(catalogue, &fit, Terms::default(), &mut buffer),
         });
     }
     true

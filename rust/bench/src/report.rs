@@ -61,6 +61,28 @@ pub fn hangar_table([ones, full]: [f64; 2]) {
     );
 }
 
+/// What a profile of 4,096 groups may cost beside the same call without.
+const LEAGUE: f64 = 1.1;
+
+pub fn league_head() {
+    println!("| | list | with the profile | ÷ without, target {LEAGUE} |");
+    println!("|---|---|---|---|");
+}
+
+/// `has_target`: the target is about the catalogue that a site has.
+pub fn league_row(title: &str, [without, with]: [f64; 2], has_target: bool) {
+    let shown = match with / without {
+        ratio if !has_target => format!("{ratio:.2}"),
+        ratio if ratio <= LEAGUE => format!("{ratio:.2} met"),
+        ratio => format!("{ratio:.2} missed"),
+    };
+    println!(
+        "| {title} | {} | {} | {shown} |",
+        micros(without),
+        micros(with)
+    );
+}
+
 pub fn skill_head() {
     println!(
         "| | entries | skill | short buffer | scan | original \

@@ -10,6 +10,8 @@ use std::hint::black_box;
 use std::process::Command;
 use std::thread;
 
+use compare::checker::Terms;
+
 use crate::subject::{self, Catalogue, Fit};
 use crate::{fits, world};
 
@@ -98,7 +100,7 @@ impl Prepared {
         let library = subject::library();
         let (catalogue, input) = (&self.catalogue, &self.input);
         let word = match self.call {
-            Call::List => library.list(catalogue, input, &mut self.buffer),
+            Call::List => library.list(catalogue, input, Terms::default(), &mut self.buffer),
             Call::Skill => library.skill(catalogue, input, 0, &mut self.buffer),
             Call::Hall => library.hall(catalogue, input),
             Call::Widen => library.widen(input, &mut self.buffer),

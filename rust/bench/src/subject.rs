@@ -3,7 +3,7 @@
 
 use std::hint::black_box;
 
-use compare::checker::{Checker, ENTRY};
+use compare::checker::{Checker, ENTRY, Terms};
 use compare::names::{COUNT, REQUIRED};
 use compare::reference::Original;
 use compare::{model, rattle, reference};
@@ -15,8 +15,14 @@ use crate::timing::medians;
 
 /// A buffer for any list, and one for the skills of any result: the calls
 /// write into these in one pass, and count before they write into shorter ones.
-const ANY_LIST: usize = 123_384;
+pub const ANY_LIST: usize = 129_552;
 const ANY_SKILLS: usize = 12_288;
+
+/// What every call brings but those of [`leagues`].
+const NO_LEAGUE: Terms = Terms {
+    profile: &[],
+    allowance: 0,
+};
 
 /// How often each task is sampled.
 const ROUNDS: usize = 101;
@@ -169,11 +175,16 @@ pub fn list(catalogue: &Catalogue, fits: &[Fit]) -> List {
         [
             &mut || {
                 let fit = t0.next().1;
-                black_box(library.list(black_box(image), &fit.image, &mut long));
+                black_box(library.list(black_box(image), &fit.image, NO_LEAGUE, &mut long));
             },
             &mut || {
                 let (number, fit) = t1.next();
-                black_box(library.list(black_box(image), &fit.image, &mut exact[number]));
+                black_box(library.list(
+                    black_box(image),
+                    &fit.image,
+                    NO_LEAGUE,
+                    &mut exact[number],
+                ));
             },
             &mut || {
                 black_box(scan::catalogue(black_box(image)));
@@ -210,10 +221,10 @@ pub fn hangars(catalogue: &Catalogue, ones: &[Fit], full: &[Fit]) -> [f64; 2] {
     let mut long = [vec![0; ANY_LIST], vec![0; ANY_LIST]];
     for fit in full {
         let [given, expected] = &mut long;
-        let word = library.list(&catalogue.image, &fit.image, given);
+        let word = library.list(&catalogue.image, &fit.image, NO_LEAGUE, given);
         assert_eq!(
             word,
-            Original.list(&catalogue.image, &fit.image, expected),
+            Original.list(&catalogue.image, &fit.image, NO_LEAGUE, expected),
             "entries of the library and of the reference"
         );
         assert_eq!(given, expected, "bytes of the library and of the reference");
@@ -222,12 +233,41 @@ pub fn hangars(catalogue: &Catalogue, ones: &[Fit], full: &[Fit]) -> [f64; 2] {
     let [first, second] = &mut long;
     let image = &catalogue.image;
     let call = |fit: &Fit, out: &mut Vec<u8>| {
-        black_box(library.list(black_box(image), &fit.image, out));
+        black_box(library.list(black_box(image), &fit.image, NO_LEAGUE, out));
     };
     medians(
         ROUNDS,
         [&mut || call(t0.next().1, first), &mut || {
             call(t1.next().1, second)
+        }],
+    )
+}
+
+/// Times the list call over the fits in turn, without a profile and with one:
+/// what the library lists with it is the reference's.
+pub fn leagues(catalogue: &Catalogue, fits: &[Fit], terms: Terms) -> [f64; 2] {
+    let library = library();
+    let mut long = [vec![0; ANY_LIST], vec![0; ANY_LIST]];
+    for fit in fits {
+        let [given, expected] = &mut long;
+        let word = library.list(&catalogue.image, &fit.image, terms, given);
+        assert_eq!(
+            word,
+            Original.list(&catalogue.image, &fit.image, terms, expected),
+            "entries of the library and of the reference"
+        );
+        assert_eq!(given, expected, "bytes of the library and of the reference");
+    }
+    let [mut t0, mut t1] = [fits, fits].map(Turns::new);
+    let [first, second] = &mut long;
+    let image = &catalogue.image;
+    let call = |fit: &Fit, terms: Terms, out: &mut Vec<u8>| {
+        black_box(library.list(black_box(image), &fit.image, black_box(terms), out));
+    };
+    medians(
+        ROUNDS,
+        [&mut || call(t0.next().1, NO_LEAGUE, first), &mut || {
+            call(t1.next().1, terms, second)
         }],
     )
 }
@@ -241,7 +281,7 @@ pub fn agreed_list(library: &dyn Checker, catalogue: &Catalogue, fit: &Fit) -> V
         fit.run(&catalogue.hashed_part).validate(),
         fit.run(&catalogue.sorted_part).validate(),
     ];
-    let call = |out: &mut [u8]| library.list(&catalogue.image, &fit.image, out);
+    let call = |out: &mut [u8]| library.list(&catalogue.image, &fit.image, NO_LEAGUE, out);
     agreed(&originals, ANY_LIST, call, |rule| {
         !matches!(rule, Rule::Skill { .. })
     })
@@ -396,13 +436,13 @@ pub fn hall(catalogue: &Catalogue, small: &Catalogue, fits: &[Fit]) -> Hall {
             },
             &mut || {
                 for fit in fits {
-                    black_box(library.list(black_box(image), &fit.image, &mut long));
+                    black_box(library.list(black_box(image), &fit.image, NO_LEAGUE, &mut long));
                 }
             },
             &mut || {
                 for fit in fits {
                     let image = black_box(&small.image);
-                    black_box(library.list(image, &fit.image, &mut long_too));
+                    black_box(library.list(image, &fit.image, NO_LEAGUE, &mut long_too));
                 }
             },
             &mut || {

@@ -5,7 +5,7 @@ use bench::subject::{
     self, Catalogue, Fit, agreed_hall, agreed_list, agreed_skills, agreed_widened,
 };
 use bench::world::{self, SMALL};
-use compare::checker::Checker;
+use compare::checker::{Checker, Terms};
 
 #[test]
 fn lists_agree_byte_by_byte() {
@@ -51,8 +51,8 @@ fn widened_catalogues_agree_byte_by_byte() {
 struct OneByteOff;
 
 impl Checker for OneByteOff {
-    fn list(&self, catalogue: &[u8], fit: &[u8], out: &mut [u8]) -> u64 {
-        let word = subject::library().list(catalogue, fit, out);
+    fn list(&self, catalogue: &[u8], fit: &[u8], terms: Terms, out: &mut [u8]) -> u64 {
+        let word = subject::library().list(catalogue, fit, terms, out);
         out[28] ^= 1;
         word
     }

@@ -1,6 +1,7 @@
 //! A case: one catalogue, one or more fits, and the calls made on them.
 
 use crate::model::{Catalogue, Damage, Fit, Item, Outcome};
+use crate::profile::League;
 
 #[derive(Clone, Debug, Default)]
 pub struct Case {
@@ -11,6 +12,8 @@ pub struct Case {
     pub fits: Vec<Fit>,
     /// What is done to the hall input's own bytes.
     pub frame: Damage,
+    /// What every list call brings beside its images; the others bring nothing.
+    pub league: League,
     /// What the first fit grows by, for the comparison of two fits.
     pub growth: Growth,
     pub asks: Vec<Ask>,
@@ -100,7 +103,7 @@ impl Growth {
 }
 
 /// The refusals that a call may give, in their order. 7 is given by none.
-pub const REFUSALS: [u8; 9] = [1, 2, 3, 4, 5, 6, 8, 9, 10];
+pub const REFUSALS: [u8; 11] = [1, 2, 3, 4, 5, 6, 11, 12, 8, 9, 10];
 
 /// Where a refusal stands in that order.
 pub fn rank(refusal: u8) -> usize {

@@ -5,7 +5,7 @@
 /// 4,294,967,296 plus the count (0 where refused).
 pub trait Checker: Sync {
     /// The list of a fit's violations, written from byte 0 of `out`.
-    fn list(&self, catalogue: &[u8], fit: &[u8], out: &mut [u8]) -> u64;
+    fn list(&self, catalogue: &[u8], fit: &[u8], terms: Terms, out: &mut [u8]) -> u64;
 
     /// The skills that one result lacks: 0 ship, 1 character, 2 first item.
     fn skill(&self, catalogue: &[u8], fit: &[u8], result: u32, out: &mut [u8]) -> u64;
@@ -16,6 +16,14 @@ pub trait Checker: Sync {
     /// An old catalogue in the new form, written from byte 0 of `out`; its
     /// bytes are counted.
     fn widen(&self, old: &[u8], out: &mut [u8]) -> u64;
+}
+
+/// What a list call brings beside its images and its buffer.
+#[derive(Clone, Copy, Debug, Default)]
+pub struct Terms<'a> {
+    /// A league's profile; no bytes are none.
+    pub profile: &'a [u8],
+    pub allowance: u32,
 }
 
 /// Bytes of one entry.

@@ -9,6 +9,7 @@ const SLOTS: u8 = 2;
 const SKILL: u8 = 11;
 const MAX_GROUP: u8 = 17;
 const MAX_TYPE: u8 = 18;
+const POINTS: u8 = 25;
 
 /// Where each old entry stands in the new list, or the first that has no place.
 pub fn places(old: &[Entry], new: &[Entry]) -> Result<Vec<usize>, String> {
@@ -45,7 +46,7 @@ fn stands_for(old: &Entry, new: &Entry) -> bool {
     let but = |from: usize, to: usize| old[..from] == new[..from] && old[to..] == new[to..];
     match old[1] {
         RESOURCE => but(8, 16) && number(new) >= number(old),
-        SLOTS => but(8, 12) && word(new, 8) >= word(old, 8),
+        SLOTS | POINTS => but(8, 12) && word(new, 8) >= word(old, 8),
         SKILL => but(16, 20) && word(new, 16) <= word(old, 16),
         MAX_GROUP | MAX_TYPE => but(12, 16) && word(new, 12) >= word(old, 12),
         _ => old == new,
@@ -93,6 +94,10 @@ mod tests {
         assert!(places(&[entry(2, [3, 2, 0, 0])], &[entry(2, [4, 2, 0, 0])]).is_ok());
         assert!(places(&[entry(2, [3, 2, 0, 0])], &[entry(2, [2, 2, 0, 0])]).is_err());
         assert!(places(&[entry(2, [3, 2, 0, 0])], &[entry(2, [4, 3, 0, 0])]).is_err());
+        assert!(places(&[entry(25, [9, 8, 0, 0])], &[entry(25, [10, 8, 0, 0])]).is_ok());
+        assert!(places(&[entry(25, [9, 8, 0, 0])], &[entry(25, [8, 8, 0, 0])]).is_err());
+        assert!(places(&[entry(25, [9, 8, 0, 0])], &[entry(25, [10, 9, 0, 0])]).is_err());
+        assert!(places(&[entry(24, [9, 0, 0, 0])], &[entry(24, [10, 0, 0, 0])]).is_err());
         assert!(places(&[entry(17, [9, 3, 2, 0])], &[entry(17, [9, 4, 2, 0])]).is_ok());
         assert!(places(&[entry(17, [9, 3, 2, 0])], &[entry(17, [8, 4, 2, 0])]).is_err());
         assert!(places(&[entry(18, [9, 3, 2, 0])], &[entry(18, [9, 2, 2, 0])]).is_err());

@@ -15,6 +15,7 @@ pub mod model;
 pub mod names;
 pub mod numbers;
 pub mod plain;
+pub mod profile;
 pub mod rattle;
 pub mod record;
 pub mod reference;

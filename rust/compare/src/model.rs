@@ -118,7 +118,7 @@ pub struct Damage {
 }
 
 impl Damage {
-    fn apply(&self, image: &mut Vec<u8>) {
+    pub(crate) fn apply(&self, image: &mut Vec<u8>) {
         for (position, size) in &self.sizes {
             let at = 4 * position;
             if let Some(bytes) = image.get_mut(at..at + 4) {

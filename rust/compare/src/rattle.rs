@@ -30,6 +30,7 @@ mod exported;
 #[cfg(fitcheck)]
 mod linked {
     use super::{Checker, exported};
+    use crate::checker::Terms;
 
     struct Rattle;
 
@@ -38,8 +39,8 @@ mod linked {
     }
 
     impl Checker for Rattle {
-        fn list(&self, catalogue: &[u8], fit: &[u8], out: &mut [u8]) -> u64 {
-            exported::list(catalogue, fit, out)
+        fn list(&self, catalogue: &[u8], fit: &[u8], terms: Terms, out: &mut [u8]) -> u64 {
+            exported::list(catalogue, fit, terms.profile, terms.allowance, out)
         }
 
         fn skill(&self, catalogue: &[u8], fit: &[u8], result: u32, out: &mut [u8]) -> u64 {

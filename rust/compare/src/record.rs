@@ -7,7 +7,7 @@ use std::fs;
 
 use crate::case::{Ask, Case, Room, rank};
 use crate::cases;
-use crate::checker::{Checker, ENTRY};
+use crate::checker::{Checker, ENTRY, Terms};
 use crate::fixed;
 use crate::model::{Fit, hall_image};
 use crate::reference::Original;
@@ -37,6 +37,9 @@ pub struct Record {
     pub catalogue: Vec<u8>,
     /// The fit, or the hall input; nothing for a widening.
     pub fit: Vec<u8>,
+    /// What a list call brings; nothing for the others.
+    pub profile: Vec<u8>,
+    pub allowance: u32,
     pub result: u32,
     pub room: u32,
     pub word: u64,
@@ -62,9 +65,17 @@ impl Record {
             Ask::Widen(_) => case.catalogue.old_image(),
             _ => case.catalogue.image(),
         };
+        let (profile, allowance) = match ask {
+            Ask::List(_) => (case.league.image(), case.league.allowance),
+            _ => (Vec::new(), 0),
+        };
+        let terms = Terms {
+            profile: &profile,
+            allowance,
+        };
         let call = |out: &mut [u8]| match ask {
             Ask::Hall => Original.hall(&catalogue, &fit),
-            Ask::List(_) => Original.list(&catalogue, &fit, out),
+            Ask::List(_) => Original.list(&catalogue, &fit, terms, out),
             Ask::Widen(_) => Original.widen(&catalogue, out),
             _ => Original.skill(&catalogue, &fit, result, out),
         };
@@ -89,6 +100,8 @@ impl Record {
         Some(Record {
             catalogue,
             fit,
+            profile,
+            allowance,
             result,
             room: length as u32,
             word,
@@ -101,6 +114,8 @@ impl Record {
         for number in [
             self.catalogue.len() as u32,
             self.fit.len() as u32,
+            self.profile.len() as u32,
+            self.allowance,
             self.result,
             self.room,
         ] {
@@ -110,6 +125,7 @@ impl Record {
         bytes.extend((self.written.len() as u32).to_le_bytes());
         bytes.extend(&self.catalogue);
         bytes.extend(&self.fit);
+        bytes.extend(&self.profile);
         bytes.extend(&self.written);
         bytes
     }
@@ -120,14 +136,24 @@ impl Record {
 pub fn sample() -> Vec<Record> {
     let [written, skills, made] = fixed::parts();
     let mut sample = Sample::default();
+    // What the file must hold comes before what it may hold.
+    for number in skills.clone() {
+        sample.meet(number, LONG_WALK, is_long_walk);
+    }
     for number in written.clone().chain(made.clone()) {
-        sample.meet(number, SMALL);
+        sample.meet(number, SMALL, is_rule_or_refusal);
+    }
+    for number in written.clone().chain(made.clone()) {
+        sample.meet(number, SMALL, is_of_hall_or_league);
+    }
+    for number in written.clone().chain(made.clone()) {
+        sample.meet(number, SMALL, |_| true);
     }
     for number in skills.clone() {
-        sample.meet(number, LONG_WALK);
+        sample.meet(number, LONG_WALK, |_| true);
     }
     for number in made.clone() {
-        sample.meet(number, 2 * SMALL);
+        sample.meet(number, 2 * SMALL, |_| true);
     }
     for number in skills.chain(written) {
         sample.add(number);
@@ -143,8 +169,8 @@ struct Sample {
 }
 
 impl Sample {
-    /// Takes every call of a case that meets a point for the first time.
-    fn meet(&mut self, number: usize, limit: usize) {
+    /// Takes every call of a case that meets such a point for the first time.
+    fn meet(&mut self, number: usize, limit: usize, asked: fn(&Point) -> bool) {
         let mut case = cases::case(0, number as u64);
         if is_far_apart(&case) {
             return;
@@ -160,7 +186,7 @@ impl Sample {
             assert!(agrees, "the original agrees with itself");
             let mut new = tally.required();
             new.retain(|(point, count)| *count > 0 && !self.met.contains(point));
-            if new.is_empty() {
+            if !new.iter().any(|(point, _)| asked(point)) {
                 continue;
             }
             if let Some(record) = Record::of(&one, *ask)
@@ -190,6 +216,21 @@ impl Sample {
         }
         fits
     }
+}
+
+fn is_long_walk(point: &Point) -> bool {
+    matches!(point, Point::Wanted(512 | 513))
+}
+
+fn is_rule_or_refusal(point: &Point) -> bool {
+    matches!(point, Point::Rule(_) | Point::Refusal(..))
+}
+
+fn is_of_hall_or_league(point: &Point) -> bool {
+    matches!(
+        point,
+        Point::HallFit(_) | Point::HallUnread(..) | Point::League(_)
+    )
 }
 
 /// Whether a call lends a buffer of the exact length, or none.
@@ -252,6 +293,8 @@ pub fn read(bytes: &[u8]) -> Result<Vec<Record>, String> {
     for _ in 0..count {
         let catalogue = number(take(4)?) as usize;
         let fit = number(take(4)?) as usize;
+        let profile = number(take(4)?) as usize;
+        let allowance = number(take(4)?) as u32;
         let result = number(take(4)?) as u32;
         let room = number(take(4)?) as u32;
         let word = number(take(8)?);
@@ -259,6 +302,8 @@ pub fn read(bytes: &[u8]) -> Result<Vec<Record>, String> {
         records.push(Record {
             catalogue: take(catalogue)?.to_vec(),
             fit: take(fit)?.to_vec(),
+            profile: take(profile)?.to_vec(),
+            allowance,
             result,
             room,
             word,

@@ -5,6 +5,7 @@ use std::time::{Duration, Instant};
 use crate::case::{Ask, Case, Room};
 use crate::checker::Checker;
 use crate::model::{Damage, Fit, Outcome};
+use crate::profile::{League, Profile};
 use crate::run::{Difference, run};
 use crate::tally::Tally;
 
@@ -78,6 +79,11 @@ impl Small<'_> {
         self.damage(|case| &mut case.frame);
         if self.case.asks == [Ask::Hall] {
             self.rows(|case| &mut case.fits);
+        }
+        self.change(|case| case.league = League::default());
+        if self.case.league.profile.is_some() {
+            self.rows(|case| &mut profile(case).prices);
+            self.damage(|case| &mut profile(case).damage);
         }
         self.rows(|case| &mut case.growth.items);
         self.rows(|case| &mut case.growth.results);
@@ -191,6 +197,11 @@ impl Small<'_> {
     }
 }
 
+/// The profile of a case that brings one.
+fn profile(case: &mut Case) -> &mut Profile {
+    case.league.profile.as_mut().expect("a profile is brought")
+}
+
 /// A result of a fit: 0 ship, 1 character, 2 first item.
 fn outcome(fit: &mut Fit, result: usize) -> &mut Outcome {
     match result {
@@ -204,6 +215,7 @@ fn same(a: &Case, b: &Case) -> bool {
     a.catalogue == b.catalogue
         && a.fits == b.fits
         && a.frame == b.frame
+        && a.league == b.league
         && a.growth == b.growth
         && a.asks == b.asks
         && a.planted == b.planted

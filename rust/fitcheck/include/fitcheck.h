@@ -1,7 +1,7 @@
 /* The proved fit checker's calls for C: libfitcheck.a, x86-64 Linux.
  *
  * A slice is a pointer and then a length in bytes. A length may be 0; the
- * pointer is not null even then. `out` overlaps neither image. The library
+ * pointer is not null even then. `out` overlaps no image. The library
  * allocates nothing, keeps no pointer, and any number of threads may call it.
  *
  * The word that a call returns: the upper 32 bits are the refusal's number, 0
@@ -21,7 +21,7 @@ extern "C" {
  * skills of one result at most FITCHECK_MOST_SKILLS, and a hall call takes at
  * most FITCHECK_FITS_PER_CALL fits. */
 #define FITCHECK_ENTRY_BYTES 24
-#define FITCHECK_MOST_ENTRIES 5141
+#define FITCHECK_MOST_ENTRIES 5398
 #define FITCHECK_MOST_SKILLS 512
 #define FITCHECK_FITS_PER_CALL 64
 
@@ -34,9 +34,12 @@ extern "C" {
 #define FITCHECK_REFUSED(word) (FITCHECK_COUNT(word) >> 16)
 
 /* Every rule that the fit breaks: the entries stand from the beginning of
- * `out`. A refused call writes nothing. */
+ * `out`. A refused call writes nothing. A league's profile of no bytes is none,
+ * and then the allowance is not read. */
 uint64_t fit_list(const uint8_t *catalogue, size_t catalogue_length,
                   const uint8_t *fit, size_t fit_length,
+                  const uint8_t *profile, size_t profile_length,
+                  uint32_t allowance,
                   uint8_t *out, size_t out_length);
 
 /* The skills that one result wants and the character lacks: result 0 is the
@@ -62,7 +65,7 @@ uint64_t fit_widen(const uint8_t *old, size_t old_length,
 
 /* The number of this set of calls and images, which its name has too: a
  * library of another set does not link with a program that asks for this. */
-uint64_t fit_interface_2(void);
+uint64_t fit_interface_3(void);
 
 #ifdef __cplusplus
 }

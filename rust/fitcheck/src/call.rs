@@ -14,8 +14,9 @@ const FIRST_ROOM: usize = 64;
 /// Where growing stops: far beyond [`MOST_ENTRIES`], which is never passed.
 const LAST_ROOM: usize = 1 << 20;
 
-/// Every rule that the fit breaks, in the order of the original's `validate`.
-/// With an empty list the fit is clear to fly where it has as many results as
+/// Every rule that the fit breaks, in the order of the original's `validate`;
+/// behind them what a league has to say, where the options bring one. With an
+/// empty list the fit is clear to fly where it has as many results as
 /// items: rules look at pairs, and [`FitImage::unpaired`] says what is left.
 ///
 /// The catalogue is the type data, the fit the ship with its items and
@@ -27,8 +28,8 @@ const LAST_ROOM: usize = 1 << 20;
 ///
 /// # Errors
 ///
-/// The refusal that document 01's order picks, of 1 to 6. The buffer grows by
-/// itself, so it is never [`Refusal::BufferLength`].
+/// The refusal that the documents' order picks, of 1 to 6, 11 and 12. The
+/// buffer grows by itself, so it is never [`Refusal::BufferLength`].
 ///
 /// ```
 /// use fitcheck::{Entry, ListOptions, Refusal, Rule, Target};
@@ -156,9 +157,10 @@ pub fn skills_into<'a>(
     written(word, buffer)
 }
 
-/// The list call with what the options say: today they have no choice.
-fn list_word(catalogue: &[u8], fit: &[u8], _: &ListOptions<'_>, room: &mut [u8]) -> u64 {
-    exported::list(catalogue, fit, room)
+/// The list call with what the options say.
+fn list_word(catalogue: &[u8], fit: &[u8], options: &ListOptions<'_>, room: &mut [u8]) -> u64 {
+    let ListOptions { profile, allowance } = *options;
+    exported::list(catalogue, fit, profile, allowance, room)
 }
 
 /// The skill call with what the options say: today they have no choice.

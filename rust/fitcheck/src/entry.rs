@@ -137,6 +137,11 @@ fn known(rule: u8, sub: u8, words: [u32; 4]) -> Option<Rule> {
         19 => Rule::NotAHull,
         20 => Rule::NotAMode,
         21 => Rule::NotASkill { type_id: id(0) },
+        24 => Rule::Banned { group_id: id(0) },
+        25 => Rule::Points {
+            used: words[0],
+            allowed: words[1],
+        },
         _ => return None,
     })
 }
@@ -187,6 +192,8 @@ fn fields(rule: &Rule) -> (u8, u8, [u32; 4]) {
             allowed,
         } => (0, 0, [type_id.cast_unsigned(), used, allowed, 0]),
         Rule::NotASkill { type_id } => (0, 0, [type_id.cast_unsigned(), 0, 0, 0]),
+        Rule::Banned { group_id } => (0, 0, [group_id.cast_unsigned(), 0, 0, 0]),
+        Rule::Points { used, allowed } => (0, 0, [used, allowed, 0, 0]),
         Rule::Unknown {
             sub, zero, words, ..
         } => (sub, zero, words),

@@ -310,10 +310,7 @@ impl<'a> Explainer<'a> {
                 used,
                 allowed,
             } => {
-                let group = match self.names.group_name(group_id) {
-                    Some(name) => format!("{name} (group {group_id})"),
-                    None => format!("group {group_id}"),
-                };
+                let group = self.group_words(group_id);
                 let are = limit_words(limit);
                 format!("{used} of {group} are {are}, and {subject} allows {allowed}")
             }
@@ -345,6 +342,11 @@ impl<'a> Explainer<'a> {
                 let name = self.type_words(type_id);
                 format!("{name} is listed as a skill and is not one")
             }
+            Rule::Banned { group_id } => {
+                format!("{} is banned: {subject}", self.group_words(group_id))
+            }
+            Rule::Points { used: 1, allowed } => format!("1 point of {allowed} allowed"),
+            Rule::Points { used, allowed } => format!("{used} points of {allowed} allowed"),
             Rule::Unknown {
                 rule,
                 sub,
@@ -448,6 +450,14 @@ impl<'a> Explainer<'a> {
         match self.names.type_name(type_id) {
             Some(name) => name.to_string(),
             None => format!("type {type_id}"),
+        }
+    }
+
+    /// A group by its name and id, or by its id alone.
+    fn group_words(&self, group_id: i32) -> String {
+        match self.names.group_name(group_id) {
+            Some(name) => format!("{name} (group {group_id})"),
+            None => format!("group {group_id}"),
         }
     }
 

@@ -10,7 +10,7 @@ unsafe extern "C" {
     // of other parameters apart, so whoever makes a call needs this symbol too.
     // It is raised here, in include/fitcheck.h for C, and in the Rattle source,
     // crates/fitcheck/src/lib.rt, at the same time.
-    #[link_name = "fit_interface_2"]
+    #[link_name = "fit_interface_3"]
     fn fit_interface() -> u64;
 
     fn fit_list(
@@ -18,6 +18,9 @@ unsafe extern "C" {
         catalogue_length: usize,
         fit: *const u8,
         fit_length: usize,
+        profile: *const u8,
+        profile_length: usize,
+        allowance: u32,
         out: *mut u8,
         out_length: usize,
     ) -> u64;
@@ -56,11 +59,11 @@ fn linked() {
 }
 
 /// The list call; returns its word.
-pub fn list(catalogue: &[u8], fit: &[u8], out: &mut [u8]) -> u64 {
+pub fn list(catalogue: &[u8], fit: &[u8], profile: &[u8], allowance: u32, out: &mut [u8]) -> u64 {
     linked();
     // SAFETY: each pointer comes from a slice and passes with that slice's
     // length, so all bytes that the library may read are initialised and live
-    // for the call. `out` is borrowed mutably, so it overlaps neither image
+    // for the call. `out` is borrowed mutably, so it overlaps no image
     // and nobody else sees it. The library reads and writes within these
     // lengths whatever the bytes are (that is proved), keeps no pointer and
     // has no state, so any thread may call it at any time. The pointer of an
@@ -71,6 +74,9 @@ pub fn list(catalogue: &[u8], fit: &[u8], out: &mut [u8]) -> u64 {
             catalogue.len(),
             fit.as_ptr(),
             fit.len(),
+            profile.as_ptr(),
+            profile.len(),
+            allowance,
             out.as_mut_ptr(),
             out.len(),
         )

@@ -14,6 +14,7 @@
 //!   understands;
 //! - [`CatalogueBuilder`] and [`FitBuilder`], whose images are always well
 //!   formed: none is refused by 1 to 6;
+//! - [`Profile`], what a tournament bans and prices, for a list call;
 //! - [`widen`], which makes a catalogue of today's form of an old one.
 //!
 //! ```
@@ -87,6 +88,8 @@ mod numbered;
 #[forbid(unsafe_code)]
 mod options;
 #[forbid(unsafe_code)]
+mod profile;
+#[forbid(unsafe_code)]
 mod refusal;
 #[forbid(unsafe_code)]
 mod report;
@@ -113,6 +116,7 @@ pub use mark::Mark;
 pub use missing::{Missing, Unchecked};
 pub use names::{Names, NamesError};
 pub use options::{ListOptions, SkillOptions};
+pub use profile::{MOST_GROUPS, MOST_POINTS, Price, Profile, ProfileError};
 pub use refusal::Refusal;
 pub use report::Report;
 pub use rule::{GroupLimit, Resource, Rule, SlotKind, Target};
@@ -124,8 +128,12 @@ pub use unpaired::Unpaired;
 pub const ENTRY_BYTES: usize = 24;
 
 /// No list has more entries: a mode, 1,024 skills, 12 resources, 8 racks and
-/// hardpoints, and for each of 256 pairs 8 slot checks and 8 item rules.
-pub const MOST_ENTRIES: usize = 1 + 1_024 + 12 + 8 + 256 * (8 + 8);
+/// hardpoints, for each of 256 pairs 8 slot checks, 8 item rules and a ban, and
+/// the points.
+pub const MOST_ENTRIES: usize = 1 + 1_024 + 12 + 8 + 256 * (8 + 8 + 1) + 1;
+
+/// No longer league profile is accepted.
+pub const PROFILE_BYTES: usize = 4 + 8 * MOST_GROUPS;
 
 /// No result's skills have more entries.
 pub const MOST_SKILLS: usize = 512;

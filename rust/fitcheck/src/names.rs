@@ -134,6 +134,12 @@ impl Names {
         self.types.get(&type_id).map(String::as_str)
     }
 
+    /// The groups that are called so.
+    pub(crate) fn groups_called(&self, name: &str) -> Vec<i32> {
+        let called = self.groups.iter().filter(|(_, known)| *known == name);
+        called.map(|(group_id, _)| *group_id).collect()
+    }
+
     /// The name of a group, if it has one here.
     pub fn group_name(&self, group_id: i32) -> Option<&str> {
         self.groups.get(&group_id).map(String::as_str)

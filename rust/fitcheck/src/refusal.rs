@@ -39,6 +39,12 @@ pub enum Refusal {
     /// 10: the entries, or what else is to be written, do not fit into the
     /// buffer.
     BufferLength,
+    /// 11: the league profile has over 4,096 groups or its length is unlike its
+    /// size.
+    ProfileLength,
+    /// 12: the league profile's groups do not ascend, or its points are over
+    /// 1,000,000 and no ban.
+    ProfilePrices,
     /// The library returned a word that document 01 does not have. It never
     /// does; this stands here so that nothing can panic or be misread.
     Unexpected {
@@ -59,9 +65,11 @@ impl Refusal {
         Refusal::NoSuchResult,
         Refusal::WantedSkills,
         Refusal::BufferLength,
+        Refusal::ProfileLength,
+        Refusal::ProfilePrices,
     ];
 
-    /// Document 01's number, from 1 to 10 and never 7. Of an unexpected word
+    /// The documents' number, from 1 to 12 and never 7. Of an unexpected word
     /// it is the upper half.
     pub fn number(self) -> u32 {
         match self {
@@ -74,6 +82,8 @@ impl Refusal {
             Refusal::NoSuchResult => 8,
             Refusal::WantedSkills => 9,
             Refusal::BufferLength => 10,
+            Refusal::ProfileLength => 11,
+            Refusal::ProfilePrices => 12,
             Refusal::Unexpected { word } => (word >> 32) as u32,
         }
     }
@@ -98,6 +108,11 @@ impl Refusal {
             self,
             Refusal::CatalogueLength | Refusal::CatalogueOrder | Refusal::CatalogueField
         )
+    }
+
+    /// Whether the league profile is to blame.
+    pub fn is_of_profile(self) -> bool {
+        matches!(self, Refusal::ProfileLength | Refusal::ProfilePrices)
     }
 
     /// The refusal in a call's word, and the count that stands where there is
@@ -136,6 +151,14 @@ impl fmt::Display for Refusal {
             Refusal::NoSuchResult => "the fit has no result of that number",
             Refusal::WantedSkills => "the result wants more than 512 skills",
             Refusal::BufferLength => "the buffer is shorter than what is to be written",
+            Refusal::ProfileLength => {
+                "the league profile has over 4,096 groups, or its length is not what its size \
+                 makes it"
+            }
+            Refusal::ProfilePrices => {
+                "the league profile's groups do not ascend, or it has points over 1,000,000 that \
+                 are no ban"
+            }
             Refusal::Unexpected { word } => {
                 return write!(
                     formatter,
@@ -157,9 +180,9 @@ mod tests {
     #[test]
     fn a_word_is_a_refusal_or_a_count() {
         assert_eq!(Refusal::or_count(0), Ok(0));
-        assert_eq!(Refusal::or_count(5_141), Ok(5_141));
+        assert_eq!(Refusal::or_count(5_398), Ok(5_398));
         assert_eq!(Refusal::or_count(4_294_967_295), Ok(u32::MAX));
-        for number in [1, 2, 3, 4, 5, 6, 8, 9, 10] {
+        for number in [1, 2, 3, 4, 5, 6, 8, 9, 10, 11, 12] {
             let word = number * 4_294_967_296;
             let refusal = Refusal::or_count(word).unwrap_err();
             assert_eq!(u64::from(refusal.number()), number);
@@ -171,7 +194,7 @@ mod tests {
                 "a refusal with a count"
             );
         }
-        for word in [7 * 4_294_967_296, 11 * 4_294_967_296, u64::MAX, 1 << 63] {
+        for word in [7 * 4_294_967_296, 13 * 4_294_967_296, u64::MAX, 1 << 63] {
             assert_eq!(Refusal::or_count(word), Err(Refusal::Unexpected { word }));
         }
     }
@@ -181,7 +204,7 @@ mod tests {
         let mut sentences: Vec<String> = Refusal::ALL.iter().map(Refusal::to_string).collect();
         sentences.sort();
         sentences.dedup();
-        assert_eq!(sentences.len(), 9);
+        assert_eq!(sentences.len(), 11);
         let word = 77 << 32;
         let sentence = Refusal::Unexpected { word }.to_string();
         assert!(sentence.contains("0x0000004D00000000"), "{sentence}");
@@ -191,6 +214,7 @@ mod tests {
     fn refusals_1_to_3_are_the_catalogues() {
         for refusal in Refusal::ALL {
             assert_eq!(refusal.is_of_catalogue(), refusal.number() <= 3);
+            assert_eq!(refusal.is_of_profile(), refusal.number() >= 11);
         }
     }
 }

@@ -1,7 +1,7 @@
 //! What is to be said of one fit, whole.
 
-use crate::json::{self, Json};
 use crate::call::counted_entries;
+use crate::json::{self, Json};
 use crate::{
     CatalogueImage, Entry, Explainer, FitImage, ListOptions, Missing, Refusal, SkillOptions,
     Unpaired,

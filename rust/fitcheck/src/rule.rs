@@ -122,6 +122,18 @@ pub enum Rule {
         /// The type id given as skill.
         type_id: i32,
     },
+    /// Of a group that the league bans.
+    Banned {
+        /// The group that is banned.
+        group_id: i32,
+    },
+    /// The fitted items cost more points than the league allows.
+    Points {
+        /// What they cost together.
+        used: u32,
+        /// How many points are allowed.
+        allowed: u32,
+    },
     /// A rule that this crate does not know, or one whose fields are not as
     /// document 01 says. The library gives no such entry.
     Unknown {
@@ -137,7 +149,8 @@ pub enum Rule {
 }
 
 impl Rule {
-    /// Document 01's number: 1 for `Resource` to 21 for `NotASkill`.
+    /// The documents' number: 1 for `Resource` to 21 for `NotASkill`, then 24 for
+    /// `Banned` and 25 for `Points`.
     pub fn number(&self) -> u8 {
         match self {
             Rule::Resource { .. } => 1,
@@ -161,6 +174,8 @@ impl Rule {
             Rule::NotAHull => 19,
             Rule::NotAMode => 20,
             Rule::NotASkill { .. } => 21,
+            Rule::Banned { .. } => 24,
+            Rule::Points { .. } => 25,
             Rule::Unknown { rule, .. } => *rule,
         }
     }
@@ -189,6 +204,8 @@ impl Rule {
             Rule::NotAHull => "not_a_hull",
             Rule::NotAMode => "not_a_mode",
             Rule::NotASkill { .. } => "not_a_skill",
+            Rule::Banned { .. } => "banned",
+            Rule::Points { .. } => "points",
             Rule::Unknown { .. } => "unknown",
         }
     }

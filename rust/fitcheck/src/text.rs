@@ -32,8 +32,8 @@ use std::fmt;
 use std::str::FromStr;
 
 use crate::{
-    Attribute, CatalogueBuilder, FitBuilder, FitItem, ItemResult, Mark, Names, Slot, SlotType,
-    State,
+    Attribute, CatalogueBuilder, FitBuilder, FitItem, ItemResult, Mark, Names, Profile, Slot,
+    SlotType, State,
 };
 
 /// What is wrong with a line.
@@ -304,6 +304,57 @@ impl Fit {
             builder.item(item, result);
         }
         Some(builder)
+    }
+}
+
+/// Reads a league's profile in words: a line `ban GROUP` for a group that is
+/// banned, `price POINTS GROUP` for one that costs points. A group is its id, or
+/// the name that it has among the names.
+///
+/// ```
+/// use fitcheck::{Names, Price, text};
+///
+/// let names = Names::parse("group 464 Strip Miner\n")?;
+/// let profile = text::profile("ban Strip Miner\nprice 47 60 # Damage Control\n", &names)?;
+/// assert_eq!(profile.of(464), Some(Price::Banned));
+/// assert_eq!(profile.of(60), Some(Price::Points(47)));
+/// assert_eq!(text::profile(&profile.to_string(), &names).as_ref(), Ok(&profile));
+/// # Ok::<(), Box<dyn std::error::Error>>(())
+/// ```
+///
+/// # Errors
+///
+/// The first line that is none of the two, that names no group or more than one,
+/// or that the profile does not take: see
+/// [`ProfileError`](crate::ProfileError).
+pub fn profile(text: &str, names: &Names) -> Result<Profile, TextError> {
+    let mut profile = Profile::new();
+    for line in lines(text) {
+        let (word, rest) = line.text.split_once(' ').unwrap_or((line.text, ""));
+        let listed = match word {
+            "ban" => profile.ban(group_id(&line, rest, names)?),
+            "price" => {
+                let rest = rest.trim_start().split_once(' ');
+                let (points, group) = rest.ok_or_else(|| line.wrong("not `price POINTS GROUP`"))?;
+                profile.price(group_id(&line, group, names)?, line.number(points)?)
+            }
+            _ => return Err(line.wrong("neither `ban GROUP` nor `price POINTS GROUP`")),
+        };
+        listed.map_err(|error| line.wrong(&error.to_string()))?;
+    }
+    Ok(profile)
+}
+
+/// A group by its id or by its name.
+fn group_id(line: &Line<'_>, group: &str, names: &Names) -> Result<i32, TextError> {
+    let group = group.trim();
+    if let Ok(id) = group.parse() {
+        return Ok(id);
+    }
+    match names.groups_called(group)[..] {
+        [id] => Ok(id),
+        [] => Err(line.wrong(&format!("no group is called `{group}`"))),
+        _ => Err(line.wrong(&format!("more than one group is called `{group}`"))),
     }
 }
 

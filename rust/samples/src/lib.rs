@@ -5,7 +5,7 @@
 use std::fs;
 use std::path::{Path, PathBuf};
 
-use compare::checker::{Checker, ENTRY};
+use compare::checker::{Checker, ENTRY, Terms};
 use fitcheck::text::Types;
 
 /// The samples, each a folder.
@@ -83,7 +83,7 @@ pub fn old_form(new: &[u8]) -> Result<Vec<u8>, String> {
 /// What document 01's program prints of a checker's list call.
 pub fn printed(checker: &dyn Checker, images: &Images) -> String {
     let mut out = vec![0; LENT];
-    let word = checker.list(&images.types, &images.fit, &mut out);
+    let word = checker.list(&images.types, &images.fit, Terms::default(), &mut out);
     if word >> 32 != 0 {
         return format!("refused {}\n", word >> 32);
     }

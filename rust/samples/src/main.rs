@@ -10,7 +10,7 @@ use std::path::Path;
 use std::process::ExitCode;
 use std::{env, fs};
 
-use compare::checker::Checker;
+use compare::checker::{Checker, Terms};
 use compare::reference::Original;
 use compare::words;
 use samples::{Images, LENT, OLD, SAMPLES, folder, images, old_form, printed, types};
@@ -66,7 +66,7 @@ fn written(sample: &str) -> Result<(), String> {
     println!("{sample}:");
     print!("{}", printed(&Original, &made));
     let mut out = vec![0; LENT];
-    let word = Original.list(&made.types, &made.fit, &mut out);
+    let word = Original.list(&made.types, &made.fit, Terms::default(), &mut out);
     if word >> 32 == 0 {
         for entry in words::entries(&out[..24 * word as usize]) {
             println!("  {entry}");

@@ -100,6 +100,16 @@ returns-21 c =
     rw (toZ-ofZ w32 (c .before .before .rule9 .given .0 .0) (record { sfits = c .before .known-told9 .given .0 .1 })) at (c .of-id4 .ensures)
     ∙ sym (ap fields (c .before .before .rule9 .given .1))
 
+returns-22 : tie.Need-returns-22
+unfolding fields
+returns-22 c =
+    rw (toZ-ofZ w32 (c .before .before .rule10 .given .0 .0) (record { sfits = c .before .known-told10 .given .0 .1 })) at (c .of-id5 .ensures)
+    ∙ sym (ap fields (c .before .before .rule10 .given .1))
+
+returns-23 : tie.Need-returns-23
+unfolding fields
+returns-23 c = c .words5 .ensures ∙ sym (ap fields (c .before .before .rule11 .given .1))
+
 pub pack-spec : {M : Type 1} → statement M
 pack-spec =
     tie.close
@@ -151,6 +161,10 @@ pack-spec =
     (λ c κs. search needs)
     (λ c. search needs)
     (λ c κs. search needs)
+    (λ c. search needs)
+    (λ c κs. search needs)
+    (λ c. search needs)
+    (λ c κs. search needs)
     returns
     returns-2
     returns-3
@@ -171,4 +185,6 @@ pack-spec =
     returns-18
     returns-19
     returns-20
-    returns-21)
+    returns-21
+    returns-22
+    returns-23)

@@ -2,7 +2,8 @@
 use native.Mathlib.Omega.{arith}
 use Rattle.catalogue.specs.Catalogue.{catalogueOf}
 use Rattle.fit.specs.Fit.{fitOf}
-use Rattle.validate.specs.Validate.{listOf}
+use Rattle.lists.specs.Terms.{terms}
+use Rattle.lists.specs.Lists.{wholeList}
 use Rattle.entry.proofs.Wrote.{wrote-count}
 use Rattle.fitcheck.proofs.Giving.{gave-short, gave-list, gave-none}
 use borrow.Author.Needs.{needs}
@@ -12,24 +13,24 @@ use Rattle.fitcheck.proofs.counted_list.Tie as tie
 returns : tie.Need-returns
 returns c =
     let v = c .before .before .before .before in
-    let a = v .before .before .before .before .before .before .before .args in
-    gave-none (listOf (catalogueOf (a .catalogue .now)) (fitOf (a .fit .now))) (omega (arith, wrote-count (v .validate .ensures .0), c .if1 .taken))
+    let a = v .before .before .before .before .before .before .before .before .args in
+    gave-none (wholeList (terms (a .profile .now) (a .allowance)) (catalogueOf (a .catalogue .now)) (fitOf (a .fit .now))) (omega (arith, wrote-count (v .write .ensures .0), c .if1 .taken))
 
 returns-2 : tie.Need-returns-2
 returns-2 c =
     let i = c .before in
     let v = i .before .before .before .before .before in
-    let a = v .before .before .before .before .before .before .before .args in
-    gave-short (listOf (catalogueOf (a .catalogue .now)) (fitOf (a .fit .now)))
-    (omega (arith, wrote-count (v .validate .ensures .0), i .if2 .taken)) (c .refused .ensures)
+    let a = v .before .before .before .before .before .before .before .before .args in
+    gave-short (wholeList (terms (a .profile .now) (a .allowance)) (catalogueOf (a .catalogue .now)) (fitOf (a .fit .now)))
+    (omega (arith, wrote-count (v .write .ensures .0), i .if2 .taken)) (c .refused .ensures)
 
 returns-3 : tie.Need-returns-3
 returns-3 c =
-    let w = c .before .before .before .before .validate2 .ensures .0 in
+    let w = c .before .before .before .before .write2 .ensures .0 in
     let i = c .before .before .before .before .before .before .before in
     let v = i .before .before .before .before .before in
-    let a = v .before .before .before .before .before .before .before .args in
-    gave-list (listOf (catalogueOf (a .catalogue .now)) (fitOf (a .fit .now))) (omega (arith, wrote-count (v .validate .ensures .0), i .if2 .left)) w
+    let a = v .before .before .before .before .before .before .before .before .args in
+    gave-list (wholeList (terms (a .profile .now) (a .allowance)) (catalogueOf (a .catalogue .now)) (fitOf (a .fit .now))) (omega (arith, wrote-count (v .write .ensures .0), i .if2 .left)) w
 
 pub counted-list-spec : {M : Type 1} → statement M
 counted-list-spec =

@@ -90,6 +90,11 @@ const SHORT: &[(Rows, &[usize], &str)] = &[
         &[64, 1_024, 65_536, 599_999, 1_398_095],
         "base values are widened",
     ),
+    (
+        Rows::Prices,
+        &[64, 256, 2_048, 4_095],
+        "groups of a profile are found",
+    ),
 ];
 
 /// Where numbers may be too narrow, in bits.
@@ -140,6 +145,15 @@ const NARROW: &[(Number, &[u32], &str)] = &[
     (Number::AttributeId, &[16, 24], "an attribute's id"),
     (Number::TrainedId, &[16, 24], "a trained skill's id"),
     (Number::WantedId, &[16, 24], "a wanted skill's id"),
+    (Number::GroupId, &[16, 24], "a pair's group"),
+    (
+        Number::PriceRow,
+        &[8, 11],
+        "a group's number in its profile",
+    ),
+    (Number::Points, &[8, 16], "the points of a group"),
+    (Number::PointsUsed, &[8, 16, 24, 27], "used of Points"),
+    (Number::Allowance, &[8, 16, 24, 31], "the allowance"),
 ];
 
 /// What may be refused too early.
@@ -174,6 +188,11 @@ const REFUSED: &[(Measure, &[usize], &str)] = &[
         Measure::OldBytes,
         &[65_536, 1_048_576, 8_388_608, 16_777_215],
         "bytes of an old catalogue",
+    ),
+    (
+        Measure::ProfileBytes,
+        &[4_096, 16_384, 32_771],
+        "bytes of a profile",
     ),
 ];
 

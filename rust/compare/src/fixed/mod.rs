@@ -5,6 +5,7 @@
 mod chains;
 mod document;
 mod items;
+mod league;
 mod resources;
 mod slots;
 mod tables;
@@ -19,12 +20,13 @@ use crate::rng::Rng;
 /// Makes one case.
 pub type Make = fn() -> Case;
 
-const TABLES: [&[Make]; 6] = [
+const TABLES: [&[Make]; 7] = [
     document::CASES,
     resources::CASES,
     slots::CASES,
     items::CASES,
     widen::CASES,
+    league::CASES,
     chains::CASES,
 ];
 

@@ -292,7 +292,11 @@ pub fn unequal(number: usize) -> Case {
         title: "fits with as many items as results, and with more of one".to_string(),
         catalogue: ground.finish().catalogue,
         fits,
-        asks: vec![Ask::Hall, Ask::List(Room::Exact), Ask::List(Room::Longer(24))],
+        asks: vec![
+            Ask::Hall,
+            Ask::List(Room::Exact),
+            Ask::List(Room::Longer(24)),
+        ],
         ..Case::default()
     }
 }

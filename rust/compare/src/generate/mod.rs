@@ -3,6 +3,7 @@
 pub mod fit;
 pub mod growth;
 pub mod hall;
+pub mod league;
 pub mod limits;
 pub mod plant;
 mod raw;
@@ -14,9 +15,15 @@ use crate::model::Fit;
 use crate::rng::Rng;
 use world::{Style, World};
 
-/// The generated case of a number.
+/// The generated case of a number. What its list calls bring is drawn by
+/// itself, so that the images are the same with and without.
 pub fn case(seed: u64, number: u64) -> Case {
-    let rng = &mut Rng::for_case(seed, number);
+    let mut case = images(&mut Rng::for_case(seed, number));
+    league::bring(&mut Rng::for_case(!seed, number), &mut case);
+    case
+}
+
+fn images(rng: &mut Rng) -> Case {
     match rng.below(1000) {
         0..=299 => {
             let style = Style::realistic(rng);

@@ -9,6 +9,7 @@ mod catalogue;
 pub mod drawn;
 mod fits;
 mod halls;
+mod league;
 mod limits;
 mod places;
 mod skills;
@@ -23,7 +24,7 @@ use crate::tally::size::LIST_BUFFERS;
 /// longest come last: a fault that another case shows need not wait for them.
 type Row = (usize, fn(usize) -> Case);
 
-const ROWS: [Row; 9] = [
+const ROWS: [Row; 10] = [
     (limits::COUNT, limits::case),
     (places::COUNT, places::case),
     (2, |number| match number {
@@ -38,6 +39,7 @@ const ROWS: [Row; 9] = [
     (1, |_| {
         full("the longest list", fits::longest(), every_buffer())
     }),
+    (league::COUNT, league::case),
     (blocks::COUNT, blocks::case),
     (halls::COUNT, halls::case),
     (widen::COUNT, widen::case),

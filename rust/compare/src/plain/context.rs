@@ -27,6 +27,8 @@ pub struct Pair {
     pub item: Item,
     pub is_fitted: bool,
     pub state: u8,
+    /// Whether the catalogue has its type.
+    pub is_known: bool,
     pub group: i32,
     pub category: i32,
     pub rack: Option<u8>,
@@ -57,6 +59,7 @@ impl<'a> Context<'a> {
                     item,
                     is_fitted: is_fitted(item.kind, flaw),
                     state: fit.state(number + 2),
+                    is_known: row.is_some(),
                     group: row.map_or(missing(Fault::MissingGroup1, 1), |row| row.group),
                     category: row.map_or(missing(Fault::MissingCategory7, 7), |row| row.category),
                     rack,

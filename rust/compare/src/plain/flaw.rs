@@ -47,6 +47,8 @@ pub enum Rows {
     HallFits,
     /// The bases that are widened.
     Widened,
+    /// The groups of a profile.
+    Prices,
 }
 
 /// Numbers that may be too narrow.
@@ -88,6 +90,15 @@ pub enum Number {
     AttributeId,
     TrainedId,
     WantedId,
+    /// The group of a pair, as a profile is asked for it.
+    GroupId,
+    /// A group's number in its profile.
+    PriceRow,
+    /// The points of one group.
+    Points,
+    /// The points of all pairs together.
+    PointsUsed,
+    Allowance,
 }
 
 /// Sizes that may be refused too early.
@@ -101,6 +112,7 @@ pub enum Measure {
     SkillEntries,
     /// Of a catalogue that is widened.
     OldBytes,
+    ProfileBytes,
 }
 
 impl Flaw {

@@ -5,6 +5,7 @@ use super::catalogue::Catalogue;
 use super::context::Context;
 use super::fault::Fault;
 use super::fit::Fit;
+use super::league::League;
 use super::{Flaw, Measure, Number, Rows, list, resource};
 use crate::checker::refused;
 
@@ -92,7 +93,8 @@ fn judge(catalogue: &Catalogue, image: &[u8], flaw: Flaw) -> Verdict {
         if flaw.has(Fault::HallHangarRefused) && resource::is_hangar(&context) {
             return Err(7);
         }
-        Ok((list(catalogue, &fit, flaw)?, is_whole(&fit, flaw)))
+        let league = League::none(flaw);
+        Ok((list(catalogue, &fit, &league, flaw)?, is_whole(&fit, flaw)))
     });
     let (entries, is_whole) = match listed {
         Err(_) if flaw.has(Fault::HallRefusedFaulted) => return Verdict::Faulted,

@@ -59,8 +59,7 @@ fn rig_size(context: &Context, entries: &mut Entries) {
             None if flaw.has(Fault::RigSizeItemZero) => 0.0,
             None => continue,
         };
-        let is_asked =
-            pair.item.kind == RIG || (pair.is_fitted && flaw.has(Fault::RigSizeAnyRack));
+        let is_asked = pair.item.kind == RIG || (pair.is_fitted && flaw.has(Fault::RigSizeAnyRack));
         let differs = match flaw.has(Fault::RigSizeTruncated) {
             true => to_u8(size) != to_u8(ship),
             false => size != ship,

@@ -11,6 +11,7 @@ mod fit;
 mod flaw;
 mod hall;
 mod item;
+mod league;
 mod resource;
 mod skill;
 mod slot;
@@ -20,8 +21,9 @@ use catalogue::Catalogue;
 use context::Context;
 use entry::{Entries, Target};
 use fit::Fit;
+use league::League;
 
-use crate::checker::{Checker, ENTRY, Entry, refused};
+use crate::checker::{Checker, ENTRY, Entry, Terms, refused};
 
 pub use fault::{FAULTS, Fault};
 pub use flaw::{Flaw, Measure, Number, Rows};
@@ -39,9 +41,9 @@ impl Plain {
 }
 
 impl Checker for Plain {
-    fn list(&self, catalogue: &[u8], fit: &[u8], out: &mut [u8]) -> u64 {
-        let listed = opened(catalogue, fit, self.flaw)
-            .and_then(|(catalogue, fit)| list(&catalogue, &fit, self.flaw));
+    fn list(&self, catalogue: &[u8], fit: &[u8], terms: Terms, out: &mut [u8]) -> u64 {
+        let listed = opened_list(catalogue, fit, terms, out.len(), self.flaw)
+            .and_then(|(catalogue, fit, league)| list(&catalogue, &fit, &league, self.flaw));
         answer(listed, out, self.flaw)
     }
 
@@ -86,8 +88,40 @@ fn opened<'a>(
     Ok((Catalogue::open(catalogue, flaw)?, Fit::open(fit, flaw)?))
 }
 
+/// What the list call brings, or the first refusal of 1 to 6, 11 and 12.
+fn opened_list<'a>(
+    catalogue: &'a [u8],
+    fit: &'a [u8],
+    terms: Terms<'a>,
+    room: usize,
+    flaw: Flaw,
+) -> Result<(Catalogue<'a>, Fit<'a>, League<'a>), u8> {
+    if flaw.has(Fault::ProfileFirst) {
+        League::judged(terms, flaw)?;
+    }
+    if flaw.has(Fault::ProfileBeforeFit) {
+        Catalogue::open(catalogue, flaw)?;
+        League::judged(terms, flaw)?;
+    }
+    let (catalogue, fit) = opened(catalogue, fit, flaw)?;
+    let is_hull = context::is_hull(&catalogue, &fit, flaw);
+    let league = match League::judged(terms, flaw) {
+        Err(_) if flaw.has(Fault::ProfileOnHulls) && !is_hull => League::none(flaw),
+        Err(number) if flaw.has(Fault::ProfileAfterRoom) => {
+            let entries = list(&catalogue, &fit, &League::none(flaw), flaw)?;
+            return Err(if room < ENTRY * entries.len() {
+                10
+            } else {
+                number
+            });
+        }
+        judged => judged?,
+    };
+    Ok((catalogue, fit, league))
+}
+
 /// The entries of a fit; a refusal is a flaw's.
-fn list(catalogue: &Catalogue, fit: &Fit, flaw: Flaw) -> Result<Vec<Entry>, u8> {
+fn list(catalogue: &Catalogue, fit: &Fit, league: &League, flaw: Flaw) -> Result<Vec<Entry>, u8> {
     let context = Context::new(catalogue, fit, flaw);
     let mut entries = Entries::new(flaw);
     let hull = context::is_hull(catalogue, fit, flaw);
@@ -96,9 +130,15 @@ fn list(catalogue: &Catalogue, fit: &Fit, flaw: Flaw) -> Result<Vec<Entry>, u8> 
     }
     if !hull || flaw.has(Fault::FixedList) {
         entries.add(Target::Ship, 19, 0, &[]);
+        if flaw.has(Fault::LeagueWithoutHull) {
+            league.validate(&context, &mut entries);
+        }
         if !flaw.has(Fault::HullGoesOn) {
             return Ok(entries.found);
         }
+    }
+    if flaw.has(Fault::LeagueFirst) {
+        league.validate(&context, &mut entries);
     }
     context::kind(&context, &mut entries);
     if flaw.has(Fault::SlotsBeforeResources) {
@@ -109,6 +149,9 @@ fn list(catalogue: &Catalogue, fit: &Fit, flaw: Flaw) -> Result<Vec<Entry>, u8> 
         slot::validate(&context, &mut entries);
     }
     item::validate(&context, &mut entries);
+    if !flaw.has(Fault::LeagueFirst) {
+        league.validate(&context, &mut entries);
+    }
     shortened(entries, flaw, Rows::ListEntries, Measure::ListEntries)
 }
 

@@ -4,12 +4,13 @@
 //! run by the crate `original`, which is compiled as published. What the
 //! original cannot say or hold is plain code: the total of drones over 32 bits
 //! in `drones`, base values finer than an f32 in `walk`, the widening of old
-//! catalogues in `widen`.
+//! catalogues in `widen`, the league's rules in `league`.
 
 mod catalogue;
 mod drones;
 mod encode;
 mod fit;
+pub mod league;
 mod walk;
 mod widen;
 mod words;
@@ -18,11 +19,12 @@ use std::cmp::Ordering;
 
 use original::{Rule, Run, Target, Violation};
 
-use crate::checker::{Checker, ENTRY, Entry, refused};
+use crate::checker::{Checker, ENTRY, Entry, Terms, refused};
 
 pub use catalogue::{Catalogue, LIMIT};
 pub use encode::entry;
 pub use fit::Fit;
+pub use league::League;
 pub use widen::widen;
 
 /// A refusal's number.
@@ -33,10 +35,11 @@ pub type Refusal = u8;
 pub struct Original;
 
 impl Checker for Original {
-    fn list(&self, catalogue: &[u8], fit: &[u8], out: &mut [u8]) -> u64 {
+    fn list(&self, catalogue: &[u8], fit: &[u8], terms: Terms, out: &mut [u8]) -> u64 {
         let listed = Catalogue::decode(catalogue).and_then(|catalogue| {
             let fit = Fit::decode(fit)?;
-            Ok(list(&catalogue, &fit))
+            let league = League::decode(terms)?;
+            Ok(list(&catalogue, &fit, &league))
         });
         written(listed, out)
     }
@@ -113,8 +116,18 @@ impl Hall {
     }
 }
 
-/// The list of a decoded fit.
-pub fn list(catalogue: &Catalogue, fit: &Fit) -> Listed {
+/// The list of a decoded fit: the original's, and behind it what the league
+/// has to say.
+pub fn list(catalogue: &Catalogue, fit: &Fit, league: &League) -> Listed {
+    let mut listed = original_list(catalogue, fit);
+    if fit.is_hull(catalogue) {
+        listed.entries.extend(league.entries(catalogue, fit));
+    }
+    listed
+}
+
+/// The original's list.
+pub fn original_list(catalogue: &Catalogue, fit: &Fit) -> Listed {
     let mut found = match fit.hangar(catalogue) {
         Some(max_active) => drones::validate(catalogue, fit, max_active),
         None => fit.run(catalogue).validate(),
@@ -225,7 +238,7 @@ pub fn fates(catalogue: &Catalogue, input: &[u8]) -> Result<Vec<Fate>, Refusal> 
 fn fate(catalogue: &Catalogue, fit: &Fit) -> Fate {
     let items = fit.fit.items.len() as u32;
     let results = fit.calculation.items.len() as u32;
-    let listed = list(catalogue, fit);
+    let listed = list(catalogue, fit, &League::default());
     match listed.entries.is_empty() {
         false => Fate::Faulted(More::of(items, results)),
         true if items != results => Fate::Unread { items, results },
@@ -272,6 +285,11 @@ impl Fit {
             fit: &self.fit,
             calculation: &self.calculation,
         }
+    }
+
+    /// Whether the ship is one, or a structure or a container.
+    pub fn is_hull(&self, catalogue: &Catalogue) -> bool {
+        self.run(catalogue).is_hull()
     }
 
     /// The skills that a result wants, each with its level.

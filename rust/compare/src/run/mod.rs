@@ -7,10 +7,11 @@ use std::collections::BTreeMap;
 use std::panic::{self, AssertUnwindSafe};
 
 use crate::case::{Ask, Case, Lists, Room};
-use crate::checker::{Checker, ENTRY, Entry, in_words, refused};
+use crate::checker::{Checker, ENTRY, Entry, Terms, in_words, refused};
 use crate::grown;
 use crate::guard::{Fill, Guarded, Held};
 use crate::model::{Fit, hall_image};
+use crate::profile::League;
 use crate::reference::{self, Fate, LIMIT, Listed, Refusal};
 use crate::tally::{Call, Hangar, Point, Tally, Zeros};
 use crate::verdict::{Expected, compare, compare_wide, expected, hall_in_words};
@@ -57,6 +58,40 @@ struct Old {
     widened: Result<Vec<u8>, Refusal>,
 }
 
+/// A profile's image, and what the reference reads in it.
+struct Brought {
+    held: Held,
+    allowance: u32,
+    league: Result<reference::League, Refusal>,
+}
+
+impl Brought {
+    fn new(league: &League) -> Brought {
+        let (image, allowance) = (league.image(), league.allowance);
+        let terms = Terms {
+            profile: &image,
+            allowance,
+        };
+        let league = reference::League::decode(terms);
+        Brought {
+            held: Held::new(image),
+            allowance,
+            league,
+        }
+    }
+
+    fn has_profile(&self) -> bool {
+        !self.held.image.is_empty()
+    }
+
+    fn terms(&self, fill: Fill) -> Terms<'_> {
+        Terms {
+            profile: self.held.copy(fill).bytes(),
+            allowance: self.allowance,
+        }
+    }
+}
+
 /// A hall input, and what the reference makes of it.
 struct Hall {
     held: Held,
@@ -68,6 +103,7 @@ struct Hall {
 pub struct Stage<'a> {
     case: &'a Case,
     source: Source,
+    brought: Brought,
     fit: OnceCell<Subject>,
     grown: OnceCell<Subject>,
     hall: OnceCell<Hall>,
@@ -90,6 +126,7 @@ impl<'a> Stage<'a> {
         Stage {
             case,
             source: Source { held, catalogue },
+            brought: Brought::new(&case.league),
             fit: OnceCell::new(),
             grown: OnceCell::new(),
             hall: OnceCell::new(),
@@ -146,7 +183,7 @@ impl<'a> Stage<'a> {
 
     /// What a call must give, and the length of the buffer that it is lent.
     fn expected(&self, source: &Source, subject: &Subject, call: Lists) -> (Expected, usize) {
-        let listed = listed(source, subject, call.result);
+        let listed = self.listed(source, subject, call.result);
         let length = match &listed {
             Ok(listed) => call.room.length(ENTRY * listed.entries.len()),
             // A refusal has to leave something untouched.
@@ -229,6 +266,9 @@ impl<'a> Stage<'a> {
         let (Ok(catalogue), Ok(fit)) = (&source.catalogue, &subject.decoded) else {
             return;
         };
+        if call.result.is_none() {
+            tally.brought(catalogue, fit, &self.brought.league);
+        }
         if let Some(result) = call.result {
             tally.walk(catalogue, fit, result);
         } else if expected.word == refused(10) && fit.hangar(catalogue).is_some() {
@@ -237,7 +277,12 @@ impl<'a> Stage<'a> {
         if expected.word >> 32 == 0 {
             tally.catalogue(Call::of(call), catalogue);
             match call.result {
-                None => tally.list(catalogue, fit, &expected.listed),
+                None => {
+                    tally.list(catalogue, fit, &expected.listed);
+                    if self.brought.has_profile() && fit.is_hull(catalogue) {
+                        tally.league(&expected.listed);
+                    }
+                }
                 Some(result) => tally.skill(catalogue, fit, result, &expected.listed),
             }
         }
@@ -301,7 +346,9 @@ impl<'a> Stage<'a> {
         let Some((source, fit)) = self.widened() else {
             return;
         };
-        let answered = listed(source, fit, result).is_ok_and(|listed| !listed.entries.is_empty());
+        let answered = self
+            .listed(source, fit, result)
+            .is_ok_and(|listed| !listed.entries.is_empty());
         if answered {
             let call = if result.is_some() {
                 Call::Skill
@@ -314,8 +361,8 @@ impl<'a> Stage<'a> {
 
     /// The lists of both fits, where both are answered.
     fn both_lists(&self, result: Option<u32>) -> Option<(Vec<Entry>, Vec<Entry>)> {
-        let old = listed(&self.source, self.fit(), result).ok()?;
-        let new = listed(&self.source, self.grown_fit(), result).ok()?;
+        let old = self.listed(&self.source, self.fit(), result).ok()?;
+        let new = self.listed(&self.source, self.grown_fit(), result).ok()?;
         Some((old.entries, new.entries))
     }
 
@@ -355,13 +402,15 @@ impl<'a> Stage<'a> {
         for fill in [Fill::First, Fill::Second] {
             let catalogue = source.held.copy(fill).bytes();
             let fit = subject.held.copy(fill).bytes();
+            let terms = self.brought.terms(fill);
             let mut out = Guarded::buffer(length, fill);
             let word = caught(|| match call.result {
-                None => checker.list(catalogue, fit, out.bytes_mut()),
+                None => checker.list(catalogue, fit, terms, out.bytes_mut()),
                 Some(result) => checker.skill(catalogue, fit, result, out.bytes_mut()),
             })?;
             source.held.unharmed(fill, "catalogue")?;
             subject.held.unharmed(fill, "fit")?;
+            self.brought.held.unharmed(fill, "profile")?;
             compare(&expected, word, &out)?;
             zeros.note(&expected.listed, out.bytes());
         }
@@ -429,6 +478,30 @@ impl<'a> Stage<'a> {
         })
     }
 
+    /// What the reference lists, or the refusal before 10.
+    fn listed(
+        &self,
+        source: &Source,
+        subject: &Subject,
+        result: Option<u32>,
+    ) -> Result<Listed, Refusal> {
+        let catalogue = source.catalogue.as_ref().map_err(|refusal| *refusal)?;
+        let fit = subject.decoded.as_ref().map_err(|refusal| *refusal)?;
+        match result {
+            None => {
+                let league = self.brought.league.as_ref().map_err(|refusal| *refusal)?;
+                let listed = || reference::list(catalogue, fit, league);
+                Ok(subject.listed.get_or_init(listed).clone())
+            }
+            Some(result) => subject
+                .skills
+                .borrow_mut()
+                .entry(result)
+                .or_insert_with(|| reference::skill(catalogue, fit, result))
+                .clone(),
+        }
+    }
+
     /// A planted refusal must be what the reference gives.
     fn planted(&self, word: u64) -> Result<(), String> {
         match self.case.expected_refusal() {
@@ -438,26 +511,6 @@ impl<'a> Stage<'a> {
             )),
             _ => Ok(()),
         }
-    }
-}
-
-/// What the original lists, or the refusal before 10.
-fn listed(source: &Source, subject: &Subject, result: Option<u32>) -> Result<Listed, Refusal> {
-    let catalogue = source.catalogue.as_ref().map_err(|refusal| *refusal)?;
-    let fit = subject.decoded.as_ref().map_err(|refusal| *refusal)?;
-    match result {
-        None => {
-            let listed = subject
-                .listed
-                .get_or_init(|| reference::list(catalogue, fit));
-            Ok(listed.clone())
-        }
-        Some(result) => subject
-            .skills
-            .borrow_mut()
-            .entry(result)
-            .or_insert_with(|| reference::skill(catalogue, fit, result))
-            .clone(),
     }
 }
 

@@ -125,8 +125,9 @@ impl Stage<'_> {
         let catalogue = source.held.copy(Fill::First).bytes();
         let fit = subject.held.copy(Fill::First).bytes();
         let mut out = vec![0; length];
+        let terms = self.brought.terms(Fill::First);
         let Ok(word) = caught(|| match call.result {
-            None => checker.list(catalogue, fit, &mut out),
+            None => checker.list(catalogue, fit, terms, &mut out),
             Some(result) => checker.skill(catalogue, fit, result, &mut out),
         }) else {
             return Shown::Panic;

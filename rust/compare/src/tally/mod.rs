@@ -1,6 +1,7 @@
 //! Counts what the cases met, and names what they never met.
 
 mod edge;
+mod league;
 mod look;
 mod point;
 pub mod size;
@@ -12,9 +13,10 @@ use std::collections::BTreeMap;
 use crate::case::{Ask, Case, Lists, Room};
 use crate::checker::{ENTRY, Entry};
 use crate::grown;
-use crate::reference::{self, Catalogue, Fate, Fit, Listed, More};
+use crate::reference::{self, Catalogue, Fate, Fit, League, Listed, More, Refusal};
 
 pub use edge::{Hangar, Shape, Spot};
+pub use league::LeagueEdge;
 pub use point::{Beside, Call, Point, RoomKind};
 pub use widened::{Class, Fine, WidenRoom};
 
@@ -132,6 +134,16 @@ impl Tally {
         {
             self.meet(Point::Wanted(wanted as u32));
         }
+    }
+
+    /// A list call whose images are not refused, with what it brings.
+    pub fn brought(&mut self, catalogue: &Catalogue, fit: &Fit, league: &Result<League, Refusal>) {
+        league::brought(self, catalogue, fit, league);
+    }
+
+    /// An answered list call with a profile, on a hull.
+    pub fn league(&mut self, listed: &Listed) {
+        league::listed(self, listed);
     }
 
     /// An answered list call.
@@ -252,6 +264,7 @@ impl Tally {
         for entry in old {
             self.meet(Point::GrownRule(entry[1]));
         }
+        league::grown(self, old, new);
         let shapes = [
             (
                 growth.items.is_empty() && growth.results.is_empty(),

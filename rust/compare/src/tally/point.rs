@@ -3,6 +3,7 @@
 use std::fmt;
 
 use super::edge::{CapitalEdge, Edge, Hangar, Shape, Spot};
+use super::league::LeagueEdge;
 use super::size::{
     AMOUNTS, Block, Counting, HELD, Holder, IdOf, LARGEST_HALL, LIST_BUFFERS, LONGEST_LIST, Part,
     Place, RESULTS, Region, SKILL_BUFFERS, UNREAD,
@@ -83,6 +84,8 @@ pub enum Point {
     Under(Call),
     /// A skill call over base values finer than an f32.
     Fine(Fine),
+    /// What a list call brings, and what becomes of it.
+    League(LeagueEdge),
 }
 
 #[derive(Clone, Copy, Debug, PartialEq, Eq, PartialOrd, Ord)]
@@ -167,7 +170,7 @@ impl RoomKind {
 /// Everything that a run has to meet.
 pub fn required() -> Vec<Point> {
     let mut points = Vec::new();
-    points.extend((1..=21).map(Point::Rule));
+    points.extend((1..=21).chain([24, 25]).map(Point::Rule));
     points.extend((0..=11).map(Point::Resource));
     points.extend((0..8).map(Point::Slots));
     points.extend((0..6).map(Point::WrongSlot));
@@ -175,7 +178,8 @@ pub fn required() -> Vec<Point> {
     points.extend((0..12).map(Point::Kind));
     points.extend([0, 1, 2, 3, 4, 5, 6, 8, 9].map(Point::HighestIndex));
     points.extend((0..4).map(Point::State));
-    points.extend([1, 2, 3, 4, 5, 6, 10].map(|refusal| Point::Refusal(Call::List, refusal)));
+    let of_lists = [1, 2, 3, 4, 5, 6, 11, 12, 10];
+    points.extend(of_lists.map(|refusal| Point::Refusal(Call::List, refusal)));
     points.extend([1, 2, 3, 4, 5, 6, 8, 9, 10].map(|refusal| Point::Refusal(Call::Skill, refusal)));
     points.extend([1, 2, 3, 4].map(|refusal| Point::Refusal(Call::Hall, refusal)));
     points.extend([1, 2, 3, 10].map(|refusal| Point::Refusal(Call::Widen, refusal)));
@@ -222,7 +226,7 @@ pub fn required() -> Vec<Point> {
     points.extend((0..NAMES.len() as u8).map(Point::NameMissing));
     points.extend(Shape::ALL.map(Point::Shape));
     points.extend([Call::List, Call::Skill].map(Point::Grown));
-    points.extend((1..=21).map(Point::GrownRule));
+    points.extend((1..=21).chain([24, 25]).map(Point::GrownRule));
     points.extend(Class::ALL.map(Point::Widened));
     let pairs = plant::widening_pairs().into_iter();
     points.extend(pairs.map(|(first, second)| Point::WidenPair(first, second)));
@@ -230,6 +234,7 @@ pub fn required() -> Vec<Point> {
     points.push(Point::WidenedLong);
     points.extend([Call::List, Call::Skill].map(Point::Under));
     points.extend(Fine::ALL.map(Point::Fine));
+    points.extend(LeagueEdge::all().into_iter().map(Point::League));
     points
 }
 
@@ -333,6 +338,7 @@ impl fmt::Display for Point {
             Point::WidenRoom(room) => write!(out, "widening, {}", room.words()),
             Point::WidenedLong => out.write_str("widened to more than 16777216 bytes"),
             Point::Under(call) => write!(out, "{call} under a widened catalogue"),
+            Point::League(edge) => out.write_str(&edge.words()),
             Point::Fine(fine) => write!(out, "base value finer than an f32: {}", fine.words()),
             size => size.fmt_size(out),
         }

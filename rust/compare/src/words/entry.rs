@@ -13,6 +13,8 @@ fn fields(rule: u8) -> &'static [&'static str] {
         17 => &["group", "used", "allowed"],
         18 => &["type", "used", "allowed"],
         21 => &["type"],
+        24 => &["group"],
+        25 => &["used", "allowed"],
         _ => &[],
     }
 }

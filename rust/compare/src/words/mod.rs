@@ -5,9 +5,10 @@ mod entry;
 mod tables;
 
 use crate::case::{Ask, Case, Room};
-use crate::checker::{Checker, ENTRY, in_words, refused};
+use crate::checker::{Checker, ENTRY, Terms, in_words, refused};
 use crate::model::{Catalogue, Damage, Fit, Name, Outcome, hall_image};
 use crate::names::{MARKS, NAMES};
+use crate::profile::{BANNED, League};
 use crate::reference::{Original, widen};
 use crate::verdict::hall_in_words;
 
@@ -30,6 +31,7 @@ pub fn case(case: &Case) -> String {
         fit(&mut text, &own(number), one, names);
     }
     damage(&mut text, "hall input", &case.frame);
+    league(&mut text, &case.league);
     let growth = &case.growth;
     if case
         .asks
@@ -62,6 +64,10 @@ pub fn case(case: &Case) -> String {
 /// buffers.
 pub fn answers(case: &Case) -> String {
     let catalogue = case.catalogue.image();
+    let terms = Terms {
+        profile: &case.league.image(),
+        allowance: case.league.allowance,
+    };
     let mut text = String::new();
     let mut asked = Vec::new();
     for one in &case.asks {
@@ -94,7 +100,7 @@ pub fn answers(case: &Case) -> String {
         let fit = case.fits[0].image();
         let mut out = vec![0; ENTRY * 8_192];
         let word = match result {
-            None => Original.list(&catalogue, &fit, &mut out),
+            None => Original.list(&catalogue, &fit, terms, &mut out),
             Some(result) => Original.skill(&catalogue, &fit, result, &mut out),
         };
         text += &format!("{what}: the original makes it {}\n", in_words(word));
@@ -231,6 +237,24 @@ fn fit(text: &mut String, own: &str, fit: &Fit, names: &[Name]) {
     });
     things(text, fit, names);
     damage(text, own, &fit.damage);
+}
+
+/// A profile and the allowance, where either is brought.
+fn league(text: &mut String, league: &League) {
+    let allowance = league.allowance;
+    let Some(profile) = &league.profile else {
+        if allowance > 0 {
+            *text += &format!("no profile, allowance {allowance}\n");
+        }
+        return;
+    };
+    let groups = profile.prices.len();
+    *text += &format!("profile: {groups} groups, allowance {allowance}\n");
+    list(text, &profile.prices, |price| match price.points {
+        BANNED => format!("group {} is banned", price.group),
+        points => format!("group {} costs {points}", price.group),
+    });
+    damage(text, "profile", &profile.damage);
 }
 
 /// Items and results, side by side.

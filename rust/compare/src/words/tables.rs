@@ -1,6 +1,6 @@
 //! The names of document 01's numbers.
 
-pub const RULES: [&str; 22] = [
+pub const RULES: [&str; 26] = [
     "no rule",
     "Resource",
     "Slots",
@@ -23,6 +23,10 @@ pub const RULES: [&str; 22] = [
     "NotAHull",
     "NotAMode",
     "NotASkill",
+    "ChargeGroup",
+    "ChargeSize",
+    "Banned",
+    "Points",
 ];
 
 pub const RESOURCES: [&str; 13] = [

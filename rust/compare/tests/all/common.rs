@@ -2,7 +2,7 @@
 //!
 //! Expected values in these tests are worked out from document 01.
 
-use compare::checker::{Checker, refused};
+use compare::checker::{Checker, Terms, refused};
 use compare::plain::Plain;
 use compare::rattle;
 use compare::reference::Original;
@@ -74,8 +74,13 @@ fn given(name: &str, call: impl FnOnce(&mut [u8]) -> u64) -> Given {
 
 /// Asserts what every checker's list call gives on raw images.
 pub fn assert_list_of(catalogue: &[u8], fit: &[u8], expected: &Given) {
+    assert_list_with(catalogue, fit, Terms::default(), expected);
+}
+
+/// The same where the call brings something besides.
+pub fn assert_list_with(catalogue: &[u8], fit: &[u8], terms: Terms, expected: &Given) {
     for (name, checker) in checkers() {
-        let got = given(name, |out| checker.list(catalogue, fit, out));
+        let got = given(name, |out| checker.list(catalogue, fit, terms, out));
         assert_eq!(got, *expected, "{name}");
     }
 }

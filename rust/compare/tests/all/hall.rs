@@ -2,7 +2,7 @@
 
 use crate::common::checkers;
 use compare::cases;
-use compare::checker::{Checker, refused};
+use compare::checker::{Checker, Terms, refused};
 use compare::fixed;
 use compare::model::{Catalogue, Damage, Effect, Fit, hall_image};
 use compare::names::MAX_ACTIVE_DRONES;
@@ -98,7 +98,7 @@ fn clear_means_as_many_results_as_items() {
     ] {
         let fit = holding(items, results);
         for (name, checker) in checkers() {
-            let word = checker.list(&catalogue, &fit.image(), &mut []);
+            let word = checker.list(&catalogue, &fit.image(), Terms::default(), &mut []);
             assert_eq!(word, 0, "{name}: the list itself does not change");
         }
         let number = if items == results { 1 } else { 256 };
@@ -133,8 +133,8 @@ fn unequal_numbers_change_no_other_fate() {
 /// What a hall says of one fit, from that fit's own list call and the two
 /// sizes in its image.
 fn share(checker: &dyn Checker, catalogue: &[u8], fit: &[u8]) -> u64 {
-    let mut room = vec![0; 123_384];
-    let word = checker.list(catalogue, fit, &mut room);
+    let mut room = vec![0; 129_552];
+    let word = checker.list(catalogue, fit, Terms::default(), &mut room);
     let size = |at: usize| u32::from_le_bytes(fit[at..at + 4].try_into().unwrap());
     match word {
         _ if word >> 32 != 0 => 65_536,
@@ -162,7 +162,7 @@ fn a_hall_is_what_the_lists_of_its_fits_say() {
                 let share = share(checker.as_ref(), &catalogue, image);
                 let alone = hall_image(std::slice::from_ref(fit), &Damage::default());
                 assert_eq!(checker.hall(&catalogue, &alone), share, "{name}, {number}");
-                let list = checker.list(&catalogue, image, &mut []);
+                let list = checker.list(&catalogue, image, Terms::default(), &mut []);
                 unread += usize::from(share == 256 && list == 0);
                 sum += share;
             }

@@ -6,6 +6,7 @@ mod document;
 mod entries;
 mod faults;
 mod hall;
+mod league;
 mod original;
 mod recorded;
 mod refusals;

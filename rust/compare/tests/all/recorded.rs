@@ -5,6 +5,7 @@ use std::collections::BTreeSet;
 
 use crate::common::checkers;
 use compare::case::REFUSALS;
+use compare::checker::Terms;
 use compare::record::{self, HALL, LIST, MOST, Record, WIDEN};
 
 const FILE: &[u8] = include_bytes!("../../recorded.bin");
@@ -31,13 +32,20 @@ fn the_replayed_copy_is_the_same() {
     );
 }
 
+fn terms(record: &Record) -> Terms<'_> {
+    Terms {
+        profile: &record.profile,
+        allowance: record.allowance,
+    }
+}
+
 #[test]
 fn every_checker_gives_the_recorded_answers() {
     for (name, checker) in checkers() {
         for (number, record) in records().iter().enumerate() {
             let mut out = vec![0x5A; record.room as usize];
             let word = match record.result {
-                LIST => checker.list(&record.catalogue, &record.fit, &mut out),
+                LIST => checker.list(&record.catalogue, &record.fit, terms(record), &mut out),
                 HALL => checker.hall(&record.catalogue, &record.fit),
                 WIDEN => checker.widen(&record.catalogue, &mut out),
                 result => checker.skill(&record.catalogue, &record.fit, result, &mut out),
@@ -71,7 +79,7 @@ fn every_rule_refusal_and_call_is_recorded() {
             rules.extend(record.written.chunks(24).map(|entry| entry[1]));
         }
     }
-    assert_eq!(rules, (1..=21).collect());
+    assert_eq!(rules, (1..=21).chain([24, 25]).collect());
     let given = REFUSALS.map(u64::from).into_iter();
     assert_eq!(refusals, given.chain([0]).collect());
     for call in ["list", "skill", "hall", "widen"] {

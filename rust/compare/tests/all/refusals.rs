@@ -2,7 +2,7 @@
 //! limit, and the order in which they are given.
 
 use crate::common::*;
-use compare::checker::refused;
+use compare::checker::{Terms, refused};
 use compare::model::{Base, Catalogue, Effect, Fit, Item, Link, Name, Outcome, Skill, Type};
 use compare::names::*;
 use compare::sketch::*;
@@ -369,12 +369,16 @@ fn refusal_10_for_23_bytes_and_one_entry() {
     for (name, checker) in checkers() {
         let mut out = [0xC3; 24];
         assert_eq!(
-            checker.list(&[0; 20], &[0; 36], &mut out[..23]),
+            checker.list(&[0; 20], &[0; 36], Terms::default(), &mut out[..23]),
             refused(10),
             "{name}"
         );
         assert_eq!(out, [0xC3; 24], "{name}: nothing is written");
-        assert_eq!(checker.list(&[0; 20], &[0; 36], &mut out), 1, "{name}");
+        assert_eq!(
+            checker.list(&[0; 20], &[0; 36], Terms::default(), &mut out),
+            1,
+            "{name}"
+        );
         assert_eq!(out.to_vec(), ship(19), "{name}");
     }
 }
@@ -384,7 +388,11 @@ fn an_empty_list_needs_no_buffer() {
     let sketch = Sketch::hull().finish();
     let (catalogue, fit) = (sketch.catalogue.image(), sketch.fit.image());
     for (name, checker) in checkers() {
-        assert_eq!(checker.list(&catalogue, &fit, &mut []), 0, "{name}");
+        assert_eq!(
+            checker.list(&catalogue, &fit, Terms::default(), &mut []),
+            0,
+            "{name}"
+        );
         assert_eq!(checker.skill(&catalogue, &fit, 0, &mut []), 0, "{name}");
     }
 }
@@ -443,7 +451,7 @@ fn a_hangar_without_room_is_refused_by_10() {
     for (name, checker) in checkers() {
         for length in [0, 23] {
             let mut out = vec![0xC3; length];
-            let word = checker.list(&catalogue, &fit, &mut out);
+            let word = checker.list(&catalogue, &fit, Terms::default(), &mut out);
             assert_eq!(word, refused(10), "{name}");
             assert_eq!(out, vec![0xC3; length], "{name}: nothing is written");
         }

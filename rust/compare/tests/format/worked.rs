@@ -1,7 +1,7 @@
 //! The section "Worked bytes".
 
 use compare::case::REFUSALS;
-use compare::checker::{Checker, ENTRY};
+use compare::checker::{Checker, ENTRY, Terms};
 
 use crate::common::checkers;
 use crate::page::{behind, bytes, hex, table};
@@ -16,6 +16,7 @@ struct Images {
     hall: Vec<u8>,
     /// The catalogue in the old form.
     old: Vec<u8>,
+    profile: Vec<u8>,
 }
 
 impl Images {
@@ -26,6 +27,7 @@ impl Images {
             catalogue,
             fit: bytes("fit"),
             hall: bytes("hall"),
+            profile: bytes("profile"),
         }
     }
 
@@ -35,6 +37,7 @@ impl Images {
             "fit" => &mut self.fit,
             "hall" => &mut self.hall,
             "old" => &mut self.old,
+            "profile" => &mut self.profile,
             _ => panic!("no image `{name}`"),
         }
     }
@@ -56,13 +59,22 @@ impl Images {
     }
 }
 
-/// A call as the page names it, `list`, `skill 2`, `hall` or `widen`, on a
-/// buffer.
+/// A call as the page names it, `list`, `league 90` with the profile and this
+/// allowance, `skill 2`, `hall` or `widen`, on a buffer.
 fn called(checker: &dyn Checker, call: &str, images: &Images, out: &mut [u8]) -> u64 {
     match call.split_once(' ') {
-        None if call == "list" => checker.list(&images.catalogue, &images.fit, out),
+        None if call == "list" => {
+            checker.list(&images.catalogue, &images.fit, Terms::default(), out)
+        }
         None if call == "hall" => checker.hall(&images.catalogue, &images.hall),
         None if call == "widen" => checker.widen(&images.old, out),
+        Some(("league", allowance)) => {
+            let terms = Terms {
+                profile: &images.profile,
+                allowance: allowance.parse().unwrap(),
+            };
+            checker.list(&images.catalogue, &images.fit, terms, out)
+        }
         Some(("skill", result)) => {
             let result = result.parse().unwrap();
             checker.skill(&images.catalogue, &images.fit, result, out)
@@ -83,6 +95,29 @@ fn the_entries_are_the_pages() {
             let (entries, behind) = out.split_at(expected.len());
             assert_eq!(entries, expected, "{name}, {call}");
             assert_eq!(behind, [UNTOUCHED; ENTRY], "{name}, {call}");
+        }
+    }
+}
+
+/// Behind the entries of the list stand those of the league.
+#[test]
+fn the_entries_of_the_league_are_the_pages() {
+    let banned = "profile[12] = FF FF FF FF";
+    let blocks = [
+        ("league 90", "league 90", None),
+        ("league 0", "league 0 banned", Some(banned)),
+    ];
+    for (call, block, changed) in blocks {
+        let mut images = Images::of_the_page();
+        if let Some(change) = changed {
+            images.change(change);
+        }
+        let expected = behind(bytes("list"), block);
+        for (name, checker) in checkers() {
+            let mut out = vec![UNTOUCHED; expected.len() + ENTRY];
+            let word = called(&*checker, call, &images, &mut out);
+            assert_eq!(word, (expected.len() / ENTRY) as u64, "{name}, {block}");
+            assert_eq!(out[..expected.len()], expected, "{name}, {block}");
         }
     }
 }
@@ -168,5 +203,7 @@ fn every_refusal_but_9_is_shown() {
         list.dedup();
     }
     assert_eq!(shown, numbers);
-    assert_eq!(numbers, REFUSALS.map(u64::from));
+    let mut given = REFUSALS.map(u64::from);
+    given.sort_unstable();
+    assert_eq!(numbers, given);
 }

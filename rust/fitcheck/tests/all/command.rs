@@ -6,7 +6,8 @@ use std::path::Path;
 use std::process::{Command, Output, Stdio};
 
 use fitcheck::{
-    Attribute, CatalogueBuilder, FitBuilder, FitItem, ItemResult, Mark, Refusal, Slot, State,
+    Attribute, CatalogueBuilder, FitBuilder, FitItem, ItemResult, Mark, Profile, Refusal, Slot,
+    State,
 };
 
 use crate::folder;
@@ -741,4 +742,136 @@ fn a_widened_catalogue_that_is_too_long_is_warned_of() {
     assert_eq!(ran.status, 0);
     assert!(ran.err.contains("warning: it is over 16777216 bytes"));
     assert_eq!(ran.out, format!("{path}: 22369612 bytes\n"));
+}
+
+/// A catalogue with a hull and a module of group 464, and a fit with one.
+fn miner(folder: &Path) -> (String, String) {
+    let catalogue = whole(&[])
+        .type_info(17478, 463, 6, None)
+        .type_info(17482, 464, 7, None)
+        .build()
+        .unwrap();
+    let fit = FitBuilder::new(17478)
+        .ship(ItemResult::new(State::Online).with(100_022, 8.0))
+        .item(
+            FitItem::new(17482, Slot::High(0)),
+            ItemResult::new(State::Online),
+        )
+        .build()
+        .unwrap();
+    (
+        put(folder, "types.bin", &catalogue),
+        put(folder, "fit.bin", &fit),
+    )
+}
+
+#[test]
+fn a_league_in_words_is_packed_and_asked() {
+    let folder = folder("league");
+    let (types, fit) = miner(&folder);
+    let names = put(&folder, "names.txt", b"group 464 Strip Miner\n");
+    let words = put(
+        &folder,
+        "league.txt",
+        b"ban Strip Miner # no mining\nprice 5 60\n",
+    );
+    let image = folder.join("league.bin").to_str().unwrap().to_string();
+    let ran = fitcheck(&["profile", &words, &image, "--names", &names]);
+    assert_eq!((ran.status, ran.err.as_str()), (0, ""));
+    assert_eq!(ran.out, format!("{image}: 20 bytes\n"));
+    let profile = Profile::from_bytes(&fs::read(&image).unwrap()).unwrap();
+    assert_eq!(profile.to_string(), "price 5 60\nban 464\n");
+
+    let league = ["--profile", &image, "--allowance", "0"];
+    let plain = fitcheck(&["explain", &types, &fit, "--json"]);
+    let entries = |ran: &Ran| Value::parse(&ran.out).get("entries").list().len();
+    let without = entries(&plain);
+    let ran = fitcheck(&[&["explain", &types, &fit, "--names", &names], &league[..]].concat());
+    assert_eq!(ran.status, 3);
+    assert!(
+        ran.out
+            .contains("Strip Miner (group 464) is banned: item 0"),
+        "{}",
+        ran.out
+    );
+    let ran = fitcheck(&[&["explain", &types, &fit, "--json"], &league[..]].concat());
+    assert_eq!(entries(&ran), without + 1);
+    let value = Value::parse(&ran.out);
+    let rule = value.get("entries").list()[without].get("rule");
+    assert_eq!(rule.names(), ["type", "group_id"]);
+}
+
+#[test]
+fn a_bad_profile_is_refused_and_named() {
+    let folder = folder("bad_league");
+    let (types, fit) = miner(&folder);
+    let asked = |image: &str| {
+        fitcheck(&[
+            "explain",
+            &types,
+            &fit,
+            "--profile",
+            image,
+            "--allowance",
+            "5",
+        ])
+    };
+    let words =
+        |words: &[u32]| -> Vec<u8> { words.iter().flat_map(|it| it.to_le_bytes()).collect() };
+    for (bytes, number) in [
+        (vec![0; 3], 11),
+        (words(&[2, 1, 1, 0, 0]), 12),
+        (words(&[1, 1, 1_000_001]), 12),
+    ] {
+        let image = put(&folder, "league.bin", &bytes);
+        let ran = asked(&image);
+        assert_eq!((ran.status, ran.out.as_str()), (1, ""));
+        let refused = format!("fitcheck: {image}: refused by {number}: the league profile");
+        assert!(ran.err.starts_with(&refused), "{}", ran.err);
+    }
+    let empty = put(&folder, "empty.bin", b"");
+    let ran = asked(&empty);
+    let said = format!("fitcheck: {empty}: it is empty, and so no profile\n");
+    assert_eq!((ran.status, ran.err), (1, said));
+}
+
+#[test]
+fn a_wrong_line_of_a_league_is_named() {
+    let folder = folder("league_lines");
+    let image = folder.join("league.bin").to_str().unwrap().to_string();
+    for (words, wrong) in [
+        ("ban", "line 1: no group is called ``: ban"),
+        (
+            "ban Strip Miner",
+            "line 1: no group is called `Strip Miner`: ban Strip Miner",
+        ),
+        (
+            "ban 5\nprice 1 5",
+            "line 2: group 5 stands twice: price 1 5",
+        ),
+        (
+            "price 1000001 5",
+            "line 1: group 5 costs 1000001 points: the most is 1000000: price 1000001 5",
+        ),
+        ("price 5", "line 1: not `price POINTS GROUP`: price 5"),
+        (
+            "free 5",
+            "line 1: neither `ban GROUP` nor `price POINTS GROUP`: free 5",
+        ),
+    ] {
+        let path = put(&folder, "league.txt", words.as_bytes());
+        let ran = fitcheck(&["profile", &path, &image]);
+        assert_eq!(
+            (ran.status, ran.err),
+            (1, format!("fitcheck: {path}: {wrong}\n"))
+        );
+    }
+    let path = put(&folder, "league.txt", b"ban 5");
+    let ran = fitcheck(&["profile", &path, &path]);
+    assert_eq!(ran.status, 1);
+    assert!(
+        ran.err.contains("it is read, so it is not written"),
+        "{}",
+        ran.err
+    );
 }

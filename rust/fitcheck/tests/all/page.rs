@@ -65,7 +65,10 @@ fn the_command_prints_what_the_page_shows() {
     old.extend(words.iter().flat_map(|word| word.to_le_bytes()));
     fs::write(at.join("demo/old.bin"), old).unwrap();
     // The fit and the catalogue in words stand on the page.
-    for (block, file) in blocks("text").iter().zip(["types.txt", "kestrel.txt"]) {
+    for (block, file) in blocks("text")
+        .iter()
+        .zip(["league.txt", "types.txt", "kestrel.txt"])
+    {
         fs::create_dir_all(at.join("words")).unwrap();
         fs::write(at.join("words").join(file), block.join("\n")).unwrap();
     }
@@ -87,7 +90,7 @@ fn the_command_prints_what_the_page_shows() {
         assert_eq!(String::from_utf8(both).unwrap(), printed, "{command}");
         run += 1;
     }
-    assert!(run >= 8, "the page has {run} runs of the command");
+    assert!(run >= 13, "the page has {run} runs of the command");
 }
 
 #[test]
@@ -168,7 +171,7 @@ fn the_rules_in_json_have_the_fields_that_the_page_lists() {
         .filter_map(|line| line.trim_matches('|').split_once('|'))
         .map(|(rules, fields)| (words(rules), words(fields)))
         .collect();
-    for number in 1..=21 {
+    for number in (1..=21).chain([24, 25]) {
         let mut bytes = [0; 24];
         bytes[1] = number;
         let entry = Entry::from_bytes(&bytes);
@@ -184,7 +187,7 @@ fn the_rules_in_json_have_the_fields_that_the_page_lists() {
         assert_eq!(names[1..], fields[..], "{name}");
     }
     let named: usize = rows.iter().map(|row| row.0.len()).sum();
-    assert_eq!(named, 21);
+    assert_eq!(named, 23);
 }
 
 #[test]

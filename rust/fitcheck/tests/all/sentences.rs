@@ -2,7 +2,7 @@
 
 use fitcheck::{
     Attribute, CatalogueBuilder, Explainer, FitBuilder, FitItem, ItemResult, ListOptions, Mark,
-    Names, SkillOptions, Slot, State,
+    Names, Profile, SkillOptions, Slot, State,
 };
 
 const NAMES: &str = "\
@@ -297,6 +297,40 @@ fn limits_of_groups_and_types() {
             "2 of Damage Control II are fitted, and Damage Control II (item 0) allows 1",
         ]
     );
+}
+
+#[test]
+fn what_a_league_has_to_say() {
+    let mut fit = FitBuilder::new(587);
+    fit.ship(roomy())
+        .item(FitItem::new(2048, Slot::Low(0)), result())
+        .item(FitItem::new(484, Slot::High(0)), result())
+        .item(FitItem::new(2048, Slot::Low(1)), result());
+    let (catalogue, fit) = (catalogue().build().unwrap(), fit.build().unwrap());
+    let names = Names::parse(NAMES).unwrap();
+    let explainer = Explainer::new(&fit, &names);
+    let said = |profile: &Profile, allowance: u32| {
+        let image = profile.to_bytes();
+        let options = ListOptions::new().league(&image, allowance);
+        let entries = fitcheck::list(&catalogue, &fit, &options).unwrap();
+        explainer.explain_all(&entries)
+    };
+    let mut profile = Profile::new();
+    profile.ban(60).unwrap().ban(55).unwrap();
+    assert_eq!(
+        said(&profile, 0),
+        [
+            "Damage Control (group 60) is banned: Damage Control II (items 0, 2)",
+            "group 55 is banned: 125mm Gatling AutoCannon I (item 1)",
+        ]
+    );
+    let mut profile = Profile::new();
+    profile.price(60, 70).unwrap().price(55, 1).unwrap();
+    assert_eq!(said(&profile, 120), ["141 points of 120 allowed"]);
+    assert!(said(&profile, 141).is_empty());
+    let mut profile = Profile::new();
+    profile.price(55, 1).unwrap();
+    assert_eq!(said(&profile, 0), ["1 point of 0 allowed"]);
 }
 
 #[test]

@@ -1,7 +1,7 @@
 //! Images of the builders: those of the comparison's own encoder, accepted by
 //! every checker at hand.
 
-use compare::checker::Checker;
+use compare::checker::{Checker, Terms};
 use compare::model::{Base, Catalogue, Effect, Fit, Item, Link, Name, Outcome, Type};
 use compare::names;
 use compare::plain::Plain;
@@ -105,7 +105,7 @@ fn assert_accepted(catalogue: &[u8], fit: &[u8]) {
     let checkers: [&dyn Checker; 2] = [&Plain::default(), &Original];
     for checker in checkers {
         let mut room = vec![0; 24 * fitcheck::MOST_ENTRIES];
-        let word = checker.list(catalogue, fit, &mut room);
+        let word = checker.list(catalogue, fit, Terms::default(), &mut room);
         assert_eq!(word >> 32, 0, "refused");
     }
     let listed = fitcheck::list(catalogue, fit, &ListOptions::new());

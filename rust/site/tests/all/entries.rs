@@ -1,7 +1,8 @@
 //! Entries of any 24 bytes.
 
-use compare::checker::Checker;
+use compare::checker::{Checker, Terms};
 use compare::plain::Plain;
+use compare::profile::League;
 use compare::rng::Rng;
 use fitcheck::{Entry, Explainer, Names, Rule, Target};
 
@@ -56,12 +57,20 @@ fn any_bytes_decode_and_lead_back() {
 
 #[test]
 fn what_the_calls_write_is_known() {
-    let mut seen = [0; 22];
+    // Every group that a generated module may have, banned or priced.
+    let groups = (-1..2_000).map(|group| (group, if group % 2 == 0 { u32::MAX } else { 9 }));
+    let league = League::of(&groups.collect::<Vec<_>>(), 5);
+    let profile = league.image();
+    let terms = Terms {
+        profile: &profile,
+        allowance: league.allowance,
+    };
+    let mut seen = [0; 26];
     for case in numbers(300) {
         let (catalogue, fits) = images(13, case);
         for fit in fits {
             let mut room = vec![0; 24 * fitcheck::MOST_ENTRIES];
-            let word = Plain::default().list(&catalogue, &fit, &mut room);
+            let word = Plain::default().list(&catalogue, &fit, terms, &mut room);
             if word >> 32 != 0 {
                 continue;
             }
@@ -74,8 +83,9 @@ fn what_the_calls_write_is_known() {
         }
     }
     for (rule, count) in seen.iter().enumerate() {
-        // Rule 11 is the skill call's.
-        assert_eq!(*count > 0, rule != 0 && rule != 11, "rule {rule}: {count}");
+        // Rule 11 is the skill call's; 22 and 23 are about charges.
+        let is_listed = ![0, 11, 22, 23].contains(&rule);
+        assert_eq!(*count > 0, is_listed, "rule {rule}: {count}");
     }
 }
 

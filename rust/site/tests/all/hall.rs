@@ -1,6 +1,6 @@
 //! The hall number and the verdicts behind it.
 
-use compare::checker::Checker;
+use compare::checker::{Checker, Terms};
 use compare::model::{Damage, hall_image};
 use compare::reference::Original;
 use fitcheck::{
@@ -164,7 +164,7 @@ fn the_numbers_are_the_originals_and_the_verdicts_add_up_to_them() {
         let mut sum = Hall::default();
         for (image, verdict) in fits.iter().zip(verdicts.unwrap()) {
             let mut room = vec![0; 24 * fitcheck::MOST_ENTRIES];
-            let word = Original.list(&catalogue, image, &mut room);
+            let word = Original.list(&catalogue, image, Terms::default(), &mut room);
             // F and R as they stand in the image.
             let size = |at: usize| u32::from_le_bytes(image[at..at + 4].try_into().unwrap());
             let expected = match (word >> 32, word as usize) {

@@ -8,6 +8,7 @@ mod builders;
 mod common;
 mod entries;
 mod hall;
+mod league;
 mod mapping;
 mod original;
 mod threads;

@@ -59,7 +59,7 @@ fn a_list_is_the_originals() {
             // More drones than 32 bits hold, the original cannot add up.
             if fit.hangar(&catalogue).is_some() {
                 let bytes: Vec<_> = list.iter().map(Entry::to_bytes).collect();
-                let expected = reference::list(&catalogue, &fit).entries;
+                let expected = reference::original_list(&catalogue, &fit).entries;
                 assert_eq!(bytes, expected, "case {case}");
                 hangars += 1;
                 continue;

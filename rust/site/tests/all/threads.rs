@@ -2,7 +2,7 @@
 
 use std::thread;
 
-use compare::checker::Checker;
+use compare::checker::{Checker, Terms};
 use compare::reference::Original;
 use fitcheck::ListOptions;
 
@@ -17,7 +17,7 @@ fn threads_do_not_disturb_each_other() {
                     let (catalogue, fits) = images(41, case);
                     for fit in fits {
                         let mut expected = vec![0; 24 * fitcheck::MOST_ENTRIES];
-                        let word = Original.list(&catalogue, &fit, &mut expected);
+                        let word = Original.list(&catalogue, &fit, Terms::default(), &mut expected);
                         let mut room = vec![0; 24 * fitcheck::MOST_ENTRIES];
                         let listed =
                             fitcheck::list_into(&catalogue, &fit, &ListOptions::new(), &mut room);

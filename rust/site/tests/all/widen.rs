@@ -42,7 +42,7 @@ fn a_widened_catalogue_is_document_02s_and_lists_what_the_old_one_did() {
             let Ok(fit) = reference::Fit::decode(&image) else {
                 continue;
             };
-            let original = reference::list(&decoded, &fit);
+            let original = reference::original_list(&decoded, &fit);
             if original.either_zero.is_some() {
                 continue;
             }

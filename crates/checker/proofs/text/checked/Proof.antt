@@ -4,6 +4,7 @@ use native.Mathlib.Omega.{arith}
 use mathlib.Core.Path.{_≡_, ap, _∙_}
 use mathlib.Core.List.{List}
 use lib.ListN.{replicate, length-replicate}
+use Rattle.lists.specs.Terms.{main}
 use Rattle.fitcheck.specs.Calls.{Answer, listCall, returned, buffered}
 use Rattle.checker.specs.Text.{textOf, checked}
 use Rattle.checker.proofs.Room.{list-room}
@@ -18,9 +19,9 @@ text-of-call {w} {b} before a e word buffer = e ∙ ap (λ (x : ℕ). textOf x b
 
 text-of-requires : tie.Need-text-of-requires
 text-of-requires c κs =
-    let a = c .before .before .before .before .before .before .before .before .args in
+    let a = c .before .before .before .before .before .before .before .before .before .args in
     let f = c .before .before .before .fit-list .ensures in
-    let r = list-room (a .catalogue .now) (a .fit .now) (replicate 65520 0) in
+    let r = list-room main (a .catalogue .now) (a .fit .now) (replicate 65520 0) in
     (omega (arith, f .0, r, length-replicate {A = ℕ} 65520 0), omega (arith, f .0, r, length-replicate {A = ℕ} 65520 0))
 
 returns : tie.Need-returns
@@ -28,14 +29,15 @@ unfolding checked
 returns c =
     let t = c .before .before .text-of .ensures in
     let k = c .before .before .before .before .before .before in
-    let a = k .before .before .before .before .before .args in
+    let a = k .before .before .before .before .before .before .args in
     let f = k .fit-list .ensures in
-    (t .0, text-of-call (replicate 65520 0) (listCall (a .catalogue .now) (a .fit .now) (replicate 65520 0)) (t .1) (f .0) (f .1))
+    (t .0, text-of-call (replicate 65520 0) (listCall main (a .catalogue .now) (a .fit .now) (replicate 65520 0)) (t .1) (f .0) (f .1))
 
 pub checked-spec : {M : Type 1} → statement M
 checked-spec =
     tie.close
     (tie.spec
+    (λ c. search needs)
     (λ c. search needs)
     (λ c κs. search needs)
     (λ c. search needs)

@@ -5,7 +5,8 @@ use Rattle.catalogue.specs.Catalogue.{catalogueOf}
 use Rattle.fit.specs.Fit.{itemCount, resultCount}
 use Rattle.fit.specs.Refusals.{fitRefusal}
 use Rattle.fit.specs.Sound.{Sound}
-use Rattle.fit.proofs.Soundness.{sound}
+use Rattle.fit.proofs.Soundness as Fits
+use Rattle.profile.proofs.Accepted.{sound-none}
 use Rattle.entry.proofs.Wrote.{wrote-count}
 use Rattle.fitcheck.proofs.HallLaws.{share-unread, share-unequal, share-clear, share-faulted}
 use borrow.Author.Needs.{needs}
@@ -22,7 +23,7 @@ accepted : (c : tie.Else1) → fitRefusal (c .before .before .before .before .be
 accepted c = omega (arith, c .before .number .ensures, c .if1 .left)
 
 image-sound : (c : tie.Else1) → Sound (c .before .before .before .before .before .args .fit .now)
-image-sound c = sound _ (accepted c)
+image-sound c = Fits.sound _ (accepted c)
 
 item-count-requires : tie.Need-item-count-requires
 item-count-requires c κs = image-sound c
@@ -50,21 +51,24 @@ gather-requires c κs =
     let e = c .before .before .before .before in
     (e .before .before .before .before .before .pre, image-sound e)
 
+write-requires : tie.Need-write-requires
+write-requires c κs = (c .before .before .before .before .before .before .gather .ensures, sound-none)
+
 returns-3 : tie.Need-returns-3
 returns-3 c =
     let v = c .before .before .before .before in
-    let t = v .before .before .before .before .before .before .before .before in
+    let t = v .before .before .before .before .before .before .before .before .before in
     let e = t .before .before .before in
     let a = e .before .before .before .before .before .args in
-    let n = wrote-count (v .validate .ensures .0) in
+    let n = wrote-count (v .write .ensures .0) in
     (share-clear (catalogueOf (a .catalogue .now)) (a .fit .now) (accepted e) (omega (arith, n, c .if3 .taken)) (equal t), omega arith)
 
 returns-4 : tie.Need-returns-4
 returns-4 c =
     let v = c .before .before .before .before in
-    let e = v .before .before .before .before .before .before .before .before .before .before .before in
+    let e = v .before .before .before .before .before .before .before .before .before .before .before .before in
     let a = e .before .before .before .before .before .args in
-    let n = wrote-count (v .validate .ensures .0) in
+    let n = wrote-count (v .write .ensures .0) in
     (share-faulted (catalogueOf (a .catalogue .now)) (a .fit .now) (accepted e) (omega (arith, n, c .if3 .left)), omega arith)
 
 pub share-spec : {M : Type 1} → statement M
@@ -78,7 +82,8 @@ share-spec =
     returns-2
     gather-requires
     (λ c. search needs)
-    (λ c κs. search needs)
+    (λ c. search needs)
+    write-requires
     (λ c. search needs)
     returns-3
     (λ c. search needs)

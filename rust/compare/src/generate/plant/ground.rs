@@ -6,6 +6,7 @@ use super::table::an_item;
 use crate::case::Room;
 use crate::model::{Base, Catalogue, Fit, Outcome, Skill};
 use crate::names::{CAPACITY, MAX_ACTIVE_DRONES, REQUIRED, RIG_SIZE};
+use crate::profile::{League, Profile};
 use crate::rng::Rng;
 use crate::sketch::*;
 
@@ -13,6 +14,7 @@ use crate::sketch::*;
 pub struct Ground {
     pub catalogue: Catalogue,
     pub fit: Fit,
+    pub league: League,
     pub result: u32,
     pub room: Room,
 }
@@ -35,6 +37,7 @@ impl Ground {
         Ground {
             catalogue: sketch.catalogue,
             fit: sketch.fit,
+            league: League::default(),
             result: 0,
             room: Room::Longer(48),
         }
@@ -68,6 +71,7 @@ impl Ground {
         Ground {
             catalogue: world.catalogue,
             fit,
+            league: League::default(),
             result: 0,
             room: Room::Longer(24 * 700),
         }
@@ -101,6 +105,14 @@ pub fn chain(ground: &mut Ground, length: i32) {
     }
     ground.catalogue.bases.sort_by_key(|base| base.type_id);
     ground.result = 0;
+}
+
+impl Ground {
+    /// The profile, of a few groups where there was none.
+    pub fn profile(&mut self) -> &mut Profile {
+        let few = || Profile::of(&[(-7, 3), (0, 0), (25, 1_000_000), (100, 4_294_967_295)]);
+        self.league.profile.get_or_insert_with(few)
+    }
 }
 
 /// Makes sure that the list call and the skill call each have an entry.

@@ -23,9 +23,10 @@ pub fn pairs() -> Vec<(u8, u8)> {
     found
 }
 
-/// A result that is not there wants no skills and lists nothing.
+/// A result that is not there wants no skills and lists nothing; the skill
+/// call takes no profile.
 fn can_meet(first: u8, second: u8) -> bool {
-    !matches!((first, second), (8, 9 | 10))
+    !matches!((first, second), (8, 9 | 10) | (11 | 12, 8 | 9))
 }
 
 /// Whether a widening can be refused by a number.
@@ -78,7 +79,8 @@ fn planted(rng: &mut Rng, mut ground: Ground, plants: &[(u8, &'static str, Dig)]
         dig(&mut ground, rng);
     }
     let has = |refusal: u8| plants.iter().any(|plant| plant.0 == refusal);
-    let ask = if has(8) || has(9) || rng.chance(400) {
+    let takes_a_profile = has(11) || has(12);
+    let ask = if has(8) || has(9) || (!takes_a_profile && rng.chance(400)) {
         Ask::Skill(ground.result, ground.room)
     } else {
         Ask::List(ground.room)
@@ -87,6 +89,7 @@ fn planted(rng: &mut Rng, mut ground: Ground, plants: &[(u8, &'static str, Dig)]
         title: "planted refusals".to_string(),
         catalogue: ground.catalogue,
         fits: vec![ground.fit],
+        league: ground.league,
         asks: vec![ask],
         planted: plants
             .iter()
@@ -104,10 +107,10 @@ mod tests {
     use super::*;
 
     #[test]
-    fn every_refusal_has_a_plant_and_34_pairs_can_meet() {
+    fn every_refusal_has_a_plant_and_49_pairs_can_meet() {
         for refusal in REFUSALS {
             assert!(PLANTS.iter().any(|plant| plant.0 == refusal));
         }
-        assert_eq!(pairs().len(), 34);
+        assert_eq!(pairs().len(), 49);
     }
 }

@@ -3,6 +3,7 @@
 use super::ground::{Ground, an_entry, chain};
 use crate::case::Room;
 use crate::model::{Base, Catalogue, Effect, Fit, Item, Link, Name, Outcome, Skill, Type};
+use crate::profile::Price;
 use crate::rng::Rng;
 use crate::sketch::{CARGO, DRONE_BAY, FIGHTER_BAY, HIGH};
 
@@ -233,6 +234,70 @@ pub const PLANTS: &[(u8, &str, Dig)] = &[
         g.fit.mode_flag = 0;
         g.fit.mode = rng.pick(&[1, -1, i32::MIN]);
     }),
+    (11, "profile one byte short", |g, _| {
+        g.profile().damage.cut += 1
+    }),
+    (11, "one byte behind the profile", |g, rng| {
+        let more = rng.draw() as u8;
+        g.profile().damage.extra.push(more);
+    }),
+    (11, "profile of 1 byte", |g, _| replace_profile(g, 1)),
+    (11, "profile of 2 bytes", |g, _| replace_profile(g, 2)),
+    (11, "profile of 3 bytes", |g, _| replace_profile(g, 3)),
+    (11, "profile size one too high", |g, _| {
+        let size = g.profile().prices.len() as u32;
+        g.profile().damage.sizes.push((0, size + 1));
+    }),
+    (11, "profile size one too low", |g, _| {
+        let size = g.profile().prices.len() as u32;
+        g.profile().damage.sizes.push((0, size - 1));
+    }),
+    (11, "profile size of 0 before groups", |g, _| {
+        g.profile().damage.sizes.push((0, 0));
+    }),
+    (11, "profile size of 4,294,967,295", |g, _| {
+        g.profile().damage.sizes.push((0, u32::MAX));
+    }),
+    (11, "profile size that wraps 32 bits", |g, _| {
+        let size = g.profile().prices.len() as u32;
+        g.profile().damage.sizes.push((0, size + 0x2000_0000));
+    }),
+    (11, "profile of 4,097 groups", |g, _| {
+        let prices = &mut g.profile().prices;
+        let first = prices.iter().map(|price| price.group).max().unwrap_or(0);
+        let more = 4_097 - prices.len() as i32;
+        prices.extend((1..=more).map(|number| Price {
+            group: first + number,
+            points: 5,
+        }));
+    }),
+    (12, "group twice", |g, _| {
+        let prices = &mut g.profile().prices;
+        prices.insert(1, prices[1]);
+    }),
+    (12, "last group twice", |g, _| {
+        let prices = &mut g.profile().prices;
+        let last = prices[prices.len() - 1];
+        prices.push(last);
+    }),
+    (12, "groups descend", |g, _| g.profile().prices.swap(1, 2)),
+    (12, "groups descend below zero", |g, _| {
+        let points = 1;
+        g.profile().prices.push(Price { group: -1, points });
+    }),
+    (12, "points of 1,000,001", |g, rng| {
+        a_price(g, rng, 1_000_001)
+    }),
+    (12, "points of 2,147,483,648", |g, rng| {
+        a_price(g, rng, 2_147_483_648)
+    }),
+    (12, "points of 4,294,967,294", |g, rng| {
+        a_price(g, rng, 4_294_967_294)
+    }),
+    (12, "points of 1,000,001 at the end", |g, _| {
+        let prices = &mut g.profile().prices;
+        prices.last_mut().expect("a group").points = 1_000_001;
+    }),
     (8, "result R + 2", |g, _| {
         g.result = g.fit.results.len() as u32 + 2
     }),
@@ -248,6 +313,20 @@ pub const PLANTS: &[(u8, &str, Dig)] = &[
         g.room = Room::OneShort;
     }),
 ];
+
+/// Zero bytes in the place of a profile.
+fn replace_profile(ground: &mut Ground, length: usize) {
+    let damage = &mut ground.profile().damage;
+    damage.cut = usize::MAX;
+    damage.extra = vec![0; length];
+}
+
+/// Points for one of the profile's groups.
+fn a_price(ground: &mut Ground, rng: &mut Rng, points: u32) {
+    let prices = &mut ground.profile().prices;
+    let row = rng.below(prices.len());
+    prices[row].points = points;
+}
 
 fn catalogue_sizes(catalogue: &Catalogue) -> [u32; 5] {
     [

@@ -6,18 +6,20 @@ use std::path::PathBuf;
 use crate::files::Source;
 
 pub const USAGE: &str = "\
-Usage: fitcheck explain CATALOGUE FIT [--names FILE] [--json]
+Usage: fitcheck explain CATALOGUE FIT [--names FILE] [--profile FILE --allowance N] [--json]
        fitcheck hall CATALOGUE FOLDER [--json]
        fitcheck pack FIT.txt [--types FILE] [--out FOLDER]
+       fitcheck profile WORDS NEW [--names FILE]
        fitcheck widen OLD NEW
        fitcheck --help | --version";
 
 pub const HELP: &str = "\
 Says which fitting rules of EVE Online a fit breaks.
 
-Usage: fitcheck explain CATALOGUE FIT [--names FILE] [--json]
+Usage: fitcheck explain CATALOGUE FIT [--names FILE] [--profile FILE --allowance N] [--json]
        fitcheck hall CATALOGUE FOLDER [--json]
        fitcheck pack FIT.txt [--types FILE] [--out FOLDER]
+       fitcheck profile WORDS NEW [--names FILE]
        fitcheck widen OLD NEW
        fitcheck --help | --version
 
@@ -33,6 +35,9 @@ hall     Every file of a folder, in the order of the names' bytes: clear,
          begin with a dot.
 pack     A fit in words, as docs/CALLING.md describes them, made into the
          images FIT.bin and types.bin, with names.txt beside them.
+profile  A league's profile in words, `ban GROUP` and `price POINTS GROUP` on a line
+         each, made into the image NEW. A group is its id, or the name that
+         --names gives it.
 widen    An old catalogue, whose base values are f32, made into the file NEW in
          the form that the other commands read.
 
@@ -42,6 +47,8 @@ that lacks names or effects leaves rules unchecked: which, a warning says.
 --names FILE  What types and groups are called: a line `2048 Damage Control II`
               for a type, `group 60 Damage Control` for a group; empty lines
               and lines that begin with # are passed over.
+--profile FILE  The image of a league's profile: what it bans and what it prices.
+--allowance N   How many points the league allows, with --profile.
 --types FILE  The catalogue in words; else types.txt beside FIT.txt or one
               folder above it.
 --out FOLDER  Where the images go; else beside FIT.txt.
@@ -53,7 +60,7 @@ that lacks names or effects leaves rules unchecked: which, a warning says.
 Status: 0  explain: the fit is clear, which is that no rule is broken and all
            of it was checked (skills may be lacking);
            hall: all files counted, whatever the numbers;
-           pack, widen: written
+           pack, profile, widen: written
         1  refused, or a file cannot be read or written
         2  wrong usage
         3  explain: the fit is faulted
@@ -66,6 +73,7 @@ pub enum Command {
     Explain(Explain),
     Hall(Hall),
     Pack(Pack),
+    Profile(Profile),
     Widen(Widen),
 }
 
@@ -74,6 +82,8 @@ pub struct Explain {
     pub catalogue: Source,
     pub fit: Source,
     pub names: Option<PathBuf>,
+    /// A league's profile and what it allows.
+    pub league: Option<(PathBuf, u32)>,
     pub json: bool,
 }
 
@@ -89,6 +99,13 @@ pub struct Pack {
     pub fit: PathBuf,
     pub types: Option<PathBuf>,
     pub out: Option<PathBuf>,
+}
+
+#[derive(Debug, PartialEq)]
+pub struct Profile {
+    pub words: PathBuf,
+    pub new: PathBuf,
+    pub names: Option<PathBuf>,
 }
 
 #[derive(Debug, PartialEq)]
@@ -110,10 +127,12 @@ struct Words {
 }
 
 /// Options that have a value, and what it is.
-const VALUED: [(&str, &str); 3] = [
+const VALUED: [(&str, &str); 5] = [
     ("--names", "file"),
     ("--types", "file"),
     ("--out", "folder"),
+    ("--profile", "file"),
+    ("--allowance", "number"),
 ];
 
 impl Words {
@@ -198,6 +217,11 @@ pub fn parse(line: impl IntoIterator<Item = OsString>) -> Result<Command, String
             types: words.value("--types"),
             out: words.value("--out"),
         }),
+        Some("profile") => Command::Profile(Profile {
+            words: next("WORDS")?.0.into(),
+            new: next("NEW")?.0.into(),
+            names: words.value("--names"),
+        }),
         Some("widen") => Command::Widen(Widen {
             old: source(next("OLD")?),
             new: next("NEW")?.0.into(),
@@ -225,8 +249,28 @@ fn explain(
         catalogue,
         fit,
         names: words.value("--names"),
+        league: league(words)?,
         json: std::mem::take(&mut words.json),
     }))
+}
+
+/// A profile and its allowance. Either alone is a slip: without an allowance
+/// nothing says how many points are too many.
+fn league(words: &mut Words) -> Result<Option<(PathBuf, u32)>, String> {
+    let (profile, allowance) = (words.value("--profile"), words.value("--allowance"));
+    match (profile, allowance) {
+        (None, None) => Ok(None),
+        (Some(_), None) => Err("--profile wants --allowance beside it".to_string()),
+        (None, Some(_)) => Err("--allowance wants --profile beside it".to_string()),
+        (Some(profile), Some(allowance)) => {
+            let number = allowance.to_str().and_then(|word| word.parse().ok());
+            let number = number.ok_or_else(|| {
+                let shown = allowance.display();
+                format!("--allowance {shown} is no whole number up to {}", u32::MAX)
+            })?;
+            Ok(Some((profile, number)))
+        }
+    }
 }
 
 /// A path, or `-` for standard input where it does not stand behind `--`.
@@ -255,6 +299,7 @@ mod tests {
             catalogue: file("c"),
             fit: file("f"),
             names: Some("n".into()),
+            league: None,
             json: true,
         });
         for line in [
@@ -276,6 +321,25 @@ mod tests {
             out: Some("o".into()),
         });
         assert_eq!(parsed("pack --out o f.txt --types=t"), Ok(packed));
+        let priced = Command::Explain(Explain {
+            catalogue: file("c"),
+            fit: file("f"),
+            names: None,
+            league: Some(("p".into(), 120)),
+            json: false,
+        });
+        for line in [
+            "explain c f --profile p --allowance 120",
+            "--allowance=120 explain --profile=p c f",
+        ] {
+            assert_eq!(parsed(line).as_ref(), Ok(&priced), "{line}");
+        }
+        let profile = Command::Profile(Profile {
+            words: "w".into(),
+            new: "n".into(),
+            names: Some("g".into()),
+        });
+        assert_eq!(parsed("profile w n --names g"), Ok(profile));
         let widened = Command::Widen(Widen {
             old: file("old"),
             new: "-new".into(),
@@ -289,6 +353,7 @@ mod tests {
             catalogue: file("c"),
             fit: Source::StandardInput,
             names: None,
+            league: None,
             json: false,
         });
         assert_eq!(parsed("explain c -"), Ok(piped));
@@ -315,6 +380,25 @@ mod tests {
             ("pack", "pack wants a FIT.txt"),
             ("widen o", "widen wants a NEW"),
             ("widen o n --json", "widen takes no --json"),
+            (
+                "explain c f --profile p",
+                "--profile wants --allowance beside it",
+            ),
+            (
+                "explain c f --allowance 5",
+                "--allowance wants --profile beside it",
+            ),
+            (
+                "explain c f --profile p --allowance many",
+                "--allowance many is no whole number up to 4294967295",
+            ),
+            (
+                "explain c f --profile p --allowance 4294967296",
+                "--allowance 4294967296 is no whole number up to 4294967295",
+            ),
+            ("explain c f --allowance", "--allowance wants a number"),
+            ("hall c f --profile p", "hall takes no --profile"),
+            ("profile w", "profile wants a NEW"),
             ("pack f --out=", "--out wants a folder"),
             ("explain c f --jsn", "there is no option --jsn"),
             ("explian c f", "there is no command explian"),

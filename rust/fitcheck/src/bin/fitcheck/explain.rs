@@ -2,10 +2,10 @@
 
 use std::io::Write;
 
-use fitcheck::{Explainer, ListOptions, Report, SkillOptions};
+use fitcheck::{Explainer, ListOptions, Refusal, Report, SkillOptions};
 
 use crate::args::Explain;
-use crate::files;
+use crate::files::{self, Source};
 use crate::{DONE, FAULTED, Trouble, refused, warn};
 
 pub fn run(asked: &Explain, out: &mut impl Write) -> Result<u8, Trouble> {
@@ -13,16 +13,17 @@ pub fn run(asked: &Explain, out: &mut impl Write) -> Result<u8, Trouble> {
     let catalogue = files::catalogue(&asked.catalogue)?;
     let fit = files::fit(&asked.fit)?;
 
-    let made = Report::new(&catalogue, &fit, &ListOptions::new(), &SkillOptions::new());
+    let mut options = ListOptions::new();
+    let profile;
+    if let Some((path, allowance)) = &asked.league {
+        profile = files::profile(path)?;
+        options = options.league(&profile, *allowance);
+    }
+
+    let made = Report::new(&catalogue, &fit, &options, &SkillOptions::new());
     let report = match made {
         Ok(report) => report,
-        Err(refusal) => {
-            let source = match refusal.is_of_catalogue() {
-                true => &asked.catalogue,
-                false => &asked.fit,
-            };
-            return refused(out, source, refusal, asked.json);
-        }
+        Err(refusal) => return refused(out, &blamed(asked, refusal), refusal, asked.json),
     };
     warn(&asked.catalogue, &catalogue);
     let explainer = Explainer::new(&fit, &names);
@@ -31,4 +32,13 @@ pub fn run(asked: &Explain, out: &mut impl Write) -> Result<u8, Trouble> {
         false => out.write_all(report.text(&explainer).as_bytes())?,
     }
     Ok(if report.is_clear() { DONE } else { FAULTED })
+}
+
+/// What is refused.
+fn blamed(asked: &Explain, refusal: Refusal) -> Source {
+    match &asked.league {
+        Some((path, _)) if refusal.is_of_profile() => Source::File(path.clone()),
+        _ if refusal.is_of_catalogue() => asked.catalogue.clone(),
+        _ => asked.fit.clone(),
+    }
 }

@@ -6,7 +6,7 @@ use std::fs::{self, File};
 use std::io::{self, Read};
 use std::path::{Path, PathBuf};
 
-use fitcheck::{CATALOGUE_BYTES, FIT_BYTES, Names};
+use fitcheck::{CATALOGUE_BYTES, FIT_BYTES, Names, PROFILE_BYTES};
 
 /// Where an image is read from.
 #[derive(Debug, Clone, PartialEq)]
@@ -32,6 +32,17 @@ pub fn catalogue(source: &Source) -> Result<Vec<u8>, String> {
 /// A fit's bytes. Of one that is too long, as many as show it.
 pub fn fit(source: &Source) -> Result<Vec<u8>, String> {
     at_most(source, FIT_BYTES).map_err(|error| format!("{source}: {error}"))
+}
+
+/// A league profile's bytes. An empty file is no profile: the call would list
+/// as if no league had been asked for.
+pub fn profile(path: &Path) -> Result<Vec<u8>, String> {
+    let source = Source::File(path.to_path_buf());
+    let bytes = at_most(&source, PROFILE_BYTES).map_err(|error| format!("{source}: {error}"))?;
+    match bytes.is_empty() {
+        true => Err(format!("{source}: it is empty, and so no profile")),
+        false => Ok(bytes),
+    }
 }
 
 /// The same of a file in a folder, whose name is said elsewhere.

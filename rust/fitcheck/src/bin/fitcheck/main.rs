@@ -8,6 +8,7 @@ mod explain;
 mod files;
 mod hall;
 mod pack;
+mod profile;
 mod widen;
 
 use std::io::{self, ErrorKind, Write};
@@ -89,6 +90,7 @@ fn run(out: &mut impl Write) -> Result<u8, Trouble> {
         Ok(Command::Explain(asked)) => explain::run(&asked, out),
         Ok(Command::Hall(asked)) => hall::run(&asked, out),
         Ok(Command::Pack(asked)) => pack::run(&asked, out),
+        Ok(Command::Profile(asked)) => profile::run(&asked, out),
         Ok(Command::Widen(asked)) => widen::run(&asked, out),
         Err(wrong) => {
             complain(&format!("{wrong}\n\n{}", args::USAGE));

@@ -1,0 +1,42 @@
+-- What stands behind the Rust's list: on a hull the rules of document 02, else nothing; and nothing without a profile.
+use Prim.Native.Nat.{ℕ}
+use mathlib.Core.Path.{_≡_, refl, sym, ap, _∙_}
+use mathlib.Core.Bool.{Bool, true, false, cond}
+use mathlib.Core.List.{List, [], _++_, append-nil}
+use Rattle.words.specs.Words.{tableFrom}
+use Rattle.image.specs.Bytes.{u32At}
+use Rattle.profile.specs.Profile.{pricesOf}
+use Rattle.catalogue.specs.Catalogue.{Catalogue, catalogueOf}
+use Rattle.fit.specs.Fit.{Fit, fitOf}
+use Rattle.entry.specs.declared.Entry.{Entry}
+use Rattle.context.specs.Context.{Pair, pairs}
+use Rattle.context.specs.Gathered.{pairsOf}
+use Rattle.league.proofs.Without.{no-profile}
+use Rattle.validate.specs.Kind.{isHull}
+use Rattle.validate.specs.Validate.{listOf}
+use Rattle.lists.specs.Terms.{Terms, terms}
+use Rattle.lists.specs.Lists.{onHull, leagueOf, wholeWith, wholeList}
+
+module _ (catalogue fit : List ℕ) (t : Terms) where
+  pub on-hull : isHull (catalogueOf catalogue) (fitOf fit .frame .ship) ≡ true
+      → listOf (catalogueOf catalogue) (fitOf fit) ++ leagueOf t (pairsOf catalogue fit) ≡ wholeList t (catalogueOf catalogue) (fitOf fit)
+  unfolding wholeList wholeWith onHull listOf pairsOf
+  on-hull e = rw e
+
+  pub no-hull : isHull (catalogueOf catalogue) (fitOf fit .frame .ship) ≡ false
+      → listOf (catalogueOf catalogue) (fitOf fit) ≡ wholeList t (catalogueOf catalogue) (fitOf fit)
+  unfolding wholeList wholeWith onHull listOf
+  no-hull e = rw e (sym (append-nil _))
+
+no-league : (allowance : ℕ) (ps : List Pair) → leagueOf (terms [] allowance) ps ≡ []
+unfolding pricesOf tableFrom u32At
+no-league allowance ps = no-profile allowance ps
+
+-- without a profile it is the Rust's
+pub rust-list : (allowance : ℕ) (c : Catalogue) (f : Fit) → wholeList (terms [] allowance) c f ≡ listOf c f
+unfolding wholeList wholeWith onHull listOf
+rust-list allowance c f = ap (λ (es : List Entry). listOf c f ++ es) (go (isHull c (f .frame .ship))) ∙ append-nil _
+  where
+    go : (b : Bool) → cond b (leagueOf (terms [] allowance) (pairs c f)) [] ≡ []
+    go true = no-league allowance (pairs c f)
+    go false = refl

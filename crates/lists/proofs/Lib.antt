@@ -1,0 +1,2 @@
+-- Laws of the whole list.
+pub mod Behind

@@ -1,0 +1,43 @@
+-- `lists::write` meets its contract: the Rust's list, and behind a hull's the league's.
+use native.Mathlib.Omega.{arith}
+use mathlib.Core.Path.{sym, _∙_}
+use borrow.Author.Needs.{needs}
+use borrow.Author.Tests.{not-true, not-false}
+use Rattle.entry.proofs.Wrote.{wrote-append, wrote-same}
+use Rattle.lists.specs.Terms.{terms}
+use Rattle.lists.proofs.Behind.{on-hull, no-hull}
+use Rattle.lists.proofs.write.Statement.{statement}
+use Rattle.lists.proofs.write.Tie as tie
+
+returns : tie.Need-returns
+returns c =
+    let v = c .before .before .before .before .before .before in
+    let a = v .before .before .before .before .before .before .before .before .args in
+    let off = sym (c .before .is-hull .ensures) ∙ not-true _ (c .if1 .taken) in
+    let w = v .validate .ensures in
+    (wrote-same (no-hull (a .catalogue .now) (a .fit .now) (terms (a .profile .now) (a .allowance)) off) (w .0), omega (arith, w .1))
+
+returns-2 : tie.Need-returns-2
+returns-2 c =
+    let i = c .before .before .before .before in
+    let v = i .before .before .before .before .before .before in
+    let a = v .before .before .before .before .before .before .before .before .args in
+    let on = sym (i .before .is-hull .ensures) ∙ not-false _ (i .if1 .left) in
+    let w = v .validate .ensures in
+    let l = c .before .before .validate2 .ensures in
+    let es = wrote-append (w .0) (l .0) in
+    (wrote-same (on-hull (a .catalogue .now) (a .fit .now) (terms (a .profile .now) (a .allowance)) on) es, omega (arith, w .1, l .1))
+
+pub write-spec : {M : Type 1} → statement M
+write-spec =
+    tie.close
+    (tie.spec
+    (λ c κs. search needs)
+    (λ c κs. search needs)
+    (λ c. search needs)
+    (λ c. search needs)
+    returns
+    (λ c κs. search needs)
+    (λ c. search needs)
+    (λ c. search needs)
+    returns-2)

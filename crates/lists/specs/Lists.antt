@@ -1,0 +1,33 @@
+-- The whole list: the Rust's, and behind it, on a hull, what document 02 adds.
+use Prim.Native.Nat.{ℕ, _+_}
+use mathlib.Core.Bool.{cond}
+use mathlib.Core.List.{List, [], _++_}
+use Rattle.numbers.specs.Sizes as Sizes
+use Rattle.profile.specs.Profile.{pricesOf}
+use Rattle.catalogue.specs.Catalogue.{Id, Catalogue}
+use Rattle.fit.specs.Fit.{Frame, Fit}
+use Rattle.entry.specs.declared.Entry.{Entry}
+use Rattle.context.specs.Context.{Pair, pairs}
+use Rattle.league.specs.League.{league}
+use Rattle.validate.specs.Kind.{isHull}
+use Rattle.validate.specs.Validate as Rust
+use Rattle.validate.specs.Validate.{listWith}
+use Rattle.lists.specs.Terms.{Terms}
+
+-- what stands behind the list of a hull, and of nothing else
+unfoldable pub onHull : Catalogue → Frame → List Entry → List Entry
+onHull c k es = cond (isHull c (k .ship)) es []
+
+-- P2: rules 24 and 25
+abbrev pub leagueOf : Terms → List Pair → List Entry
+leagueOf t ps = league (pricesOf (t .profile)) (t .allowance) ps
+
+unfoldable pub wholeWith : Terms → Catalogue → Frame → List Id → List Pair → List Entry
+wholeWith t c k ids ps = listWith c k ids ps ++ onHull c k (leagueOf t ps)
+
+unfoldable pub wholeList : Terms → Catalogue → Fit → List Entry
+wholeList t c f = wholeWith t c (f .frame) (f .skills) (pairs c f)
+
+-- no list has more entries: the Rust's, a ban for each pair, the points
+abbrev pub mostEntries : ℕ
+mostEntries = Rust.mostEntries + Sizes.mostPairs + 1
