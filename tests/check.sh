@@ -33,8 +33,8 @@ zeros 'fit.bin of 65537 bytes' 20 65537 'too long\n'
 zeros 'both of 65537 bytes' 65537 65537 'too long\n'
 zeros 'a long fit.bin without types.bin' - 65537 'too long\n'
 
-# full NAME SKILLS: 256 items in one rig slot, each of which breaks eight rules, and so many types that are no skills: 2,048 entries
-# and one for each such type. 65,520 bytes hold 2,730.
+# full NAME SKILLS: 256 items in one rig slot, of a type that is missing, each of which breaks nine rules, and so many types that are
+# no skills: 2,304 entries and one for each such type. 65,520 bytes hold 2,730.
 full() {
     mkdir -p "$room/$1"
     # shellcheck disable=SC2059
@@ -73,19 +73,20 @@ full() {
     gives "$1" "$room/$1" "$room/$1.expected"
 }
 
-# NotASkill; NotAModule and SlotTaken, pair by pair; RigSize; ShipRestricted; MaxGroup in its three states; MaxType
+# NotASkill; NotAModule and SlotTaken, pair by pair; RigSize; ShipRestricted; MaxGroup in its three states; MaxType; UnknownType
 awk 'BEGIN {
-    for (k = 1; k <= 682; k++) print "0 0 21 0 " k " 0 0 0"
+    for (k = 1; k <= 426; k++) print "0 0 21 0 " k " 0 0 0"
     for (k = 0; k < 256; k++) { print "1 " k " 4 0 0 0 0 0"; print "1 " k " 8 0 0 0 0 0" }
     for (k = 0; k < 256; k++) print "1 " k " 12 0 1 2 0 0"
     for (k = 0; k < 256; k++) print "1 " k " 13 0 0 0 0 0"
     for (l = 0; l < 3; l++) for (k = 0; k < 256; k++) print "1 " k " 17 " l " 0 256 1 0"
     for (k = 0; k < 256; k++) print "1 " k " 18 0 5 256 1 0"
+    for (k = 0; k < 256; k++) print "1 " k " 26 0 5 0 0 0"
     print "count 2730"
 }' >"$room/2730 entries.expected"
-full '2730 entries' 682
+full '2730 entries' 426
 echo 'refused 10' >"$room/2731 entries.expected"
-full '2731 entries' 683
+full '2731 entries' 427
 
 # the worked bytes of docs/FORMAT.md, and what the page says that is printed of them
 mkdir "$room/page"
@@ -95,6 +96,13 @@ awk '/^```/ { inside = $0 == "```text printed"; next } inside' "$page" >"$room/p
 [ -s "$room/page.expected" ]
 verdict 'docs/FORMAT.md has what is printed' $?
 gives 'docs/FORMAT.md' "$room/page" "$room/page.expected"
+
+# the same with item 0 of type 2049, which the catalogue lacks: UnknownType at the end
+cp -R "$room/page" "$room/missing"
+printf '\001' | dd of="$room/missing/fit.bin" bs=1 seek=33 conv=notrunc 2>/dev/null
+printf '%s\n' '0 0 1 0 0 1080217600 0 1080049664' '1 0 4 0 0 0 0 0' '1 0 8 0 0 0 0 0' '1 1 8 0 0 0 0 0' '1 0 26 0 2049 0 0 0' \
+    'count 5' >"$room/missing.expected"
+gives 'docs/FORMAT.md, a type missing' "$room/missing" "$room/missing.expected"
 
 # the folder is the caller's, and where none is named the one that it is run in
 (cd "$root/samples" && ../check clear) | cmp -s - "$root/samples/clear/expected"

@@ -132,7 +132,7 @@ pub fn interface_problem(archive: &[u8]) -> Option<String> {
         ),
         Some(other) => format!(
             "is of interface {}, and the calls here are those of interface {number}: their \
-             parameters or images differ.",
+             parameters, images or rules differ.",
             &other[INTERFACE.len()..]
         ),
     })

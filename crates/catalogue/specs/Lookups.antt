@@ -1,6 +1,6 @@
 -- Reading a catalogue, as `Context` and `slots_of` in validate/mod.rs do: each lookup takes the first match in stored order.
 use Prim.Native.Nat.{ℕ, _-_}
-use mathlib.Core.Bool.{_&&_, cond}
+use mathlib.Core.Bool.{Bool, true, false, _&&_, cond}
 use mathlib.Core.List.{List, [], _∷_, foldl}
 use mathlib.Core.Option.{Option, none, some}
 use lib.IntN.{pos}
@@ -19,6 +19,10 @@ module _ (c : Catalogue) where
   -- `get_type`
   unfoldable pub typeOf : Id → Option TypeData
   typeOf t = find (λ x. same (x .id) t) (c .types)
+
+  -- whether the type is there, whatever its group
+  unfoldable pub isKnown : Id → Bool
+  isKnown t = given (typeOf t) false (λ x. true)
 
   -- a type that is not there has group 0, category 0
   unfoldable pub groupOf : Id → Id

@@ -3,12 +3,17 @@ use Prim.Native.Nat.{ℕ, zero, suc, _+_, _*_, _<_}
 use native.Mathlib.Nat.{eq-or-lt-of-le, le-of-suc-le-suc}
 use native.Mathlib.Omega.{arith}
 use mathlib.Core.Path.{_≡_, refl, sym, ap, ap₂, subst, _∙_}
+use mathlib.Core.Bool.{Bool}
 use mathlib.Core.List.{List, [], _∷_}
 use mathlib.Core.Logic.{⊎-elim}
+use lib.Dec.{eqb}
 use lib.ListN.{length, getD, set, length-set}
 use lib.Seq.{getD-set-same, getD-set-other}
 use Rattle.image.specs.Bytes.{signed32}
-use Rattle.context.specs.Gathered.{pairAt, slotIn, ofHalves, shipGroupAt, shipCategoryAt, groupsAt, categoriesAt, racksAt, hardpointsAt, lowsAt, highsAt, factCount, Pairs, Before, fill}
+use Rattle.catalogue.specs.Catalogue.{catalogueOf}
+use Rattle.catalogue.specs.Lookups.{isKnown}
+use Rattle.context.specs.Gathered.{pairAt, slotIn, ofHalves, shipGroupAt, shipCategoryAt, shipKnownAt, factCount}
+use Rattle.context.specs.Gathered.{groupsAt, categoriesAt, racksAt, hardpointsAt, lowsAt, highsAt, knownsAt, Pairs, Before, fill}
 
 -- ---- any words
 fill-length : (l : List ℕ) (i at : ℕ) (ws : List ℕ) → length (fill l i at ws) ≡ length l
@@ -37,10 +42,14 @@ fill-here l i at (w ∷ ws) zero j e h q =
 fill-here l i at (w ∷ ws) (suc s) j e h q =
     fill-here (set l (at + i) w) i (at + 256) ws s j (omega (arith, e)) (le-of-suc-le-suc h) (omega (arith, q, length-set l (at + i) w))
 
+-- a word that says whether a type is there
+abbrev pub is-one : ℕ → Bool
+is-one w = eqb w 1
+
 -- ---- the words of one pair more
-module _ (catalogue fit facts : List ℕ) (i g c r h lo hi : ℕ) (small : i < 256) (size : length facts ≡ factCount) where
+module _ (catalogue fit facts : List ℕ) (i g c r h lo hi kn : ℕ) (small : i < 256) (size : length facts ≡ factCount) where
   words : List ℕ
-  words = g ∷ c ∷ r ∷ h ∷ lo ∷ hi ∷ []
+  words = g ∷ c ∷ r ∷ h ∷ lo ∷ hi ∷ kn ∷ []
 
   -- facts with them
   new : List ℕ
@@ -50,7 +59,7 @@ module _ (catalogue fit facts : List ℕ) (i g c r h lo hi : ℕ) (small : i < 2
   unfolding new
   kept s k l = fill-other facts i groupsAt words (groupsAt + 256 * s + k) (λ s′ e. omega (arith, e, l, small))
 
-  here : (s : ℕ) → s < 6 → getD new (groupsAt + 256 * s + i) 0 ≡ getD words s 0
+  here : (s : ℕ) → s < 7 → getD new (groupsAt + 256 * s + i) 0 ≡ getD words s 0
   unfolding new words
   here s l = fill-here facts i groupsAt words s (groupsAt + 256 * s + i) (omega arith) l (omega (arith, size, l, small))
 
@@ -61,9 +70,10 @@ module _ (catalogue fit facts : List ℕ) (i g c r h lo hi : ℕ) (small : i < 2
   pub pairs-more : signed32 g ≡ pairAt catalogue fit i .group → signed32 c ≡ pairAt catalogue fit i .category
       → slotIn r ≡ pairAt catalogue fit i .rack → slotIn h ≡ pairAt catalogue fit i .hardpoint
       → ofHalves lo hi ≡ pairAt catalogue fit i .volume
-      → Pairs catalogue fit i facts → Pairs catalogue fit (i + 1) (fill facts i groupsAt (g ∷ c ∷ r ∷ h ∷ lo ∷ hi ∷ []))
+      → eqb kn 1 ≡ isKnown (catalogueOf catalogue) (pairAt catalogue fit i .type)
+      → Pairs catalogue fit i facts → Pairs catalogue fit (i + 1) (fill facts i groupsAt (g ∷ c ∷ r ∷ h ∷ lo ∷ hi ∷ kn ∷ []))
   unfolding new words
-  pairs-more eg ec er eh ev p = record {
+  pairs-more eg ec er eh ev ek p = record {
     groups = one-more (λ k. signed32 (getD new (groupsAt + k) 0) ≡ pairAt catalogue fit k .group)
         (λ k l. ap signed32 (kept 0 k l) ∙ p .groups k l) (ap signed32 (here 0 (omega arith)) ∙ eg);
     categories = one-more (λ k. signed32 (getD new (categoriesAt + k) 0) ≡ pairAt catalogue fit k .category)
@@ -75,13 +85,15 @@ module _ (catalogue fit facts : List ℕ) (i g c r h lo hi : ℕ) (small : i < 2
     volumes = one-more (λ k. ofHalves (getD new (lowsAt + k) 0) (getD new (highsAt + k) 0) ≡ pairAt catalogue fit k .volume)
         (λ k l. ap₂ ofHalves (kept 4 k l) (kept 5 k l) ∙ p .volumes k l)
         (ap₂ ofHalves (here 4 (omega arith)) (here 5 (omega arith)) ∙ ev);
+    knowns = one-more (λ k. eqb (getD new (knownsAt + k) 0) 1 ≡ isKnown (catalogueOf catalogue) (pairAt catalogue fit k .type))
+        (λ k l. ap is-one (kept 6 k l) ∙ p .knowns k l) (ap is-one (here 6 (omega arith)) ∙ ek);
   }
 
-  pub before-more : (old : List ℕ) → Before groupsAt old facts → Before groupsAt old (fill facts i groupsAt (g ∷ c ∷ r ∷ h ∷ lo ∷ hi ∷ []))
-  before-more old b j l = fill-other facts i groupsAt (g ∷ c ∷ r ∷ h ∷ lo ∷ hi ∷ []) j (λ s e. omega (arith, e, l)) ∙ b j l
+  pub before-more : (old : List ℕ) → Before groupsAt old facts → Before groupsAt old (fill facts i groupsAt (g ∷ c ∷ r ∷ h ∷ lo ∷ hi ∷ kn ∷ []))
+  before-more old b j l = fill-other facts i groupsAt (g ∷ c ∷ r ∷ h ∷ lo ∷ hi ∷ kn ∷ []) j (λ s e. omega (arith, e, l)) ∙ b j l
 
-  pub size-more : length (fill facts i groupsAt (g ∷ c ∷ r ∷ h ∷ lo ∷ hi ∷ [])) ≡ factCount
-  size-more = fill-length facts i groupsAt (g ∷ c ∷ r ∷ h ∷ lo ∷ hi ∷ []) ∙ size
+  pub size-more : length (fill facts i groupsAt (g ∷ c ∷ r ∷ h ∷ lo ∷ hi ∷ kn ∷ [])) ≡ factCount
+  size-more = fill-length facts i groupsAt (g ∷ c ∷ r ∷ h ∷ lo ∷ hi ∷ kn ∷ []) ∙ size
 
 -- no pair yet
 pub pairs-none : (catalogue fit facts : List ℕ) → Pairs catalogue fit 0 facts
@@ -92,16 +104,29 @@ pairs-none catalogue fit facts =
       racks = λ k l. absurd (none k l);
       hardpoints = λ k l. absurd (none k l);
       volumes = λ k l. absurd (none k l);
+      knowns = λ k l. absurd (none k l);
     }
   where
     none : (k : ℕ) → k < 0 → ⊥
     none k l = omega arith
 
--- the ship's two words, and what stands before them, once the pairs are gathered
-pub ship-put : (old new : List ℕ) (g c : ℕ) → length old ≡ factCount → Before groupsAt (set (set old shipGroupAt g) shipCategoryAt c) new
-    → (getD new shipGroupAt 0 ≡ g) × (getD new shipCategoryAt 0 ≡ c) × Before shipGroupAt old new
-ship-put old new g c size b = (
-  b 259 (omega arith) ∙ getD-set-other (set old 259 g) 260 259 c 0 (λ e. omega (arith, e)) ∙ getD-set-same old 259 g 0 (omega (arith, size)),
-  b 260 (omega arith) ∙ getD-set-same (set old 259 g) 260 c 0 (omega (arith, size, length-set old 259 g)),
-  λ j h. b j (omega (arith, h)) ∙ getD-set-other (set old 259 g) 260 j c 0 (λ e. omega (arith, e, h)) ∙ getD-set-other old 259 j g 0 (λ e. omega (arith, e, h)),
-)
+-- the ship's three words, and what stands before them, once the pairs are gathered
+pub ship-put : (old new : List ℕ) (g c k : ℕ) → length old ≡ factCount
+    → Before groupsAt (set (set (set old shipGroupAt g) shipCategoryAt c) shipKnownAt k) new
+    → (getD new shipGroupAt 0 ≡ g) × (getD new shipCategoryAt 0 ≡ c) × (getD new shipKnownAt 0 ≡ k) × Before shipGroupAt old new
+ship-put old new g c k size b =
+    let a = set old shipGroupAt g in
+    let d = set a shipCategoryAt c in
+    let m : length a ≡ factCount = length-set old shipGroupAt g ∙ size in
+    let n : length d ≡ factCount = length-set a shipCategoryAt c ∙ m in (
+      b 259 (omega arith)
+          ∙ getD-set-other d 261 259 k 0 (λ e. omega (arith, e))
+          ∙ getD-set-other a 260 259 c 0 (λ e. omega (arith, e))
+          ∙ getD-set-same old 259 g 0 (omega (arith, size)),
+      b 260 (omega arith) ∙ getD-set-other d 261 260 k 0 (λ e. omega (arith, e)) ∙ getD-set-same a 260 c 0 (omega (arith, m)),
+      b 261 (omega arith) ∙ getD-set-same d 261 k 0 (omega (arith, n)),
+      λ j h. b j (omega (arith, h))
+          ∙ getD-set-other d 261 j k 0 (λ e. omega (arith, e, h))
+          ∙ getD-set-other a 260 j c 0 (λ e. omega (arith, e, h))
+          ∙ getD-set-other old 259 j g 0 (λ e. omega (arith, e, h)),
+    )

@@ -13,35 +13,43 @@ ghost use lib.ListN.{length, getD};
 ghost use Rattle.numbers.specs.Slots as Slots;
 ghost use Rattle.catalogue.specs.Catalogue.{catalogueOf};
 ghost use Rattle.catalogue.specs.Sound as Catalogue;
+ghost use Rattle.catalogue.specs.Lookups.{isKnown};
 ghost use Rattle.catalogue.specs.Answers.{slotOf};
+ghost use Rattle.fit.specs.Fit.{fitOf};
 ghost use Rattle.fit.specs.Sound as Fit;
 ghost use Rattle.context.specs.Context.{isFitted, isIn, isOnHull, isModuleCategory};
-ghost use Rattle.context.specs.Gathered.{pairCount, pairAt, contextOf, slotIn, Below, TypeFacts};
-ghost use Rattle.context.specs.Gathered.{groupsAt, factCount, Pairs, Gathered, WordsFrom, WordsOf, fill, listOfWords, Before};
+ghost use Rattle.context.specs.Gathered.{pairCount, pairAt, contextOf, slotIn, Below, ShipOf};
+ghost use Rattle.context.specs.Gathered.{groupsAt, factCount, Pairs, Gathered};
+ghost use Rattle.context.specs.Gathered.{KnownWords, UnknownWords, WordsOf, fill, listOfWords, Before};
 
-// What a call gathers stands in one array of words: where each result's attributes begin, the ship's group and category, and for each
-// pair what the catalogue says of its type. A slot of 8 is none.
+// What a call gathers stands in one array of words: where each result's attributes begin, and what the catalogue says of the type of the
+// ship and of each pair: whether it is there, and, as the rules read it, group 0, category 0 and no volume where it is not. A slot of 8
+// is none.
 const SHIP_GROUP: usize = 259;
 
 const SHIP_CATEGORY: usize = 260;
 
-const GROUPS: usize = 261;
+const SHIP_KNOWN: usize = 261;
 
-const CATEGORIES: usize = 517;
+const GROUPS: usize = 262;
 
-const RACKS: usize = 773;
+const CATEGORIES: usize = 518;
 
-const HARDPOINTS: usize = 1029;
+const RACKS: usize = 774;
+
+const HARDPOINTS: usize = 1030;
 
 // The two halves of a volume's bits.
-const LOWS: usize = 1285;
+const LOWS: usize = 1286;
 
-const HIGHS: usize = 1541;
+const HIGHS: usize = 1542;
+
+const KNOWNS: usize = 1798;
 
 // So many hints has a list: four searches in step fill them just ahead of use. A hall, whose fits name the same types again, has more.
 pub const LIST_HINTS: usize = 64;
 
-// What is kept of a type.
+// What is kept of a pair's type; `known` is 1 where the catalogue has it.
 struct TypeWords {
     group: u32,
     category: u32,
@@ -49,22 +57,14 @@ struct TypeWords {
     hardpoint: u32,
     low: u32,
     high: u32,
+    known: u32,
 }
 
-// A type that the catalogue lacks has group 0, category 0 and no volume.
-pub fn type_facts(catalogue: &[u8], id: i32, hints: &mut [u32]) -> TypeInfo
-    requires { ⌜ Catalogue.Sound (now catalogue) ⌝ }
-    ensures { λ r. ⌜ TypeFacts (catalogueOf (now (catalogue .entry))) id r ⌝ }
-{
-    let answer = catalogue::type_of(catalogue, id, hints);
-    match answer {
-        TypeAnswer::Known(info) => info,
-        TypeAnswer::Unknown => TypeInfo {
-            group: 0,
-            category: 0,
-            volume: 0.0,
-        },
-    }
+// What is kept of the ship's type.
+struct ShipWords {
+    group: u32,
+    category: u32,
+    known: u32,
 }
 
 // A slot as a word.
@@ -91,9 +91,10 @@ fn high(x: u64) -> u32
     (x / 4294967296) as u32
 }
 
-fn words_from(info: TypeInfo, marks: SlotMarks) -> TypeWords
+// Of a type that is there.
+fn known_words(info: TypeInfo, marks: SlotMarks) -> TypeWords
     requires { ⌜ Below 8 (slotOf (marks .rack)) × Below 8 (slotOf (marks .hardpoint)) ⌝ }
-    ensures { λ r. ⌜ WordsFrom info marks r ⌝ }
+    ensures { λ r. ⌜ KnownWords info marks r ⌝ }
 {
     let rack = marks.rack;
     let hardpoint = marks.hardpoint;
@@ -105,6 +106,25 @@ fn words_from(info: TypeInfo, marks: SlotMarks) -> TypeWords
         hardpoint: code(hardpoint),
         low: low(volume),
         high: high(volume),
+        known: 1,
+    }
+}
+
+// Of a type that the catalogue lacks: its marks alone, which stand by its id.
+fn unknown_words(marks: SlotMarks) -> TypeWords
+    requires { ⌜ Below 8 (slotOf (marks .rack)) × Below 8 (slotOf (marks .hardpoint)) ⌝ }
+    ensures { λ r. ⌜ UnknownWords marks r ⌝ }
+{
+    let rack = marks.rack;
+    let hardpoint = marks.hardpoint;
+    TypeWords {
+        group: 0,
+        category: 0,
+        rack: code(rack),
+        hardpoint: code(hardpoint),
+        low: 0,
+        high: 0,
+        known: 0,
     }
 }
 
@@ -112,8 +132,31 @@ fn words_of(catalogue: &[u8], id: i32, hints: &mut [u32]) -> TypeWords
     requires { ⌜ Catalogue.Sound (now catalogue) ⌝ }
     ensures { λ r. ⌜ WordsOf (catalogueOf (now (catalogue .entry))) id r ⌝ }
 {
-    let info = type_facts(catalogue, id, hints);
-    words_from(info, catalogue::slots_of(catalogue, id, hints))
+    let marks = catalogue::slots_of(catalogue, id, hints);
+    let answer = catalogue::type_of(catalogue, id, hints);
+    match answer {
+        TypeAnswer::Known(info) => known_words(info, marks),
+        TypeAnswer::Unknown => unknown_words(marks),
+    }
+}
+
+fn ship_words(catalogue: &[u8], id: i32, hints: &mut [u32]) -> ShipWords
+    requires { ⌜ Catalogue.Sound (now catalogue) ⌝ }
+    ensures { λ r. ⌜ ShipOf (catalogueOf (now (catalogue .entry))) id r ⌝ }
+{
+    let answer = catalogue::type_of(catalogue, id, hints);
+    match answer {
+        TypeAnswer::Known(info) => ShipWords {
+            group: image::bits(info.group),
+            category: image::bits(info.category),
+            known: 1,
+        },
+        TypeAnswer::Unknown => ShipWords {
+            group: 0,
+            category: 0,
+            known: 0,
+        },
+    }
 }
 
 fn put_words(facts: &mut [u32], i: usize, w: TypeWords)
@@ -126,6 +169,7 @@ fn put_words(facts: &mut [u32], i: usize, w: TypeWords)
     facts[HARDPOINTS + i] = w.hardpoint;
     facts[LOWS + i] = w.low;
     facts[HIGHS + i] = w.high;
+    facts[KNOWNS + i] = w.known;
 }
 
 // At every fourth pair the next four are looked for at once. A hall, which has more hints than a list, looks for none twice.
@@ -168,15 +212,16 @@ fn gather_pairs(catalogue: &[u8], fit: &[u8], hints: &mut [u32], facts: &mut [u3
 }
 
 // `hints` are those of `catalogue::type_of`.
-pub fn gather(catalogue: &[u8], fit: &[u8], hints: &mut [u32]) -> [u32; 1797]
+pub fn gather(catalogue: &[u8], fit: &[u8], hints: &mut [u32]) -> [u32; 2054]
     requires { ⌜ Catalogue.Sound (now catalogue) × Fit.Sound (now fit) ⌝ }
     ensures { λ r. ⌜ Gathered (now (catalogue .entry)) (now (fit .entry)) r ⌝ }
 {
-    let mut facts = [0u32; 1797];
+    let mut facts = [0u32; 2054];
     fit::find_starts(fit, &mut facts);
-    let ship = type_facts(catalogue, fit::ship(fit), hints);
-    facts[SHIP_GROUP] = image::bits(ship.group);
-    facts[SHIP_CATEGORY] = image::bits(ship.category);
+    let ship = ship_words(catalogue, fit::ship(fit), hints);
+    facts[SHIP_GROUP] = ship.group;
+    facts[SHIP_CATEGORY] = ship.category;
+    facts[SHIP_KNOWN] = ship.known;
     gather_pairs(catalogue, fit, hints, &mut facts);
     facts
 }
@@ -196,7 +241,7 @@ pub fn is_module_category(category: i32) -> bool
 
 // ---- what was gathered
 
-fn word(facts: &[u32; 1797], at: usize) -> u32
+fn word(facts: &[u32; 2054], at: usize) -> u32
     requires { ⌜ at < factCount ⌝ }
     ensures { λ r. ⌜ r ≡ getD (now (facts .entry)) at 0 ⌝ }
 {
@@ -210,28 +255,35 @@ fn slot_in(w: u32) -> u8
     if w < 8 { w as u8 } else { 8 }
 }
 
-pub fn ship_group(catalogue: &[u8], fit: &[u8], facts: &[u32; 1797]) -> i32
+pub fn ship_group(catalogue: &[u8], fit: &[u8], facts: &[u32; 2054]) -> i32
     requires { ⌜ Gathered (now catalogue) (now fit) (now facts) ⌝ }
     ensures { λ r. ⌜ r ≡ contextOf (now (catalogue .entry)) (now (fit .entry)) .group ⌝ }
 {
     image::signed(word(facts, SHIP_GROUP))
 }
 
-pub fn ship_category(catalogue: &[u8], fit: &[u8], facts: &[u32; 1797]) -> i32
+pub fn ship_category(catalogue: &[u8], fit: &[u8], facts: &[u32; 2054]) -> i32
     requires { ⌜ Gathered (now catalogue) (now fit) (now facts) ⌝ }
     ensures { λ r. ⌜ r ≡ contextOf (now (catalogue .entry)) (now (fit .entry)) .category ⌝ }
 {
     image::signed(word(facts, SHIP_CATEGORY))
 }
 
-pub fn group(catalogue: &[u8], fit: &[u8], facts: &[u32; 1797], i: usize) -> i32
+pub fn ship_is_known(catalogue: &[u8], fit: &[u8], facts: &[u32; 2054]) -> bool
+    requires { ⌜ Gathered (now catalogue) (now fit) (now facts) ⌝ }
+    ensures { λ r. ⌜ r ≡ isKnown (catalogueOf (now (catalogue .entry))) (fitOf (now (fit .entry)) .frame .ship) ⌝ }
+{
+    word(facts, SHIP_KNOWN) == 1
+}
+
+pub fn group(catalogue: &[u8], fit: &[u8], facts: &[u32; 2054], i: usize) -> i32
     requires { ⌜ Gathered (now catalogue) (now fit) (now facts) × (i < pairCount (now fit)) ⌝ }
     ensures { λ r. ⌜ r ≡ pairAt (now (catalogue .entry)) (now (fit .entry)) i .group ⌝ }
 {
     image::signed(word(facts, GROUPS + i))
 }
 
-pub fn category(catalogue: &[u8], fit: &[u8], facts: &[u32; 1797], i: usize) -> i32
+pub fn category(catalogue: &[u8], fit: &[u8], facts: &[u32; 2054], i: usize) -> i32
     requires { ⌜ Gathered (now catalogue) (now fit) (now facts) × (i < pairCount (now fit)) ⌝ }
     ensures { λ r. ⌜ r ≡ pairAt (now (catalogue .entry)) (now (fit .entry)) i .category ⌝ }
 {
@@ -239,7 +291,7 @@ pub fn category(catalogue: &[u8], fit: &[u8], facts: &[u32; 1797], i: usize) -> 
 }
 
 // The rack that pair i asks for; 8 and above are none.
-pub fn rack(catalogue: &[u8], fit: &[u8], facts: &[u32; 1797], i: usize) -> u8
+pub fn rack(catalogue: &[u8], fit: &[u8], facts: &[u32; 2054], i: usize) -> u8
     requires { ⌜ Gathered (now catalogue) (now fit) (now facts) × (i < pairCount (now fit)) ⌝ }
     ensures { λ r. ⌜ slotIn r ≡ pairAt (now (catalogue .entry)) (now (fit .entry)) i .rack ⌝ }
 {
@@ -247,18 +299,28 @@ pub fn rack(catalogue: &[u8], fit: &[u8], facts: &[u32; 1797], i: usize) -> u8
 }
 
 // The hardpoint that it takes; 8 and above are none.
-pub fn hardpoint(catalogue: &[u8], fit: &[u8], facts: &[u32; 1797], i: usize) -> u8
+pub fn hardpoint(catalogue: &[u8], fit: &[u8], facts: &[u32; 2054], i: usize) -> u8
     requires { ⌜ Gathered (now catalogue) (now fit) (now facts) × (i < pairCount (now fit)) ⌝ }
     ensures { λ r. ⌜ slotIn r ≡ pairAt (now (catalogue .entry)) (now (fit .entry)) i .hardpoint ⌝ }
 {
     slot_in(word(facts, HARDPOINTS + i))
 }
 
-pub fn volume(catalogue: &[u8], fit: &[u8], facts: &[u32; 1797], i: usize) -> f64
+pub fn volume(catalogue: &[u8], fit: &[u8], facts: &[u32; 2054], i: usize) -> f64
     requires { ⌜ Gathered (now catalogue) (now fit) (now facts) × (i < pairCount (now fit)) ⌝ }
     ensures { λ r. ⌜ r ≡ pairAt (now (catalogue .entry)) (now (fit .entry)) i .volume ⌝ }
 {
     floats::of_bits64((word(facts, LOWS + i) as u64) + 4294967296 * (word(facts, HIGHS + i) as u64))
+}
+
+// Whether the catalogue has the type of pair i.
+pub fn is_known(catalogue: &[u8], fit: &[u8], facts: &[u32; 2054], i: usize) -> bool
+    requires { ⌜ Gathered (now catalogue) (now fit) (now facts) × (i < pairCount (now fit)) ⌝ }
+    ensures { λ r.
+        let c = now (catalogue .entry) in
+        ⌜ r ≡ isKnown (catalogueOf c) (pairAt c (now (fit .entry)) i .type) ⌝ }
+{
+    word(facts, KNOWNS + i) == 1
 }
 
 // ---- where a pair is

@@ -12,7 +12,7 @@ use Rattle.entry.specs.declared.Rule.{Rule}
 use Rattle.entry.specs.declared.Rule.the-variants.{Resource, Slots, WrongSlot, NotAModule, NotADrone, NotAFighter, NotAnImplant}
 use Rattle.entry.specs.declared.Rule.the-variants.{SlotTaken, WrongSlotIndex, SubsystemTaken, Skill, RigSize, ShipRestricted}
 use Rattle.entry.specs.declared.Rule.the-variants.{CapitalItem, StructureItem, ShipItem, MaxGroup, MaxType, NotAHull, NotAMode}
-use Rattle.entry.specs.declared.Rule.the-variants.{NotASkill, Banned, Points}
+use Rattle.entry.specs.declared.Rule.the-variants.{NotASkill, Banned, Points, UnknownType}
 use Rattle.entry.specs.declared.Entry.{Entry}
 use Rattle.entry.specs.declared.Packed.{Packed}
 use Rattle.entry.specs.Entries.{fields, place, entryBytes}
@@ -44,6 +44,7 @@ sixteen NotAMode = refl
 sixteen (NotASkill id) = refl
 sixteen (Banned group) = refl
 sixteen (Points u a) = refl
+sixteen (UnknownType id) = refl
 
 pub length-entryBytes : (e : Entry) → length (entryBytes e) ≡ 24
 unfolding entryBytes

@@ -12,7 +12,7 @@ use Rattle.entry.specs.declared.Rule.{Rule}
 use Rattle.entry.specs.declared.Rule.the-variants.{Resource, Slots, WrongSlot, NotAModule, NotADrone, NotAFighter, NotAnImplant}
 use Rattle.entry.specs.declared.Rule.the-variants.{SlotTaken, WrongSlotIndex, SubsystemTaken, Skill, RigSize, ShipRestricted}
 use Rattle.entry.specs.declared.Rule.the-variants.{CapitalItem, StructureItem, ShipItem, MaxGroup, MaxType, NotAHull, NotAMode}
-use Rattle.entry.specs.declared.Rule.the-variants.{NotASkill, Banned, Points}
+use Rattle.entry.specs.declared.Rule.the-variants.{NotASkill, Banned, Points, UnknownType}
 use Rattle.entry.specs.declared.Entry.{Entry}
 
 abbrev pub onShip : Rule → Entry
@@ -53,6 +53,11 @@ fields NotAMode = (20, 0, 0 ∷ 0 ∷ 0 ∷ 0 ∷ [])
 fields (NotASkill type) = (21, 0, bits32 type ∷ 0 ∷ 0 ∷ 0 ∷ [])
 fields (Banned group) = (24, 0, bits32 group ∷ 0 ∷ 0 ∷ 0 ∷ [])
 fields (Points used allowed) = (25, 0, used ∷ allowed ∷ 0 ∷ 0 ∷ [])
+fields (UnknownType type) = (26, 0, bits32 type ∷ 0 ∷ 0 ∷ 0 ∷ [])
+
+-- the number of an entry's rule
+abbrev pub number : Entry → ℕ
+number e = fields (e .rule) .0
 
 -- a target's number and its pair index
 abbrev pub place : Target → ℕ × ℕ

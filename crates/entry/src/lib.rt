@@ -15,8 +15,8 @@ pub enum Target {
     Item(u32),
 }
 
-// Rust's `Rule` from Resource to NotASkill, in its order and with its fields; then the rules of a league. Resources, slots and limits
-// are the numbers of their enums, from 0.
+// Rust's `Rule` from Resource to NotASkill, in its order and with its fields; then the rules of a league, and the type that is missing.
+// Resources, slots and limits are the numbers of their enums, from 0.
 pub enum Rule {
     // resource, used, available
     Resource(u8, f64, f64),
@@ -52,6 +52,8 @@ pub enum Rule {
     Banned(i32),
     // used, allowed
     Points(u32, u32),
+    // type id
+    UnknownType(i32),
 }
 
 // Rust's `Violation`.
@@ -146,6 +148,7 @@ fn pack(rule: Rule) -> Packed
         Rule::NotASkill(id) => of_id(21, 0, id, 0, 0),
         Rule::Banned(group) => of_id(24, 0, group, 0, 0),
         Rule::Points(used, allowed) => words(25, 0, used, allowed, 0, 0),
+        Rule::UnknownType(id) => of_id(26, 0, id, 0, 0),
     }
 }
 

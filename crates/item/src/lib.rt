@@ -160,7 +160,7 @@ fn standup_ids(catalogue: &[u8]) -> [u64; 3]
 
 fn rig_size_at(
     fit: &[u8],
-    facts: &[u32; 1797],
+    facts: &[u32; 2054],
     id: i32,
     ship: f64,
     i: usize,
@@ -191,7 +191,7 @@ fn rig_size_at(
 pub fn rig_size(
     catalogue: &[u8],
     fit: &[u8],
-    facts: &[u32; 1797],
+    facts: &[u32; 2054],
     out: &mut [u8],
     n: usize,
 ) -> usize
@@ -257,14 +257,14 @@ fn any_flagged(ids: &[u8], flags: &[bool; 8192]) -> bool
 }
 
 // Whether a result may list ships: most list none, and need no search for each of the 33 ids.
-fn may_list(fit: &[u8], facts: &[u32; 1797], j: usize, flags: &[bool; 8192]) -> bool
+fn may_list(fit: &[u8], facts: &[u32; 2054], j: usize, flags: &[bool; 8192]) -> bool
     requires { ⌜ Fit.Sound (now fit) × Starts (now fit) (now facts) × (j < resultCount (now fit) + 2) ⌝ }
     ensures { λ r. ⌜ r ≡ anyFlagged (now (flags .entry)) (resultOf (now (fit .entry)) j) ⌝ }
 {
     any_flagged(fit::ids_of(fit, facts, j), flags)
 }
 
-fn listed_under(fit: &[u8], facts: &[u32; 1797], j: usize, code: u64, id: i32) -> Listing
+fn listed_under(fit: &[u8], facts: &[u32; 2054], j: usize, code: u64, id: i32) -> Listing
     requires { ⌜ Fit.Sound (now fit) × Starts (now fit) (now facts) × (j < resultCount (now fit) + 2) ⌝ }
     ensures { λ r. ⌜ ListingOf id (listedUnder (resultOf (now (fit .entry)) j) (idIn code)) r ⌝ }
 {
@@ -289,7 +289,7 @@ fn listed_under(fit: &[u8], facts: &[u32; 1797], j: usize, code: u64, id: i32) -
 }
 
 // What the item lists under a set of attributes; nothing for an item that goes on any ship.
-fn listed(fit: &[u8], facts: &[u32; 1797], j: usize, codes: &[u64], id: i32) -> Listing
+fn listed(fit: &[u8], facts: &[u32; 2054], j: usize, codes: &[u64], id: i32) -> Listing
     requires { ⌜ Fit.Sound (now fit) × Starts (now fit) (now facts) × (j < resultCount (now fit) + 2) ⌝ }
     ensures { λ r. ⌜ ListingOf id (listedIn (resultOf (now (fit .entry)) j) (now (codes .entry))) r ⌝ }
 {
@@ -321,7 +321,7 @@ fn lists_others(types: Listing, groups: Listing) -> bool
 fn is_restricted(
     catalogue: &[u8],
     fit: &[u8],
-    facts: &[u32; 1797],
+    facts: &[u32; 2054],
     types: &[u64; 13],
     groups: &[u64; 20],
     flags: &[bool; 8192],
@@ -349,7 +349,7 @@ fn is_restricted(
 pub fn ship_restricted(
     catalogue: &[u8],
     fit: &[u8],
-    facts: &[u32; 1797],
+    facts: &[u32; 2054],
     out: &mut [u8],
     n: usize,
 ) -> usize
@@ -377,7 +377,7 @@ pub fn ship_restricted(
     m
 }
 
-fn is_structure(catalogue: &[u8], fit: &[u8], facts: &[u32; 1797]) -> bool
+fn is_structure(catalogue: &[u8], fit: &[u8], facts: &[u32; 2054]) -> bool
     requires { ⌜ Gathered (now catalogue) (now fit) (now facts) ⌝ }
     ensures { λ r. ⌜ r ≡ isStructure (contextOf (now (catalogue .entry)) (now (fit .entry))) ⌝ }
 {
@@ -388,7 +388,7 @@ fn is_structure(catalogue: &[u8], fit: &[u8], facts: &[u32; 1797]) -> bool
 }
 
 // A capital ship, or a structure.
-fn takes_capitals(catalogue: &[u8], fit: &[u8], facts: &[u32; 1797], capital: i32) -> bool
+fn takes_capitals(catalogue: &[u8], fit: &[u8], facts: &[u32; 2054], capital: i32) -> bool
     requires { ⌜ Gathered (now catalogue) (now fit) (now facts) ⌝ }
     ensures { λ r.
         let x = contextOf (now (catalogue .entry)) (now (fit .entry)) in
@@ -401,7 +401,7 @@ fn takes_capitals(catalogue: &[u8], fit: &[u8], facts: &[u32; 1797], capital: i3
 }
 
 // A capital rig is held apart by its rig size instead.
-fn is_capital_item(fit: &[u8], facts: &[u32; 1797], volume: i32, i: usize) -> bool
+fn is_capital_item(fit: &[u8], facts: &[u32; 2054], volume: i32, i: usize) -> bool
     requires { ⌜ Fit.Sound (now fit) × Starts (now fit) (now facts) × (i < pairCount (now fit)) ⌝ }
     ensures { λ r. ⌜ ((catalogue : List ℕ) → r ≡ isCapitalItem volume (pairAt catalogue (now (fit .entry)) i)) ⌝ }
 {
@@ -416,7 +416,7 @@ fn is_capital_item(fit: &[u8], facts: &[u32; 1797], volume: i32, i: usize) -> bo
 
 fn capital_item_at(
     fit: &[u8],
-    facts: &[u32; 1797],
+    facts: &[u32; 2054],
     volume: i32,
     i: usize,
     out: &mut [u8],
@@ -442,7 +442,7 @@ fn capital_item_at(
 pub fn capital_item(
     catalogue: &[u8],
     fit: &[u8],
-    facts: &[u32; 1797],
+    facts: &[u32; 2054],
     out: &mut [u8],
     n: usize,
 ) -> usize
@@ -473,7 +473,7 @@ pub fn capital_item(
     m
 }
 
-fn marked_under(fit: &[u8], facts: &[u32; 1797], j: usize, code: u64) -> bool
+fn marked_under(fit: &[u8], facts: &[u32; 2054], j: usize, code: u64) -> bool
     requires { ⌜ Fit.Sound (now fit) × Starts (now fit) (now facts) × (j < resultCount (now fit) + 2) ⌝ }
     ensures { λ r. ⌜ r ≡ markedUnder (resultOf (now (fit .entry)) j) (idIn code) ⌝ }
 {
@@ -484,7 +484,7 @@ fn marked_under(fit: &[u8], facts: &[u32; 1797], j: usize, code: u64) -> bool
     fit::amount(fit, facts, j, attribute_id) != 0.0
 }
 
-fn is_marked(fit: &[u8], facts: &[u32; 1797], j: usize, codes: &[u64]) -> bool
+fn is_marked(fit: &[u8], facts: &[u32; 2054], j: usize, codes: &[u64]) -> bool
     requires { ⌜ Fit.Sound (now fit) × Starts (now fit) (now facts) × (j < resultCount (now fit) + 2) ⌝ }
     ensures { λ r. ⌜ r ≡ markedIn (resultOf (now (fit .entry)) j) (now (codes .entry)) ⌝ }
 {
@@ -501,7 +501,7 @@ fn is_marked(fit: &[u8], facts: &[u32; 1797], j: usize, codes: &[u64]) -> bool
 fn is_standup(
     catalogue: &[u8],
     fit: &[u8],
-    facts: &[u32; 1797],
+    facts: &[u32; 2054],
     markers: &[u64; 3],
     i: usize,
 ) -> bool
@@ -523,7 +523,7 @@ fn is_standup(
 fn standup_at(
     catalogue: &[u8],
     fit: &[u8],
-    facts: &[u32; 1797],
+    facts: &[u32; 2054],
     markers: &[u64; 3],
     i: usize,
     out: &mut [u8],
@@ -549,7 +549,7 @@ fn standup_at(
     entry::emit_when(out, n, standup, Entry { target, rule })
 }
 
-pub fn standup(catalogue: &[u8], fit: &[u8], facts: &[u32; 1797], out: &mut [u8], n: usize) -> usize
+pub fn standup(catalogue: &[u8], fit: &[u8], facts: &[u32; 2054], out: &mut [u8], n: usize) -> usize
     requires { ⌜ Gathered (now catalogue) (now fit) (now facts) × Room n mostPairs ⌝ }
     ensures { λ r.
         let x = contextOf (now (catalogue .entry)) (now (fit .entry)) in
@@ -570,7 +570,7 @@ pub fn standup(catalogue: &[u8], fit: &[u8], facts: &[u32; 1797], out: &mut [u8]
 pub fn validate(
     catalogue: &[u8],
     fit: &[u8],
-    facts: &[u32; 1797],
+    facts: &[u32; 2054],
     out: &mut [u8],
     n: usize,
 ) -> usize

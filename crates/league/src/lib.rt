@@ -69,7 +69,7 @@ fn tally(
     profile: &[u8],
     catalogue: &[u8],
     fit: &[u8],
-    facts: &[u32; 1797],
+    facts: &[u32; 2054],
     out: &mut [u8],
     n: usize,
 ) -> Spent
@@ -100,7 +100,7 @@ pub fn validate(
     allowance: u32,
     catalogue: &[u8],
     fit: &[u8],
-    facts: &[u32; 1797],
+    facts: &[u32; 2054],
     out: &mut [u8],
     n: usize,
 ) -> usize

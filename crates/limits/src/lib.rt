@@ -56,7 +56,7 @@ struct Limit {
 fn in_group(
     catalogue: &[u8],
     fit: &[u8],
-    facts: &[u32; 1797],
+    facts: &[u32; 2054],
     group: i32,
     lowest: u8,
     i: usize,
@@ -70,7 +70,7 @@ fn in_group(
     words::both(words::both(fitted, alike), lowest <= state)
 }
 
-fn count_in_group(catalogue: &[u8], fit: &[u8], facts: &[u32; 1797], group: i32, lowest: u8) -> u32
+fn count_in_group(catalogue: &[u8], fit: &[u8], facts: &[u32; 2054], group: i32, lowest: u8) -> u32
     requires { ⌜ Gathered (now catalogue) (now fit) (now facts) ⌝ }
     ensures { λ r. ⌜ r ≡ countOf (inGroup group lowest) (pairsOf (now (catalogue .entry)) (now (fit .entry))) ⌝ }
 {
@@ -87,7 +87,7 @@ fn count_in_group(catalogue: &[u8], fit: &[u8], facts: &[u32; 1797], group: i32,
 fn group_limit_at(
     catalogue: &[u8],
     fit: &[u8],
-    facts: &[u32; 1797],
+    facts: &[u32; 2054],
     limit: Limit,
     i: usize,
     out: &mut [u8],
@@ -123,7 +123,7 @@ fn group_limit_at(
 fn group_limit(
     catalogue: &[u8],
     fit: &[u8],
-    facts: &[u32; 1797],
+    facts: &[u32; 2054],
     k: usize,
     out: &mut [u8],
     n: usize,
@@ -157,7 +157,7 @@ fn group_limit(
 pub fn group_limits(
     catalogue: &[u8],
     fit: &[u8],
-    facts: &[u32; 1797],
+    facts: &[u32; 2054],
     out: &mut [u8],
     n: usize,
 ) -> usize
@@ -201,7 +201,7 @@ fn count_of_type(fit: &[u8], id: i32) -> u32
 
 fn type_limit_at(
     fit: &[u8],
-    facts: &[u32; 1797],
+    facts: &[u32; 2054],
     id: i32,
     i: usize,
     out: &mut [u8],
@@ -238,7 +238,7 @@ fn type_limit_at(
 pub fn type_limit(
     catalogue: &[u8],
     fit: &[u8],
-    facts: &[u32; 1797],
+    facts: &[u32; 2054],
     out: &mut [u8],
     n: usize,
 ) -> usize
@@ -265,7 +265,7 @@ pub fn type_limit(
 pub fn validate(
     catalogue: &[u8],
     fit: &[u8],
-    facts: &[u32; 1797],
+    facts: &[u32; 2054],
     out: &mut [u8],
     n: usize,
 ) -> usize

@@ -1,4 +1,4 @@
--- What stands behind the Rust's list: on a hull the rules of document 02, else nothing; and nothing without a profile.
+-- What stands behind the Rust's list: on a hull the rules of document 02, else nothing; and of a league nothing without a profile.
 use Prim.Native.Nat.{ℕ}
 use mathlib.Core.Path.{_≡_, refl, sym, ap, _∙_}
 use mathlib.Core.Bool.{Bool, true, false, cond}
@@ -15,26 +15,28 @@ use Rattle.league.proofs.Without.{no-profile}
 use Rattle.validate.specs.Kind.{isHull}
 use Rattle.validate.specs.Validate.{listOf}
 use Rattle.lists.specs.Terms.{Terms, terms}
-use Rattle.lists.specs.Lists.{onHull, leagueOf, wholeWith, wholeList}
+use Rattle.lists.specs.Unknown.{unknownTypes}
+use Rattle.lists.specs.Lists.{onHull, leagueOf, leagueWith, wholeWith, leagueList, wholeList}
 
 module _ (catalogue fit : List ℕ) (t : Terms) where
   pub on-hull : isHull (catalogueOf catalogue) (fitOf fit .frame .ship) ≡ true
-      → listOf (catalogueOf catalogue) (fitOf fit) ++ leagueOf t (pairsOf catalogue fit) ≡ wholeList t (catalogueOf catalogue) (fitOf fit)
-  unfolding wholeList wholeWith onHull listOf pairsOf
+      → listOf (catalogueOf catalogue) (fitOf fit) ++ leagueOf t (pairsOf catalogue fit) ++ unknownTypes (catalogueOf catalogue) (pairsOf catalogue fit)
+      ≡ wholeList t (catalogueOf catalogue) (fitOf fit)
+  unfolding wholeList wholeWith leagueWith onHull listOf pairsOf
   on-hull e = rw e
 
   pub no-hull : isHull (catalogueOf catalogue) (fitOf fit .frame .ship) ≡ false
       → listOf (catalogueOf catalogue) (fitOf fit) ≡ wholeList t (catalogueOf catalogue) (fitOf fit)
-  unfolding wholeList wholeWith onHull listOf
-  no-hull e = rw e (sym (append-nil _))
+  unfolding wholeList wholeWith leagueWith onHull listOf
+  no-hull e = rw e (sym (append-nil _ ∙ append-nil _))
 
 no-league : (allowance : ℕ) (ps : List Pair) → leagueOf (terms [] allowance) ps ≡ []
 unfolding pricesOf tableFrom u32At
 no-league allowance ps = no-profile allowance ps
 
--- without a profile it is the Rust's
-pub rust-list : (allowance : ℕ) (c : Catalogue) (f : Fit) → wholeList (terms [] allowance) c f ≡ listOf c f
-unfolding wholeList wholeWith onHull listOf
+-- what stands before rule 26 is the Rust's list, without a profile
+pub rust-list : (allowance : ℕ) (c : Catalogue) (f : Fit) → leagueList (terms [] allowance) c f ≡ listOf c f
+unfolding leagueList leagueWith onHull listOf
 rust-list allowance c f = ap (λ (es : List Entry). listOf c f ++ es) (go (isHull c (f .frame .ship))) ∙ append-nil _
   where
     go : (b : Bool) → cond b (leagueOf (terms [] allowance) (pairs c f)) [] ≡ []

@@ -1,2 +1,3 @@
 -- Laws of the whole list.
+pub mod Unknowns
 pub mod Behind

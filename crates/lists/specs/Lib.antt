@@ -1,2 +1,3 @@
 pub mod Terms
+pub mod Unknown
 pub mod Lists

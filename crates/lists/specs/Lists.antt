@@ -13,6 +13,7 @@ use Rattle.validate.specs.Kind.{isHull}
 use Rattle.validate.specs.Validate as Rust
 use Rattle.validate.specs.Validate.{listWith}
 use Rattle.lists.specs.Terms.{Terms}
+use Rattle.lists.specs.Unknown.{unknownTypes}
 
 -- what stands behind the list of a hull, and of nothing else
 unfoldable pub onHull : Catalogue → Frame → List Entry → List Entry
@@ -22,12 +23,19 @@ onHull c k es = cond (isHull c (k .ship)) es []
 abbrev pub leagueOf : Terms → List Pair → List Entry
 leagueOf t ps = league (pricesOf (t .profile)) (t .allowance) ps
 
+unfoldable pub leagueWith : Terms → Catalogue → Frame → List Id → List Pair → List Entry
+leagueWith t c k ids ps = listWith c k ids ps ++ onHull c k (leagueOf t ps)
+
+-- P5: a hull's list ends with rule 26
 unfoldable pub wholeWith : Terms → Catalogue → Frame → List Id → List Pair → List Entry
-wholeWith t c k ids ps = listWith c k ids ps ++ onHull c k (leagueOf t ps)
+wholeWith t c k ids ps = leagueWith t c k ids ps ++ onHull c k (unknownTypes c ps)
+
+unfoldable pub leagueList : Terms → Catalogue → Fit → List Entry
+leagueList t c f = leagueWith t c (f .frame) (f .skills) (pairs c f)
 
 unfoldable pub wholeList : Terms → Catalogue → Fit → List Entry
 wholeList t c f = wholeWith t c (f .frame) (f .skills) (pairs c f)
 
--- no list has more entries: the Rust's, a ban for each pair, the points
+-- no list has more entries: the Rust's, a ban for each pair, the points, a missing type for each pair
 abbrev pub mostEntries : ℕ
-mostEntries = Rust.mostEntries + Sizes.mostPairs + 1
+mostEntries = Rust.mostEntries + Sizes.mostPairs + 1 + Sizes.mostPairs

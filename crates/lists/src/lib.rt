@@ -1,17 +1,72 @@
 // The whole list of a fit: the Rust's, then the rules that document 02 adds behind a hull's.
+use entry::Entry;
+use entry::Rule;
+use entry::Target;
 use numbers::sizes;
 ghost use mathlib.Core.Path.{_≡_};
-ghost use Prim.Native.Nat.{_≤_};
+ghost use Prim.Native.Nat.{_+_, _≤_, _<_};
+ghost use Rattle.numbers.specs.Sizes.{mostPairs};
 ghost use Rattle.profile.specs.Sound as Profile;
 ghost use Rattle.catalogue.specs.Catalogue.{catalogueOf};
 ghost use Rattle.fit.specs.Fit.{fitOf};
-ghost use Rattle.entry.specs.Wrote.{Wrote};
-ghost use Rattle.context.specs.Gathered.{Gathered};
+ghost use Rattle.entry.specs.Wrote.{Wrote, Room};
+ghost use Rattle.context.specs.Gathered.{pairCount, pairAt, pairsOf, Gathered};
 ghost use Rattle.lists.specs.Terms.{terms};
+ghost use Rattle.lists.specs.Unknown.{unknownTypeAt, unknownTypes};
 ghost use Rattle.lists.specs.Lists.{wholeList, mostEntries};
 
-// No list has more entries: the Rust's, a ban for each pair, the points.
-pub const MOST_ENTRIES: usize = validate::MOST_ENTRIES + sizes::MOST_PAIRS + 1;
+// No list has more entries: the Rust's, a ban for each pair, the points, a missing type for each pair.
+pub const MOST_ENTRIES: usize = validate::MOST_ENTRIES + sizes::MOST_PAIRS + 1 + sizes::MOST_PAIRS;
+
+// Rule 26 of pair i.
+fn unknown_type_at(
+    catalogue: &[u8],
+    fit: &[u8],
+    facts: &[u32; 2054],
+    i: usize,
+    out: &mut [u8],
+    n: usize,
+) -> usize
+    requires { ⌜ Gathered (now catalogue) (now fit) (now facts) × (i < pairCount (now fit)) × Room n 1 ⌝ }
+    ensures { λ r.
+        let p = pairAt (now (catalogue .entry)) (now (fit .entry)) i in
+        ⌜ Wrote (now (out .entry)) n (now (out .exit)) r (unknownTypeAt (catalogueOf (now (catalogue .entry))) p) ⌝ }
+{
+    let known = context::is_known(catalogue, fit, facts, i);
+    entry::emit_when(
+        out,
+        n,
+        !known,
+        Entry {
+            target: Target::Item(i as u32),
+            rule: Rule::UnknownType(fit::item_type(fit, i)),
+        },
+    )
+}
+
+// Rule 26 by pair, whatever its slot.
+fn unknown_types(
+    catalogue: &[u8],
+    fit: &[u8],
+    facts: &[u32; 2054],
+    out: &mut [u8],
+    n: usize,
+) -> usize
+    requires { ⌜ Gathered (now catalogue) (now fit) (now facts) × Room n mostPairs ⌝ }
+    ensures { λ r.
+        let c = now (catalogue .entry) in
+        let es = unknownTypes (catalogueOf c) (pairsOf c (now (fit .entry))) in
+        ⌜ Wrote (now (out .entry)) n (now (out .exit)) r es × (r ≤ n + mostPairs) ⌝ }
+{
+    let count = fit::pair_count(fit);
+    let mut m = n;
+    let mut i = 0;
+    while i < count {
+        m = unknown_type_at(catalogue, fit, facts, i, out, m);
+        i += 1;
+    }
+    m
+}
 
 // Every rule that a fit breaks, under a league's profile and allowance. `hints` are those of `catalogue::type_of`.
 pub fn write(
@@ -19,7 +74,7 @@ pub fn write(
     fit: &[u8],
     profile: &[u8],
     allowance: u32,
-    facts: &[u32; 1797],
+    facts: &[u32; 2054],
     hints: &mut [u32],
     out: &mut [u8],
 ) -> usize
@@ -33,5 +88,6 @@ pub fn write(
     if !validate::is_hull(catalogue, fit, facts) {
         return n;
     }
-    league::validate(profile, allowance, catalogue, fit, facts, out, n)
+    let m = league::validate(profile, allowance, catalogue, fit, facts, out, n);
+    unknown_types(catalogue, fit, facts, out, m)
 }

@@ -42,7 +42,7 @@ skill-answers catalogue fit result buffer =
     (λ h. skills-fit catalogue fit result buffer h)
 
 -- ---- room for the longest list
-pub list-room : (t : Terms) (catalogue fit buffer : List ℕ) → 129552 ≤ length buffer
+pub list-room : (t : Terms) (catalogue fit buffer : List ℕ) → 135696 ≤ length buffer
     → refusal (outcome buffer (listCall t catalogue fit buffer)) ≡ 10 → ⊥
 unfolding tooShort
 list-room t catalogue fit buffer room h =

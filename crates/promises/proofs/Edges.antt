@@ -8,6 +8,7 @@ use Rattle.promises.specs.CallCases.{ENTRIES, CALLS}
 use Rattle.promises.specs.RefusalCases.{LENGTHS, KEYS, FIELDS, SIZES, IDS, RANGES, DRONES, NUMBERS, BUFFERS, FIRSTS, ZEROS}
 use Rattle.promises.specs.WidenCases.{VALUES, WIDENED}
 use Rattle.promises.specs.LeagueCases.{PROFILES, LEAGUE, PROFILED}
+use Rattle.promises.specs.UnknownCases.{UNKNOWNS, CARRIED}
 use Rattle.promises.specs.Edges.{STARRED, SKILLS, PARTS, EDGES, Agree}
 use Rattle.promises.proofs.All.{All, nil, cons}
 use Rattle.promises.proofs.Opened.{opened}
@@ -118,6 +119,14 @@ agree-profiled : Agree PROFILED
 unfolding opened
 agree-profiled = refl
 
+agree-unknowns : Agree UNKNOWNS
+unfolding opened
+agree-unknowns = refl
+
+agree-carried : Agree CARRIED
+unfolding opened
+agree-carried = refl
+
 join : (a b : List Case) → Agree a → Agree b → Agree (a ++ b)
 join a b p q = map-append (λ (x : Case). outcomeOf (x .0)) a b ∙ ap₂ _++_ p q ∙ sym (map-append (λ (x : Case). x .1) a b)
 
@@ -133,4 +142,5 @@ edges =
     (cons agree-crowds (cons agree-order (cons agree-entries (cons agree-calls
     (cons agree-lengths (cons agree-keys (cons agree-fields (cons agree-sizes (cons agree-ids (cons agree-ranges
     (cons agree-drones (cons agree-numbers (cons agree-buffers (cons agree-firsts (cons agree-large (cons agree-zeros
-    (cons agree-values (cons agree-widened (cons agree-profiles (cons agree-league (cons agree-profiled nil)))))))))))))))))))))))))))
+    (cons agree-values (cons agree-widened (cons agree-profiles (cons agree-league (cons agree-profiled
+    (cons agree-unknowns (cons agree-carried nil)))))))))))))))))))))))))))))

@@ -33,7 +33,8 @@ use Rattle.validate.specs.Validate.{hullRules, listWith}
 use Rattle.profile.specs.Profile.{Price, pricesOf}
 use Rattle.league.specs.League.{banned, cost, points, overAllowance, league}
 use Rattle.lists.specs.Terms.{Terms}
-use Rattle.lists.specs.Lists.{onHull, leagueOf, wholeWith, wholeList}
+use Rattle.lists.specs.Unknown.{unknownTypes}
+use Rattle.lists.specs.Lists.{onHull, leagueOf, leagueWith, wholeWith, wholeList}
 use Rattle.promises.specs.Compare.{Grown, volumeAllowed, AddedVolumes, addedItems, Alike}
 use Rattle.promises.proofs.Placed.{Into, into-append, only-into, count-into, sum-into, any-into, Placed, placed-join, placed-refl}
 use Rattle.promises.proofs.Placed.{placed-when, placed-unless, placed-bind, placed-each, placed-into, and-mono, ltb-mono}
@@ -187,14 +188,19 @@ module _ (ps added : List Pair) (volumes : (p : Pair) → List·Memᴰ p added �
   -- what is put behind the list of a hull
   wholeWith-grows : {t t′ : Terms} → Alike t t′ → (c : Catalogue) (k : Frame) (ids : List Id)
       → Within (wholeWith t c k ids ps) (wholeWith t′ c k ids (ps ++ added))
-  unfolding wholeWith onHull
-  wholeWith-grows {t} {t′} alike c k ids = placed-join (listWith-grows c k ids) (go (isHull c (k .ship)))
+  unfolding wholeWith leagueWith onHull unknownTypes
+  wholeWith-grows {t} {t′} alike c k ids =
+      placed-join (placed-join (listWith-grows c k ids) (go (isHull c (k .ship)))) (last (isHull c (k .ship)))
     where
       go : (b : Bool) → Within (cond b (leagueOf t ps) []) (cond b (leagueOf t′ (ps ++ added)) [])
       go true =
           subst (Within (leagueOf t ps)) (ap₂ (λ (b : List ℕ) (a : ℕ). league (pricesOf b) a (ps ++ added)) (alike .profile) (alike .allowance))
           (league-grows (into-append ps added) (pricesOf (t .profile)) (t .allowance))
       go false = same-list []
+
+      last : (b : Bool) → Within (cond b (unknownTypes c ps) []) (cond b (unknownTypes c (ps ++ added)) [])
+      last true = placed-into (into-append ps added) λ p. same-list _
+      last false = same-list []
 
 -- ---- the pairs of a grown fit
 pairs-append : (c : Catalogue) (n : ℕ) (is js : List Fit.Item) (rs ss : List Result) → length is ≡ length rs

@@ -250,13 +250,13 @@ module _ (catalogue fit buffer : List ℕ) (fine : None (catalogueConditions cat
       away : (4 ≤ refusal o) × (refusal o ≤ 6) → T (fitRefused fit)
       away h = absurd (elim (either n) [ inl a ↦ (let k = h .0 in let l = a .0 in omega arith) | inr b ↦ (let k = h .1 in omega arith) ])
 
-      room : 129552 ≤ length buffer → 24 * length es ≤ length buffer
+      room : 135696 ≤ length buffer → 24 * length es ≤ length buffer
       room b = let k = list-short fit (unfold fitRefusals in n .0) main cat in omega arith
 
       not-both : T (isFaulted cat fit) → length es ≡ 0 → itemCount fit ≡ resultCount fit → ⊥
       not-both t z q = T-not (whole || false) (subst T faulted-is t) (or-left whole (whole-is es (itemCount fit) (resultCount fit) .1 (z, q)))
 
-      to-faulted : 129552 ≤ length buffer → T (isFaulted cat fit) → Faulted
+      to-faulted : 135696 ≤ length buffer → T (isFaulted cat fit) → Faulted
       to-faulted b t = (a .0, go (decLe 1 (length es)))
         where
           a : (refusal o ≡ 0) × (count o ≡ length es)
@@ -266,7 +266,7 @@ module _ (catalogue fit buffer : List ℕ) (fine : None (catalogueConditions cat
           go (yes h) = inl (let e = a .1 in omega arith)
           go (no h) = inr λ q. not-both t (omega arith) (omega arith)
 
-      from-faulted : 129552 ≤ length buffer → Faulted → T (isFaulted cat fit)
+      from-faulted : 135696 ≤ length buffer → Faulted → T (isFaulted cat fit)
       from-faulted b h = subst T (sym faulted-is) (not-T (whole || false) whole-not)
         where
           whole-not : T (whole || false) → ⊥

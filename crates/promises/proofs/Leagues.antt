@@ -10,9 +10,11 @@ use Rattle.fit.specs.Fit.{fitOf}
 use Rattle.fit.specs.Refusals.{fitRefusals}
 use Rattle.profile.specs.Profile.{pricesOf, badProfile, badPrices, profileRefusals}
 use Rattle.entry.specs.declared.Entry.{Entry}
+use Rattle.context.specs.Context.{pairs}
 use Rattle.validate.specs.Validate.{listOf}
 use Rattle.lists.specs.Terms.{Terms, terms}
-use Rattle.lists.specs.Lists.{wholeList}
+use Rattle.lists.specs.Unknown.{unknownTypes}
+use Rattle.lists.specs.Lists.{onHull, wholeWith, leagueList, wholeList}
 use Rattle.lists.proofs.Behind.{rust-list}
 use Rattle.fitcheck.specs.Calls.{answerBy, answer, imageRefusals, inputRefusals, bufferRefusals, listCall}
 use Rattle.promises.specs.Answers.{outcome}
@@ -26,12 +28,14 @@ unfolding firstOf catalogueRefusals fitRefusals profileRefusals badProfile badPr
 none-first catalogue fit buffer allowance es = refl
 
 without : (allowance : ℕ) (catalogue fit buffer : List ℕ) → listCall (terms [] allowance) catalogue fit buffer ≡ rustCall catalogue fit buffer
-unfolding listCall rustCall answer
+unfolding listCall rustCall wholeList wholeWith leagueList answer
 without allowance catalogue fit buffer =
-    ap (λ (es : List Entry). answerBy (firstOf (inputRefusals (terms [] allowance) catalogue fit ++ bufferRefusals buffer es)) es)
-    (rust-list allowance (catalogueOf catalogue) (fitOf fit))
-    ∙ ap (λ (n : ℕ). answerBy n (listOf (catalogueOf catalogue) (fitOf fit)))
-    (none-first catalogue fit buffer allowance (listOf (catalogueOf catalogue) (fitOf fit)))
+    let c = catalogueOf catalogue in
+    let f = fitOf fit in
+    let last = onHull c (f .frame) (unknownTypes c (pairs c f)) in
+    ap (λ (es : List Entry). answerBy (firstOf (inputRefusals (terms [] allowance) catalogue fit ++ bufferRefusals buffer (es ++ last))) (es ++ last))
+    (rust-list allowance c f)
+    ∙ ap (λ (n : ℕ). answerBy n (listOf c f ++ last)) (none-first catalogue fit buffer allowance (listOf c f ++ last))
 
 pub no-profile : (t : Terms) (catalogue fit buffer : List ℕ) → t .profile ≡ []
     → outcome buffer (listCall t catalogue fit buffer) ≡ outcome buffer (rustCall catalogue fit buffer)

@@ -26,7 +26,8 @@ use Rattle.limits.specs.Limits.{GROUP-LIMITS, groupLimitAt, groupLimit, groupLi
 use Rattle.validate.specs.Validate.{hullRules, listWith}
 use Rattle.league.specs.League.{bannedAt, banned, overAllowance, league}
 use Rattle.lists.specs.Terms.{Terms}
-use Rattle.lists.specs.Lists.{onHull, leagueOf, wholeWith, wholeList}
+use Rattle.lists.specs.Unknown.{unknownTypeAt, unknownTypes}
+use Rattle.lists.specs.Lists.{onHull, leagueOf, leagueWith, wholeWith, wholeList}
 use Rattle.skill.specs.Skill.{tooMany, walkWithin, entryOf, skillList}
 
 -- ---- a list of at most n elements
@@ -156,13 +157,15 @@ listWith-few c k ids ps =
     few-cond (isHull c (k .ship)) (few-more (omega arith) h) (record { most = omega arith })
 
 wholeWith-few : (t : Terms) (c : Catalogue) (k : Frame) (ids : List Id) (ps : List Pair)
-    → Few (22 + length ids + 17 * length ps) (wholeWith t c k ids ps)
-unfolding wholeWith onHull league banned bannedAt overAllowance
+    → Few (22 + length ids + 18 * length ps) (wholeWith t c k ids ps)
+unfolding wholeWith leagueWith onHull league banned bannedAt overAllowance unknownTypes unknownTypeAt
 wholeWith-few t c k ids ps =
     let behind : Few (1 * length ps + 1) (leagueOf t ps) = few-join (few-each ps λ p. few-when _ _) (few-above _ _ _ _) in
-    let none : Few (1 * length ps + 1) [] = record { most = zero-le } in
-    let h : Few (21 + length ids + 16 * length ps + (1 * length ps + 1)) (wholeWith t c k ids ps) =
-    few-join (listWith-few c k ids ps) (few-cond (isHull c (k .ship)) behind none) in
+    let last : Few (1 * length ps) (unknownTypes c ps) = few-each ps λ p. few-when _ _ in
+    let h : Few (21 + length ids + 16 * length ps + (1 * length ps + 1) + 1 * length ps) (wholeWith t c k ids ps) =
+    few-join
+    (few-join (listWith-few c k ids ps) (few-cond (isHull c (k .ship)) behind (record { most = zero-le })))
+    (few-cond (isHull c (k .ship)) last (record { most = zero-le })) in
     few-more (omega arith) h
 
 first-two : (a b c d e f : Bool) → T (not (a || b || c || d || e || f)) → T (not a) × T (not b)
@@ -188,7 +191,7 @@ module _ (b : List ℕ) (fine : T (not (badSize b))) where
       let m = sizes .1 in
       omega arith
 
-  pub list-short : (t : Terms) (c : Catalogue) → length (wholeList t c (fitOf b)) ≤ 5398
+  pub list-short : (t : Terms) (c : Catalogue) → length (wholeList t c (fitOf b)) ≤ 5654
   unfolding wholeList fitOf
   list-short t c =
       let h = wholeWith-few t c (fitOf b .frame) (fitOf b .skills) (pairs c (fitOf b)) .most in

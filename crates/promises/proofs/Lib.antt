@@ -20,6 +20,9 @@ pub mod Opened
 pub mod Large
 pub mod Seven
 pub mod Leagues
+pub mod Numbers
+pub mod Left
+pub mod Unknowns
 pub mod Widening
 pub mod Edges
 pub mod Deciding

@@ -7,7 +7,7 @@ use Rattle.image.specs.Bytes.{u16At, u32At, u64At, signed32, bits32, i32At}
 use Rattle.floats.specs.Floats.{f32At, f64At, f64Bits, abs, over}
 use Rattle.catalogue.specs.Catalogue.{catalogueOf}
 use Rattle.catalogue.specs.Refusals as Catalogue
-use Rattle.catalogue.specs.Lookups.{nameId, typeOf, groupOf, categoryOf, volumeOf, effectMark, marks, lastMark, rackOf, hardpointOf, baseValue}
+use Rattle.catalogue.specs.Lookups.{nameId, typeOf, isKnown, groupOf, categoryOf, volumeOf, effectMark, marks, lastMark, rackOf, hardpointOf, baseValue}
 use Rattle.widening.specs.Old.{oldCatalogueOf, oldBadLength, oldRefusals}
 use Rattle.widening.specs.Widen.{wideBits, wideValue, wideValues, widened}
 use Rattle.fit.specs.Fit.{modeOf, resultAt, startAt, fitOf}
@@ -26,7 +26,8 @@ use Rattle.validate.specs.Kind.{isHullKind, isHull, isMode, isSkill, notAMode, 
 use Rattle.validate.specs.Validate.{hullRules, listWith, listOf}
 use Rattle.profile.specs.Profile as Profile
 use Rattle.league.specs.League.{bannedAt, banned, cost, points, overAllowance, league}
-use Rattle.lists.specs.Lists.{onHull, wholeWith, wholeList}
+use Rattle.lists.specs.Unknown.{unknownTypeAt, unknownTypes}
+use Rattle.lists.specs.Lists.{onHull, leagueWith, wholeWith, leagueList, wholeList}
 use Rattle.skill.specs.Skill.{required, demandOf, demands, ofResult, ofSkill, note, noted, skillAt, met, walkWithin, tooMany, entryOf, skillList}
 use Rattle.fitcheck.specs.Calls.{answerBy, answer, tooShort, listCall, skillCall, buffered, returned}
 use Rattle.fitcheck.specs.Hall.{fitStart, fits, badInput, fitRefused, isClear, isFaulted, hallBy, hallCall, hallReturned}
@@ -43,7 +44,7 @@ unfolding _>>=_ each when whenAny whenAbove unless only countOf sumOf anyOf find
 open-words = tt
 
 open-catalogue : Unit {0}
-unfolding catalogueOf nameId typeOf groupOf categoryOf volumeOf effectMark marks lastMark rackOf hardpointOf baseValue
+unfolding catalogueOf nameId typeOf isKnown groupOf categoryOf volumeOf effectMark marks lastMark rackOf hardpointOf baseValue
 open-catalogue = tt
 
 open-fit : Unit {0}
@@ -111,7 +112,7 @@ unfolding Profile.pricesOf Profile.badProfile Profile.badPrices Profile.profileR
 open-league = tt
 
 open-lists : Unit {0}
-unfolding open-league bannedAt banned cost points overAllowance league onHull wholeWith wholeList
+unfolding open-league bannedAt banned cost points overAllowance league unknownTypeAt unknownTypes onHull leagueWith wholeWith leagueList wholeList
 open-lists = tt
 
 open-rules : Unit {0}

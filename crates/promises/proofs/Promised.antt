@@ -15,6 +15,7 @@ use Rattle.promises.proofs.Judging.{hall-answers, judged}
 use Rattle.promises.proofs.Opened.{opened}
 use Rattle.promises.proofs.Seven.{no-seven, list-as-before, drones-exact}
 use Rattle.promises.proofs.Leagues.{no-profile}
+use Rattle.promises.proofs.Unknowns.{unknowns, unknowns-left}
 use Rattle.promises.proofs.Widening.{widen-answers, widen-decodes, widen-stands}
 use Rattle.promises.proofs.Edges.{edges}
 
@@ -31,6 +32,8 @@ promised = record {
   no-seven = no-seven;
   list-as-before = list-as-before;
   no-profile = no-profile;
+  unknowns = unknowns;
+  unknowns-left = unknowns-left;
   drones-exact = drones-exact;
   list-kept = list-kept;
   skill-kept = skills-kept;

@@ -18,7 +18,7 @@ use Rattle.entry.specs.declared.Entry.{Entry}
 use Rattle.entry.specs.declared.Rule.{Rule}
 use Rattle.entry.specs.declared.Rule.the-variants.{Resource, Slots, WrongSlot, NotAModule, NotADrone, NotAFighter, NotAnImplant, SlotTaken}
 use Rattle.entry.specs.declared.Rule.the-variants.{WrongSlotIndex, SubsystemTaken, Skill, RigSize, ShipRestricted, CapitalItem}
-use Rattle.entry.specs.declared.Rule.the-variants.{StructureItem, ShipItem, MaxGroup, MaxType, NotAHull, NotAMode, NotASkill, Banned, Points}
+use Rattle.entry.specs.declared.Rule.the-variants.{StructureItem, ShipItem, MaxGroup, MaxType, NotAHull, NotAMode, NotASkill, Banned, Points, UnknownType}
 use Rattle.entry.specs.Entries.{fields, entryBytes}
 use Rattle.promises.specs.Compare.{varies, blank, Stays}
 
@@ -60,6 +60,7 @@ Sound NotAMode = Unit {0}
 Sound (NotASkill t) = Unit {0}
 Sound (Banned g) = Unit {0}
 Sound (Points u a) = u < 2 ^ 32
+Sound (UnknownType t) = Unit {0}
 
 -- ---- numbers read back from their bytes
 four : (n : ℕ) → n < 2 ^ 32 → n % 256 + 256 * (n / 256 % 256) + 65536 * (n / 256 / 256 % 256) + 16777216 * (n / 256 / 256 / 256 % 256) ≡ n
@@ -104,6 +105,7 @@ module _ (t : Target) where
   own (NotASkill t) s q = absurd (omega arith)
   own (Banned g) s q = absurd (omega arith)
   own (Points u a) s q = absurd (omega arith)
+  own (UnknownType t) s q = absurd (omega arith)
 
   stays : {r r′ : Rule} → Rises r r′ → Sound r → Sound r′ → Stays (bytes r) (bytes r′)
   unfolding fields each entryBytes u32At tableFrom varies blank

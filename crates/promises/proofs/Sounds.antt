@@ -38,7 +38,8 @@ use Rattle.profile.proofs.Accepted.{sound}
 use Rattle.profile.proofs.Prices.{points-fair}
 use Rattle.league.specs.League.{priceOf, bannedAt, banned, cost, points, overAllowance, league}
 use Rattle.lists.specs.Terms.{Terms}
-use Rattle.lists.specs.Lists.{onHull, wholeWith, wholeList}
+use Rattle.lists.specs.Unknown.{unknownTypeAt, unknownTypes}
+use Rattle.lists.specs.Lists.{onHull, leagueWith, wholeWith, wholeList}
 use Rattle.skill.specs.Skill.{Demand, required, demandOf, demands, ofResult, ofSkill, note, noted, met, walkWithin, entryOf, skillList}
 use Rattle.promises.specs.Answers.{profileConditions, None}
 use Rattle.promises.proofs.Conditions.{none-is}
@@ -199,11 +200,14 @@ league-sound profile s allowance ps few =
 -- ---- the whole list of an image
 pub whole-sound : (t : Terms) (c : Catalogue) (b : List ℕ) → None (profileConditions (t .profile)) → length (pairs c (fitOf b)) ≤ 256
     → AllSound (wholeList t c (fitOf b))
-unfolding wholeList wholeWith onHull fitOf
+unfolding wholeList wholeWith leagueWith onHull unknownTypes unknownTypeAt fitOf
 whole-sound t c b fine few =
     let profile = sound (t .profile) (unfold profileRefusal profileRefusals in none-is (profileConditions (t .profile)) fine) in
-    all-join (listWith-sound c _ _ _ (omega arith) (result-fits b 0))
-    (all-cond (isHull c (fitOf b .frame .ship)) (league-sound (t .profile) profile (t .allowance) _ few) nil)
+    let hull = isHull c (fitOf b .frame .ship) in
+    all-join
+    (all-join (listWith-sound c _ _ _ (omega arith) (result-fits b 0))
+    (all-cond hull (league-sound (t .profile) profile (t .allowance) _ few) nil))
+    (all-cond hull (all-each _ λ p. all-when _ _ (λ _. tt)) nil)
 
 -- ---- the entries of a result's skills
 abbrev Small : Demand → Type 0

@@ -7,7 +7,7 @@ use mathlib.Core.Logic.{_⊎_, _↔_}
 use mathlib.Core.Option.{some}
 use lib.Dec.{T, ltb}
 use lib.ListN.{length, getD, take, drop, getElem?}
-use Rattle.words.specs.Words.{given}
+use Rattle.words.specs.Words.{given, table}
 use Rattle.catalogue.specs.Catalogue.{catalogueOf}
 use Rattle.catalogue.specs.Refusals as Catalogue
 use Rattle.fit.specs.Fit.{fitOf, resultAt}
@@ -38,6 +38,10 @@ count o = o .word % 4294967296
 -- the 24 bytes of entry i
 abbrev pub entryAt : Outcome → ℕ → List ℕ
 entryAt o i = take 24 (drop (24 * i) (o .buffer))
+
+-- all entries that a call left, each as its bytes
+abbrev pub entriesOf : Outcome → List (List ℕ)
+entriesOf o = table (count o) (entryAt o)
 
 -- ---- the refusals, each with its condition, in their order
 -- no call gives a higher number

@@ -1,5 +1,5 @@
 -- The list call as it was: before drones were totalled without loss, when refusal 7 stood in front of 10; and before there were leagues,
--- when it gave the Rust's list.
+-- when it gave the Rust's list, with the types that are missing behind it.
 use Prim.Native.Nat.{ℕ}
 use mathlib.Core.Bool.{Bool, true, false, _&&_}
 use mathlib.Core.List.{List, _∷_, _++_}
@@ -14,7 +14,8 @@ use Rattle.resource.specs.Resource.{launched}
 use Rattle.validate.specs.Kind.{isHull}
 use Rattle.validate.specs.Validate.{listOf}
 use Rattle.lists.specs.Terms.{Terms}
-use Rattle.lists.specs.Lists.{wholeList}
+use Rattle.lists.specs.Unknown.{unknownTypes}
+use Rattle.lists.specs.Lists.{onHull, wholeList}
 use Rattle.fitcheck.specs.Calls.{Answer, answer, imageRefusals, inputRefusals, bufferRefusals}
 
 -- 7: on a hull, its name present, launched drones over 4,294,967,295
@@ -32,5 +33,7 @@ listBefore t catalogue fit buffer =
 -- with no profile to bring
 unfoldable pub rustCall : (catalogue fit buffer : List ℕ) → Answer
 rustCall catalogue fit buffer =
-    let es = listOf (catalogueOf catalogue) (fitOf fit) in
+    let c = catalogueOf catalogue in
+    let f = fitOf fit in
+    let es = listOf c f ++ onHull c (f .frame) (unknownTypes c (pairs c f)) in
     answer (imageRefusals catalogue fit ++ bufferRefusals buffer es) es

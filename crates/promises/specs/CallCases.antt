@@ -11,7 +11,7 @@ use Rattle.floats.specs.Floats.{ofNat}
 use Rattle.entry.specs.declared.Rule.{Rule}
 use Rattle.entry.specs.declared.Rule.the-variants.{Resource, Slots, WrongSlot, NotAModule, NotADrone, NotAFighter, NotAnImplant, SlotTaken}
 use Rattle.entry.specs.declared.Rule.the-variants.{WrongSlotIndex, SubsystemTaken, Skill, RigSize, ShipRestricted, CapitalItem}
-use Rattle.entry.specs.declared.Rule.the-variants.{StructureItem, ShipItem, MaxGroup, MaxType, NotAHull, NotAMode, NotASkill, Banned, Points}
+use Rattle.entry.specs.declared.Rule.the-variants.{StructureItem, ShipItem, MaxGroup, MaxType, NotAHull, NotAMode, NotASkill, Banned, Points, UnknownType}
 use Rattle.entry.specs.Entries.{onShip, onItem}
 use Rattle.promises.specs.Cases.{Written, BadSize, ListCall, SkillCall, HallCall, Number, Holds, InBytes, Returns, Case}
 
@@ -53,6 +53,7 @@ ENTRIES =
     ∷ entry (NotASkill (negsuc 1)) 21 0 (0xFFFFFFFE ∷ 0 ∷ 0 ∷ 0 ∷ [])
     ∷ entry (Banned (negsuc 1)) 24 0 (0xFFFFFFFE ∷ 0 ∷ 0 ∷ 0 ∷ [])
     ∷ entry (Points 7 5) 25 0 (7 ∷ 5 ∷ 0 ∷ 0 ∷ [])
+    ∷ entry (UnknownType (negsuc 1)) 26 0 (0xFFFFFFFE ∷ 0 ∷ 0 ∷ 0 ∷ [])
     ∷ []
 
 -- ---- images

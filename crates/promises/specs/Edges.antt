@@ -21,6 +21,7 @@ use Rattle.promises.specs.CallCases.{ENTRIES, CALLS}
 use Rattle.promises.specs.RefusalCases.{LENGTHS, KEYS, FIELDS, SIZES, IDS, RANGES, DRONES, NUMBERS, BUFFERS, FIRSTS, LARGE, ZEROS}
 use Rattle.promises.specs.WidenCases.{VALUES, WIDENED}
 use Rattle.promises.specs.LeagueCases.{PROFILES, LEAGUE, PROFILED}
+use Rattle.promises.specs.UnknownCases.{UNKNOWNS, CARRIED}
 
 -- ---- skills
 -- skills 1 and 2 demand each other: 2 at 1, and 1 at 4
@@ -104,7 +105,7 @@ abbrev pub PARTS : List (List Case)
 PARTS =
     STARRED ∷ SKILLS ∷ KINDS ∷ RESOURCES ∷ SLOTS ∷ ITEMS ∷ CROWDS ∷ ORDER ∷ ENTRIES ∷ CALLS
     ∷ LENGTHS ∷ KEYS ∷ FIELDS ∷ SIZES ∷ IDS ∷ RANGES ∷ DRONES ∷ NUMBERS ∷ BUFFERS ∷ FIRSTS ∷ LARGE ∷ ZEROS
-    ∷ VALUES ∷ WIDENED ∷ PROFILES ∷ LEAGUE ∷ PROFILED ∷ []
+    ∷ VALUES ∷ WIDENED ∷ PROFILES ∷ LEAGUE ∷ PROFILED ∷ UNKNOWNS ∷ CARRIED ∷ []
 
 abbrev pub EDGES : List Case
 EDGES = each PARTS λ part. part

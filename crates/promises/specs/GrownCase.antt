@@ -14,7 +14,7 @@ use Rattle.floats.specs.Floats.{zeroF, ofNat, f64Bits}
 use Rattle.catalogue.specs.Catalogue.{Id, TypeData, Catalogue, catalogueOf}
 use Rattle.fit.specs.Fit.{Item, Result, Fit, allResults, fitOf}
 use Rattle.entry.specs.declared.Entry.{Entry}
-use Rattle.entry.specs.declared.Rule.the-variants.{Resource, Slots, SlotTaken, Skill, MaxGroup, MaxType, NotASkill, Banned, Points}
+use Rattle.entry.specs.declared.Rule.the-variants.{Resource, Slots, NotAnImplant, SlotTaken, Skill, MaxGroup, MaxType, NotASkill, Banned, Points, UnknownType}
 use Rattle.entry.specs.Entries.{onShip, onItem}
 use Rattle.lists.specs.Terms.{Terms, terms, main}
 use Rattle.fitcheck.specs.Calls.{Listed, listCall, skillCall}
@@ -39,7 +39,7 @@ catalogueBytes c =
     ++ each (c .types) (λ x. idBytes (x .id))
     ++ each (c .types) (λ x. idBytes (x .group) ++ idBytes (x .category) ++ words (x .volumeFlag ∷ toBits binary32 (x .volume) ∷ []))
     ++ each (c .links) (λ x. idBytes (x .type)) ++ each (c .links) (λ x. idBytes (x .effect))
-    ++ each (c .bases) (λ x. idBytes (x .type)) ++ each (c .bases) (λ x. idBytes (x .attribute) ++ le 4 (toBits binary32 (x .value)))
+    ++ each (c .bases) (λ x. idBytes (x .type)) ++ each (c .bases) (λ x. idBytes (x .attribute) ++ le 8 (f64Bits (x .value)))
 
 abbrev fitBytes : Fit → List ℕ
 fitBytes f =
@@ -53,6 +53,10 @@ fitBytes f =
     ++ each attributes (λ a. idBytes (a .id)) ++ each attributes (λ a. le 8 (f64Bits (a .value)))
 
 -- ---- a catalogue and two fits
+-- what is not in the catalogue, beside `unknown`
+abbrev lost : Id
+lost = negsuc 98
+
 -- what has a volume below zero
 abbrev scrap : Id
 scrap = pos 27
@@ -78,7 +82,8 @@ CATALOGUE = catalogueBytes (record {
   bases = [];
 })
 
--- two guns in one slot, of which the first allows one of its group and one of its type, and wants the skill at 5; 5 less 1 in the hold
+-- two guns in one slot, of which the first allows one of its group and one of its type, and wants the skill at 5; 5 less 1 in the hold, and
+-- an implant that is not in the catalogue
 abbrev things : List Thing
 things =
     one gun Slots.high 0
@@ -86,6 +91,7 @@ things =
     ∷ one gun Slots.high 0 []
     ∷ stack 2 ore Slots.cargo 0 0 []
     ∷ stack 1 scrap Slots.cargo 0 0 []
+    ∷ one lost Slots.implant 0 []
     ∷ []
 
 -- on a ship with a hold of 1 and one High slot, by a pilot with the skill at 3
@@ -135,6 +141,7 @@ OLD-LIST =
     ∷ onShip (Slots 0 2 1)
     ∷ onItem 0 SlotTaken
     ∷ onItem 1 SlotTaken
+    ∷ onItem 4 NotAnImplant
     ∷ onItem 0 (MaxGroup (pos 50) 0 2 1)
     ∷ onItem 0 (MaxType gun 2 1)
     ∷ []
@@ -147,8 +154,9 @@ NEW-LIST =
     ∷ onShip (Slots 0 3 1)
     ∷ onItem 0 SlotTaken
     ∷ onItem 1 SlotTaken
+    ∷ onItem 4 NotAnImplant
     ∷ onItem 0 (MaxGroup (pos 50) 0 3 1)
-    ∷ onItem 4 (MaxGroup (pos 50) 0 3 1)
+    ∷ onItem 5 (MaxGroup (pos 50) 0 3 1)
     ∷ onItem 0 (MaxType gun 3 1)
     ∷ []
 
@@ -167,12 +175,19 @@ PRICING = terms (words (1 ∷ 50 ∷ 3 ∷ [])) 5
 abbrev pub bans : List ℕ → List Entry
 bans positions = map (λ i. onItem i (Banned (pos 50))) positions
 
+-- the types that are missing: an implant, and in the new fit one in the hold
+abbrev pub OLD-LAST : List Entry
+OLD-LAST = onItem 4 (UnknownType lost) ∷ []
+
+abbrev pub NEW-LAST : List Entry
+NEW-LAST = onItem 4 (UnknownType lost) ∷ onItem 8 (UnknownType unknown) ∷ []
+
 -- room for all of them
 abbrev pub ROOM : List ℕ
-ROOM = replicate 264 7
+ROOM = replicate 336 7
 
--- the images are these fits; they meet the premises, though unequal numbers are added; and of every rule with a number that may change, the
--- old lists have an entry
+-- the images are these fits; they meet the premises, though unequal numbers are added; and of every rule with a number that may change, and
+-- of each of document 02's, the old lists have an entry
 pub record Example : Type 0 where
   pub old-fit : fitOf OLD ≡ old
   pub new-fit : fitOf NEW ≡ new
@@ -183,11 +198,11 @@ pub record Example : Type 0 where
   pub grown : Grown (fitOf OLD) (fitOf NEW)
   pub volumes : AddedVolumes (catalogueOf CATALOGUE) (fitOf OLD) (fitOf NEW)
   -- all calls are answered
-  pub old-list : listCall main CATALOGUE OLD ROOM ≡ Listed OLD-LIST
-  pub new-list : listCall main CATALOGUE NEW ROOM ≡ Listed NEW-LIST
-  pub old-bans : listCall BANNING CATALOGUE OLD ROOM ≡ Listed (OLD-LIST ++ bans (0 ∷ 1 ∷ []))
-  pub new-bans : listCall BANNING CATALOGUE NEW ROOM ≡ Listed (NEW-LIST ++ bans (0 ∷ 1 ∷ 4 ∷ []))
-  pub old-points : listCall PRICING CATALOGUE OLD ROOM ≡ Listed (OLD-LIST ++ onShip (Points 6 5) ∷ [])
-  pub new-points : listCall PRICING CATALOGUE NEW ROOM ≡ Listed (NEW-LIST ++ onShip (Points 9 5) ∷ [])
+  pub old-list : listCall main CATALOGUE OLD ROOM ≡ Listed (OLD-LIST ++ OLD-LAST)
+  pub new-list : listCall main CATALOGUE NEW ROOM ≡ Listed (NEW-LIST ++ NEW-LAST)
+  pub old-bans : listCall BANNING CATALOGUE OLD ROOM ≡ Listed (OLD-LIST ++ bans (0 ∷ 1 ∷ []) ++ OLD-LAST)
+  pub new-bans : listCall BANNING CATALOGUE NEW ROOM ≡ Listed (NEW-LIST ++ bans (0 ∷ 1 ∷ 5 ∷ []) ++ NEW-LAST)
+  pub old-points : listCall PRICING CATALOGUE OLD ROOM ≡ Listed (OLD-LIST ++ (onShip (Points 6 5) ∷ OLD-LAST))
+  pub new-points : listCall PRICING CATALOGUE NEW ROOM ≡ Listed (NEW-LIST ++ (onShip (Points 9 5) ∷ NEW-LAST))
   pub old-skills : skillCall CATALOGUE OLD 2 ROOM ≡ Listed (lacks 3)
   pub new-skills : skillCall CATALOGUE NEW 2 ROOM ≡ Listed (lacks 1)

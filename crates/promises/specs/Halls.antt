@@ -42,5 +42,5 @@ pub record Judged (catalogue fit buffer : List ℕ) (o : Outcome) : Type 0 where
   pub clear : T (isClear (catalogueOf catalogue) fit) ↔ ((refusal o ≡ 0) × (count o ≡ 0) × (itemCount fit ≡ resultCount fit))
   pub turned-away : T (fitRefused fit) ↔ ((4 ≤ refusal o) × (refusal o ≤ 6))
   -- faulted where it answers with entries, or with unequal numbers, if the buffer has room for the longest list
-  pub faulted : 129552 ≤ length buffer
+  pub faulted : 135696 ≤ length buffer
       → T (isFaulted (catalogueOf catalogue) fit) ↔ ((refusal o ≡ 0) × ((0 < count o) ⊎ (itemCount fit ≡ resultCount fit → ⊥)))

@@ -11,7 +11,7 @@ use Rattle.floats.specs.Floats.{ofNat}
 use Rattle.entry.specs.declared.Rule.{Rule}
 use Rattle.entry.specs.declared.Rule.the-variants.{Resource, Slots, WrongSlot, NotAModule, NotADrone, NotAFighter, NotAnImplant, SlotTaken}
 use Rattle.entry.specs.declared.Rule.the-variants.{WrongSlotIndex, SubsystemTaken, Skill, RigSize, ShipRestricted, CapitalItem}
-use Rattle.entry.specs.declared.Rule.the-variants.{StructureItem, ShipItem, MaxGroup, MaxType, NotAHull, NotAMode, NotASkill, Banned, Points}
+use Rattle.entry.specs.declared.Rule.the-variants.{StructureItem, ShipItem, MaxGroup, MaxType, NotAHull, NotAMode, NotASkill, Banned, Points, UnknownType}
 use Rattle.entry.specs.Entries.{onShip, onItem, entryBytes}
 use Rattle.promises.specs.Answers.{Outcome}
 use Rattle.promises.specs.Compare.{Kept}
@@ -61,7 +61,8 @@ OTHERS =
     taken
     ∷ map (λ r. entryBytes (onItem 258 r))
     (WrongSlot 5 ∷ NotAModule ∷ NotADrone ∷ NotAFighter ∷ NotAnImplant ∷ WrongSlotIndex 300 ∷ SubsystemTaken ∷ RigSize 1 2
-    ∷ ShipRestricted ∷ CapitalItem ∷ StructureItem ∷ ShipItem ∷ NotAHull ∷ NotAMode ∷ NotASkill (pos 7) ∷ Banned (pos 50) ∷ [])
+    ∷ ShipRestricted ∷ CapitalItem ∷ StructureItem ∷ ShipItem ∷ NotAHull ∷ NotAMode ∷ NotASkill (pos 7) ∷ Banned (pos 50)
+    ∷ UnknownType (pos 99) ∷ [])
 
 -- a number below zero
 abbrev minus : ℕ → Float

@@ -6,7 +6,7 @@ use lib.IntN.{pos}
 use lib.ListN.{length, replicate, take}
 use Rattle.words.specs.Words.{from}
 use Rattle.entry.specs.declared.Entry.{Entry}
-use Rattle.entry.specs.declared.Rule.the-variants.{NotAModule, NotAHull, Banned, Points}
+use Rattle.entry.specs.declared.Rule.the-variants.{NotAModule, NotAHull, Banned, Points, UnknownType}
 use Rattle.entry.specs.Entries.{onShip, onItem}
 use Rattle.lists.specs.Terms.{terms}
 use Rattle.promises.specs.Cases.{ship, gun, plate, rifle, drone, squadron, hardwiring, unknown, known, Thing, stack, one, fit}
@@ -113,8 +113,10 @@ LEAGUE =
     -- any state
     ∷ league ((50, ban) ∷ []) 0 (alone (stack 1 gun 0 0 0 [])) (onItem 0 (Banned (pos 50)) ∷ [])
     -- a type that the catalogue lacks is of group 0
-    ∷ league ((0, ban) ∷ []) 0 (alone (one unknown 0 0 [])) (onItem 0 NotAModule ∷ onItem 0 (Banned (pos 0)) ∷ [])
-    ∷ league ((0, 4) ∷ []) 3 (alone (one unknown 0 0 [])) (onItem 0 NotAModule ∷ onShip (Points 4 3) ∷ [])
+    ∷ league ((0, ban) ∷ []) 0 (alone (one unknown 0 0 []))
+    (onItem 0 NotAModule ∷ onItem 0 (Banned (pos 0)) ∷ onItem 0 (UnknownType unknown) ∷ [])
+    ∷ league ((0, 4) ∷ []) 3 (alone (one unknown 0 0 []))
+    (onItem 0 NotAModule ∷ onShip (Points 4 3) ∷ onItem 0 (UnknownType unknown) ∷ [])
     -- the group, and not the type: 10 is the gun's
     ∷ league ((10, ban) ∷ []) 0 (alone (one gun 0 0 [])) []
     -- without a profile the allowance is not read; on a ship that is no hull nothing stands behind NotAHull

@@ -16,3 +16,4 @@ pub mod CallCases
 pub mod RefusalCases
 pub mod WidenCases
 pub mod LeagueCases
+pub mod UnknownCases

@@ -7,24 +7,27 @@ use mathlib.Core.Path.{_≡_}
 use mathlib.Core.Bool.{false, not}
 use mathlib.Core.List.{List, [], map}
 use mathlib.Core.Logic.{_↔_}
-use lib.Dec.{T}
+use lib.Dec.{T, eqb}
 use lib.ListN.{length, getD}
 use lib.Ieee.Exact.{HasValue}
-use Rattle.words.specs.Words.{from}
+use Rattle.words.specs.Words.{from, only}
+use Rattle.image.specs.Bytes.{u8At}
 use Rattle.floats.specs.Floats.{ofNat}
 use Rattle.catalogue.specs.Catalogue.{Catalogue, catalogueOf}
 use Rattle.widening.specs.Old.{oldCatalogueOf}
 use Rattle.widening.specs.Widen.{widened}
 use Rattle.fit.specs.Fit.{Item, Result, Fit, fitOf}
 use Rattle.fit.specs.Refusals.{badSize}
+use Rattle.entry.specs.Entries.{number, entryBytes}
 use Rattle.context.specs.Context.{pairs}
 use Rattle.resource.specs.Resource.{launched}
 use Rattle.skill.specs.Skill.{tooMany, skillList}
 use Rattle.lists.specs.Terms.{Terms, main}
-use Rattle.lists.specs.Lists.{wholeList}
+use Rattle.validate.specs.Validate.{listOf}
+use Rattle.lists.specs.Lists.{leagueList, wholeList}
 use Rattle.fitcheck.specs.Calls.{listCall, skillCall}
 use Rattle.fitcheck.specs.Hall.{hallCall, hallReturned}
-use Rattle.promises.specs.Answers.{Outcome, outcome, refusal, count, catalogueConditions, listConditions, skillConditions, None, Answers}
+use Rattle.promises.specs.Answers.{Outcome, outcome, refusal, count, entriesOf, catalogueConditions, listConditions, skillConditions, None, Answers}
 use Rattle.promises.specs.Before.{listBefore, rustCall}
 use Rattle.promises.specs.Compare.{Bytes, Grown, AddedVolumes, Alike, Kept}
 use Rattle.promises.specs.GrownCase.{grownBy, Example}
@@ -53,9 +56,9 @@ SkillAnswers = (catalogue fit : List ℕ) (result : ℕ) (buffer : List ℕ)
     → Answers (skillConditions catalogue fit result buffer) (skillList (catalogueOf catalogue) (fitOf fit) result) buffer
     (skillOutcome catalogue fit result buffer)
 
--- No list has more than 5,398 entries, no skill list more than 512: a buffer of 129,552 bytes, or of 12,288, is never too short.
+-- No list has more than 5,654 entries, no skill list more than 512: a buffer of 135,696 bytes, or of 12,288, is never too short.
 abbrev pub ListRoom : Type 0
-ListRoom = (t : Terms) (catalogue fit buffer : List ℕ) → 129552 ≤ length buffer → refusal (listOutcome t catalogue fit buffer) ≡ 10 → ⊥
+ListRoom = (t : Terms) (catalogue fit buffer : List ℕ) → 135696 ≤ length buffer → refusal (listOutcome t catalogue fit buffer) ≡ 10 → ⊥
 
 abbrev pub SkillRoom : Type 0
 SkillRoom = (catalogue fit : List ℕ) (result : ℕ) (buffer : List ℕ) → 12288 ≤ length buffer → refusal (skillOutcome catalogue fit result buffer) ≡ 10 → ⊥
@@ -75,10 +78,21 @@ ListAsBefore = (t : Terms) (catalogue fit buffer : List ℕ)
     → listOutcome t catalogue fit buffer ≡ outcome buffer (listBefore t catalogue fit buffer)
 
 -- P2. Without a profile, whatever the allowance, a list call leaves what it left before there were leagues, the word and every byte: the
--- Rust's list, or the number that refused it.
+-- Rust's list with the missing types behind it, or the number that refused it.
 abbrev pub NoProfile : Type 0
 NoProfile = (t : Terms) (catalogue fit buffer : List ℕ) → t .profile ≡ []
     → listOutcome t catalogue fit buffer ≡ outcome buffer (rustCall catalogue fit buffer)
+
+-- P5. Take rule 26 out and the list given before remains, a league's entries included; without a profile that is the Rust's.
+abbrev pub Unknowns : Type 0
+Unknowns = (t : Terms) (c : Catalogue) (f : Fit)
+    → (only (λ e. not (eqb (number e) 26)) (wholeList t c f) ≡ leagueList t c f) × (t .profile ≡ [] → leagueList t c f ≡ listOf c f)
+
+-- The same of the bytes that an answered call left, byte 1 of an entry being its rule's number.
+abbrev pub UnknownsLeft : Type 0
+UnknownsLeft = (t : Terms) (catalogue fit buffer : List ℕ) → refusal (listOutcome t catalogue fit buffer) ≡ 0
+    → only (λ e. not (eqb (u8At e 1) 26)) (entriesOf (listOutcome t catalogue fit buffer))
+    ≡ map entryBytes (leagueList t (catalogueOf catalogue) (fitOf fit))
 
 -- The drones of a fit that 4 does not refuse, 256 stacks of 4,294,967,295 at most, are a number that an f64 holds: the one that is listed has
 -- the value of their total, with no rounding.
@@ -88,7 +102,7 @@ DronesExact = (c : Catalogue) (fit : List ℕ) → Bytes fit → T (not (badSize
 
 -- Demand 3 for the list. Items and results put behind those of a fit with as many results as items, drones in any number among them, and
 -- lowered levels, make no entry vanish: it has its own place in the new list, in the old order, with a used number no lower and every other
--- byte the same. Rules 24 and 25 are among the entries, as both calls have the same profile and allowance.
+-- byte the same. Rules 24, 25 and 26 are among the entries, as both calls have the same profile and allowance.
 abbrev pub ListKept : Type 0
 ListKept = (t t′ : Terms) (catalogue old new oldBuffer newBuffer : List ℕ) → Alike t t′ → Bytes new
     → Grown (fitOf old) (fitOf new)
@@ -165,6 +179,8 @@ pub record Promises : Type 0 where
   pub no-seven : NoSeven
   pub list-as-before : ListAsBefore
   pub no-profile : NoProfile
+  pub unknowns : Unknowns
+  pub unknowns-left : UnknownsLeft
   pub drones-exact : DronesExact
   pub list-kept : ListKept
   pub skill-kept : SkillKept

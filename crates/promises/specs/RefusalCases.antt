@@ -13,7 +13,7 @@ use Rattle.numbers.specs.Names.{fitsToShipType, canFitShipGroup01, maxGroupFitt
 use Rattle.floats.specs.Floats.{ofNat}
 use Rattle.catalogue.specs.Catalogue.{Id, Name, Base, Catalogue}
 use Rattle.fit.specs.Fit.{Result, Fit}
-use Rattle.entry.specs.declared.Rule.the-variants.{WrongSlot, NotAModule, Skill, ShipRestricted, MaxGroup, MaxType, NotAHull, NotASkill}
+use Rattle.entry.specs.declared.Rule.the-variants.{WrongSlot, NotAModule, Skill, ShipRestricted, MaxGroup, MaxType, NotAHull, NotASkill, UnknownType}
 use Rattle.entry.specs.Entries.{onShip, onItem}
 use Rattle.promises.specs.Cases.{attribute, typed, ship, gun, unknown, base, tree, has, result, asksFor, asks, Thing, one, fit}
 use Rattle.promises.specs.Cases.{Fitted, Wants, Skilled, BadLength, BadSize, SkillRefusal, ListCall, SkillCall, HallCall, ListBefore}
@@ -257,9 +257,9 @@ noDrones = words (0x00000501 ∷ 0 ∷ 0 ∷ 0 ∷ 0 ∷ 0 ∷ []) ++ words (0x0
 abbrev launched : (low high : ℕ) → List ℕ
 launched low high = words (0x00050100 ∷ 0 ∷ low ∷ high ∷ 0 ∷ 0 ∷ []) ++ noDrones
 
--- type 1, a ship, and no names
+-- type 1, a ship, type 9, and no names
 abbrev nameless : List ℕ
-nameless = words (0 ∷ 0 ∷ 1 ∷ 0 ∷ 0 ∷ 1 ∷ 25 ∷ 6 ∷ 0 ∷ 0 ∷ [])
+nameless = words (0 ∷ 0 ∷ 2 ∷ 0 ∷ 0 ∷ 1 ∷ 9 ∷ 25 ∷ 6 ∷ 0 ∷ 0 ∷ 50 ∷ 7 ∷ 0 ∷ 0 ∷ [])
 
 abbrev pub DRONES : List Case
 DRONES =
@@ -431,7 +431,7 @@ ZEROS =
     ∷ (
       Fitted (nought 7 (named maxGroupFitted))
           (fit ship [] (one (pos 0) 1 0 (has maxGroupFitted (ofNat 1) ∷ []) ∷ one unknown 0 0 [] ∷ [])),
-      Entries (onItem 1 NotAModule ∷ onItem 0 (MaxGroup (pos 0) 0 2 1) ∷ []),
+      Entries (onItem 1 NotAModule ∷ onItem 0 (MaxGroup (pos 0) 0 2 1) ∷ onItem 1 (UnknownType unknown) ∷ []),
     )
     -- two of type 0; effect 0; attribute 0, whose name has that id
     ∷ (

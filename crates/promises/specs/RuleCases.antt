@@ -16,7 +16,7 @@ use Rattle.fit.specs.Fit.{Attribute, Fit}
 use Rattle.entry.specs.declared.Entry.{Entry}
 use Rattle.entry.specs.declared.Rule.the-variants.{Resource, Slots, WrongSlot, NotAModule, NotADrone, NotAFighter, NotAnImplant, SlotTaken}
 use Rattle.entry.specs.declared.Rule.the-variants.{WrongSlotIndex, SubsystemTaken, RigSize, ShipRestricted, CapitalItem, StructureItem}
-use Rattle.entry.specs.declared.Rule.the-variants.{ShipItem, MaxGroup, MaxType, NotAHull, NotAMode, NotASkill}
+use Rattle.entry.specs.declared.Rule.the-variants.{ShipItem, MaxGroup, MaxType, NotAHull, NotAMode, NotASkill, UnknownType}
 use Rattle.entry.specs.Entries.{onShip, onItem}
 use Rattle.promises.specs.Cases.{ship, structure, gun, plate, shield, relay, turret, launcher, part, standupGun, rifle, hybrid, drone, squadron}
 use Rattle.promises.specs.Cases.{hardwiring, stance, gunnery, ore, ghost, vast, parcel, unknown, known, has, result, Thing, stack, one, fitWith}
@@ -104,6 +104,10 @@ led most things es = lists (maxActiveDrones ∷ []) (fitWith ship [] (has maxAct
 abbrev hold : List Thing
 hold = stack 3 ore 11 0 0 [] ∷ stack 9 ghost 11 0 0 [] ∷ stack 9 unknown 11 0 0 [] ∷ []
 
+-- the last of them is not in the catalogue
+abbrev unheld : List Entry
+unheld = onItem 2 (UnknownType unknown) ∷ []
+
 -- two stacks in the hold of a ship, each of a type of its own with a volume
 abbrev hauled : Float → Float → Catalogue
 hauled a b = record {
@@ -156,10 +160,10 @@ RESOURCES =
     ∷ led (inf true) hangar []
     ∷ led nan hangar []
     -- `cargo`: volume times quantity, of the hold alone; no volume is 0
-    ∷ lists (capacity ∷ []) (fit ship (has capacity (ofNat 7) ∷ []) hold) (onShip (Resource 11 (halves 15) (ofNat 7)) ∷ [])
-    ∷ lists (capacity ∷ []) (fit ship (has capacity (halves 15) ∷ []) hold) []
+    ∷ lists (capacity ∷ []) (fit ship (has capacity (ofNat 7) ∷ []) hold) (onShip (Resource 11 (halves 15) (ofNat 7)) ∷ unheld)
+    ∷ lists (capacity ∷ []) (fit ship (has capacity (halves 15) ∷ []) hold) unheld
     ∷ lists (capacity ∷ []) (fit ship [] (alone (one ore 0 0 []))) (onItem 0 NotAModule ∷ [])
-    ∷ lists [] (fit ship [] hold) []
+    ∷ lists [] (fit ship [] hold) unheld
     ∷ lists (capacity ∷ []) unloaded []
     -- summed in the items' order: each 1 is lost behind 2 ^ 53, and would not be before it
     ∷ lists (capacity ∷ []) (fit ship [] (one vast 11 0 [] ∷ one parcel 11 0 [] ∷ one parcel 11 0 [] ∷ [])) (onShip (Resource 11 (fin false 1 (pos 53)) (ofNat 0)) ∷ [])
@@ -242,7 +246,7 @@ SLOTS =
     ∷ (Fitted (marked 7) (fit ship [] (alone (one gun 5 0 []))), Entries [])
     ∷ (Fitted (marked 8) (fit ship [] (alone (one gun 5 0 []))), Entries [])
     -- NotAModule: categories 7, 32 and 66 are modules
-    ∷ lists [] (fit ship [] (pair (one drone 5 0 []) (one unknown 0 0 []))) (onItem 0 NotAModule ∷ onItem 1 NotAModule ∷ [])
+    ∷ lists [] (fit ship [] (pair (one drone 5 0 []) (one unknown 0 0 []))) (onItem 0 NotAModule ∷ onItem 1 NotAModule ∷ onItem 1 (UnknownType unknown) ∷ [])
     ∷ lists [] (fit ship [] (pair (one gun 0 0 []) (one part 4 0 []))) []
     ∷ lists [] (fit structure [] (alone (one standupGun 0 0 []))) []
     ∷ lists [] (fit ship [] (alone (one drone 11 0 []))) []
@@ -376,7 +380,7 @@ ITEMS =
     ∷ lists (from maxGroupFitted 3) (fit ship [] (pair (inState 0 1 (has maxGroupActive (ofNat 0) ∷ [])) (inState 1 2 [])))
     (onItem 0 (MaxGroup (pos 50) 2 1 0) ∷ [])
     ∷ lists (from maxGroupFitted 3) (fit ship [] (alone (one unknown 0 0 (has maxGroupFitted (ofNat 0) ∷ []))))
-    (onItem 0 NotAModule ∷ onItem 0 (MaxGroup (pos 0) 0 1 0) ∷ [])
+    (onItem 0 NotAModule ∷ onItem 0 (MaxGroup (pos 0) 0 1 0) ∷ onItem 0 (UnknownType unknown) ∷ [])
     ∷ lists [] (fit ship [] (alone (inState 0 1 (has maxGroupFitted (ofNat 0) ∷ [])))) []
     -- MaxType: fitted, of the same type
     ∷ lists (maxTypeFitted ∷ [])

@@ -145,7 +145,7 @@ enum Expected {
 fn wrong_slot_index(
     catalogue: &[u8],
     fit: &[u8],
-    facts: &[u32; 1797],
+    facts: &[u32; 2054],
     ids: Ids,
     i: usize,
 ) -> Expected
@@ -181,7 +181,7 @@ fn is_part(value: Value, part: f64) -> bool
 }
 
 // Whether pair j is a subsystem for the part, and another than pair i.
-fn same_part(fit: &[u8], facts: &[u32; 1797], id: i32, part: f64, i: usize, j: usize) -> bool
+fn same_part(fit: &[u8], facts: &[u32; 2054], id: i32, part: f64, i: usize, j: usize) -> bool
     requires { ⌜ Fit.Sound (now fit) × Fit.Starts (now fit) (now facts) × (j < pairCount (now fit)) ⌝ }
     ensures { λ r.
         let f = now (fit .entry) in
@@ -197,7 +197,7 @@ fn same_part(fit: &[u8], facts: &[u32; 1797], id: i32, part: f64, i: usize, j: u
 }
 
 // Whether another subsystem than pair i is for the part.
-fn shares_part(fit: &[u8], facts: &[u32; 1797], id: i32, part: f64, i: usize) -> bool
+fn shares_part(fit: &[u8], facts: &[u32; 2054], id: i32, part: f64, i: usize) -> bool
     requires { ⌜ Fit.Sound (now fit) × Fit.Starts (now fit) (now facts) ⌝ }
     ensures { λ r.
         let f = now (fit .entry) in
@@ -214,7 +214,7 @@ fn shares_part(fit: &[u8], facts: &[u32; 1797], id: i32, part: f64, i: usize) ->
 }
 
 // Every subsystem covers one part of the ship, and only one may.
-fn subsystem_taken(catalogue: &[u8], fit: &[u8], facts: &[u32; 1797], ids: Ids, i: usize) -> bool
+fn subsystem_taken(catalogue: &[u8], fit: &[u8], facts: &[u32; 2054], ids: Ids, i: usize) -> bool
     requires { ⌜ Gathered (now catalogue) (now fit) (now facts) × Named (now catalogue) ids × (i < pairCount (now fit)) ⌝ }
     ensures { λ r.
         let x = contextOf (now (catalogue .entry)) (now (fit .entry)) in
@@ -250,7 +250,7 @@ struct Item {
 fn item_at(
     catalogue: &[u8],
     fit: &[u8],
-    facts: &[u32; 1797],
+    facts: &[u32; 2054],
     places: &[u32; 256],
     ids: Ids,
     i: usize,
@@ -401,7 +401,7 @@ fn slot_checks(item: Item, out: &mut [u8], n: usize) -> usize
 pub fn validate(
     catalogue: &[u8],
     fit: &[u8],
-    facts: &[u32; 1797],
+    facts: &[u32; 2054],
     out: &mut [u8],
     n: usize,
 ) -> usize

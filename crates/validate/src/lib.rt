@@ -47,11 +47,14 @@ fn is_hull_kind(category: i32, group: i32) -> bool
     is_container(group)
 }
 
-// Whether the ship is one: a ship, structure or container. A type that the catalogue lacks has category 0 and group 0, which are no hull's.
-pub fn is_hull(catalogue: &[u8], fit: &[u8], facts: &[u32; 1797]) -> bool
+// Whether the ship is one: a ship, structure or container. A type that the catalogue lacks is none.
+pub fn is_hull(catalogue: &[u8], fit: &[u8], facts: &[u32; 2054]) -> bool
     requires { ⌜ Gathered (now catalogue) (now fit) (now facts) ⌝ }
     ensures { λ r. ⌜ r ≡ isHull (catalogueOf (now (catalogue .entry))) (fitOf (now (fit .entry)) .frame .ship) ⌝ }
 {
+    if !context::ship_is_known(catalogue, fit, facts) {
+        return false;
+    }
     let category = context::ship_category(catalogue, fit, facts);
     let group = context::ship_group(catalogue, fit, facts);
     is_hull_kind(category, group)
@@ -172,7 +175,7 @@ fn kind(catalogue: &[u8], fit: &[u8], hints: &mut [u32], out: &mut [u8], n: usiz
 }
 
 // resource.rs, slot.rs and item.rs.
-fn hull_rules(catalogue: &[u8], fit: &[u8], facts: &[u32; 1797], out: &mut [u8], n: usize) -> usize
+fn hull_rules(catalogue: &[u8], fit: &[u8], facts: &[u32; 2054], out: &mut [u8], n: usize) -> usize
     requires { ⌜ Gathered (now catalogue) (now fit) (now facts) × Room n (12 + 8 + 16 * mostPairs) ⌝ }
     ensures { λ r.
         let x = contextOf (now (catalogue .entry)) (now (fit .entry)) in
@@ -190,7 +193,7 @@ fn hull_rules(catalogue: &[u8], fit: &[u8], facts: &[u32; 1797], out: &mut [u8],
 pub fn validate(
     catalogue: &[u8],
     fit: &[u8],
-    facts: &[u32; 1797],
+    facts: &[u32; 2054],
     hints: &mut [u32],
     out: &mut [u8],
 ) -> usize

@@ -78,6 +78,16 @@ pub fn full_hangar(number: u64) -> Fit {
     made
 }
 
+/// A realistic fit of whose items no type is there: each is of an id two behind
+/// its own, in a gap of every catalogue.
+pub fn vanished(number: u64) -> Fit {
+    let mut made = fit(REALISTIC, number);
+    for item in &mut made.items {
+        item.type_id += 2;
+    }
+    made
+}
+
 /// A fit of so many pairs, each as in the largest one.
 pub fn of_pairs(pairs: usize) -> Shape {
     let modules = pairs.div_ceil(256 / LARGEST.modules).min(pairs);
@@ -315,6 +325,17 @@ mod tests {
 
         for pairs in [1, 4, 16, 64, 256] {
             assert_eq!(of_pairs(pairs).pairs(), pairs);
+        }
+    }
+
+    #[test]
+    fn what_has_vanished_is_in_no_catalogue() {
+        let full = world::catalogue(world::FULL);
+        for number in 0..8 {
+            for item in vanished(number).items {
+                let mut types = full.types.iter();
+                assert!(types.all(|row| row.id != item.type_id), "{item:?}");
+            }
         }
     }
 }

@@ -76,6 +76,7 @@ fn everything(picture: Option<&str>) {
     lists(small, full);
     hangars(small);
     leagues(small, full);
+    missing(small, full);
     skills(small, full);
     hall(small, full);
     widen();
@@ -128,7 +129,7 @@ fn hangars(small: &Catalogue) {
     let full: Vec<Fit> = (0..FITS)
         .map(|number| Fit::new(&fits::full_hangar(number)))
         .collect();
-    report::hangar_table(subject::hangars(small, &ones, &full));
+    report::hangar_table(subject::beside(small, &ones, &full));
     println!();
 }
 
@@ -150,6 +151,21 @@ fn leagues(small: &Catalogue, full: &Catalogue) {
     ] {
         let row = subject::leagues(catalogue, &fits, terms);
         report::league_row(title, row, has_target);
+    }
+    println!();
+}
+
+/// The realistic fit, and the same with none of its items' types there.
+fn missing(small: &Catalogue, full: &Catalogue) {
+    println!("## (i) Missing types, realistic fit, µs\n");
+    report::missing_head();
+    let there = of_shape(fits::REALISTIC, FITS);
+    let gone: Vec<Fit> = (0..FITS)
+        .map(|number| Fit::new(&fits::vanished(number)))
+        .collect();
+    for (title, catalogue) in [("small catalogue", small), ("full-size catalogue", full)] {
+        let row = subject::beside(catalogue, &there, &gone);
+        report::missing_row(title, row);
     }
     println!();
 }

@@ -83,6 +83,20 @@ pub fn league_row(title: &str, [without, with]: [f64; 2], has_target: bool) {
     );
 }
 
+pub fn missing_head() {
+    println!("| | list | none of the types there | ÷ all there |");
+    println!("|---|---|---|---|");
+}
+
+pub fn missing_row(title: &str, [there, gone]: [f64; 2]) {
+    println!(
+        "| {title} | {} | {} | {} |",
+        micros(there),
+        micros(gone),
+        ratio(gone / there)
+    );
+}
+
 pub fn skill_head() {
     println!(
         "| | entries | skill | short buffer | scan | original \

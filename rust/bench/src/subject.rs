@@ -15,7 +15,7 @@ use crate::timing::medians;
 
 /// A buffer for any list, and one for the skills of any result: the calls
 /// write into these in one pass, and count before they write into shorter ones.
-pub const ANY_LIST: usize = 129_552;
+pub const ANY_LIST: usize = 135_696;
 const ANY_SKILLS: usize = 12_288;
 
 /// What every call brings but those of [`leagues`].
@@ -214,12 +214,13 @@ pub fn list(catalogue: &Catalogue, fits: &[Fit]) -> List {
     }
 }
 
-/// Times the list call over hangars and over others in turn. The original
-/// cannot add the second ones up: their lists are the reference's.
-pub fn hangars(catalogue: &Catalogue, ones: &[Fit], full: &[Fit]) -> [f64; 2] {
+/// Times the list call over fits and over others in turn. The original alone
+/// cannot list the second ones, as their drones are more than it adds up, or
+/// their types are missing: their lists are the reference's.
+pub fn beside(catalogue: &Catalogue, usual: &[Fit], others: &[Fit]) -> [f64; 2] {
     let library = library();
     let mut long = [vec![0; ANY_LIST], vec![0; ANY_LIST]];
-    for fit in full {
+    for fit in others {
         let [given, expected] = &mut long;
         let word = library.list(&catalogue.image, &fit.image, NO_LEAGUE, given);
         assert_eq!(
@@ -229,7 +230,7 @@ pub fn hangars(catalogue: &Catalogue, ones: &[Fit], full: &[Fit]) -> [f64; 2] {
         );
         assert_eq!(given, expected, "bytes of the library and of the reference");
     }
-    let [mut t0, mut t1] = [ones, full].map(Turns::new);
+    let [mut t0, mut t1] = [usual, others].map(Turns::new);
     let [first, second] = &mut long;
     let image = &catalogue.image;
     let call = |fit: &Fit, out: &mut Vec<u8>| {

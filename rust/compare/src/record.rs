@@ -144,7 +144,7 @@ pub fn sample() -> Vec<Record> {
         sample.meet(number, SMALL, is_rule_or_refusal);
     }
     for number in written.clone().chain(made.clone()) {
-        sample.meet(number, SMALL, is_of_hall_or_league);
+        sample.meet(number, SMALL, is_of_document_02);
     }
     for number in written.clone().chain(made.clone()) {
         sample.meet(number, SMALL, |_| true);
@@ -226,10 +226,10 @@ fn is_rule_or_refusal(point: &Point) -> bool {
     matches!(point, Point::Rule(_) | Point::Refusal(..))
 }
 
-fn is_of_hall_or_league(point: &Point) -> bool {
+fn is_of_document_02(point: &Point) -> bool {
     matches!(
         point,
-        Point::HallFit(_) | Point::HallUnread(..) | Point::League(_)
+        Point::HallFit(_) | Point::HallUnread(..) | Point::League(_) | Point::Unknown(_)
     )
 }
 

@@ -5,6 +5,9 @@ use crate::guard::Guarded;
 use crate::reference::{Listed, Refusal};
 use crate::words;
 
+/// The rule that document 02's P5 puts behind a list.
+const UNKNOWN_TYPE: u8 = 26;
+
 /// What a call must give.
 pub struct Expected {
     pub word: u64,
@@ -52,12 +55,24 @@ pub fn compare(expected: &Expected, word: u64, out: &Guarded) -> Result<(), Stri
         }
         return Err(what);
     }
-    for (number, entry) in entries.iter().enumerate() {
-        let given = &out.bytes()[ENTRY * number..ENTRY * (number + 1)];
+    same_entries(&expected.listed, out.bytes())?;
+    if let Some(place) = out.first_written(ENTRY * entries.len()) {
+        return Err(format!(
+            "byte {place} of the buffer was written; the {} entries end before it",
+            entries.len()
+        ));
+    }
+    Ok(())
+}
+
+/// Each entry, against the bytes that begin with as many.
+fn same_entries(listed: &Listed, bytes: &[u8]) -> Result<(), String> {
+    for (number, entry) in listed.entries.iter().enumerate() {
+        let given = &bytes[ENTRY * number..ENTRY * (number + 1)];
         if given == entry {
             continue;
         }
-        if expected.listed.either_zero == Some(number) && differs_in_zero(entry, given) {
+        if listed.either_zero == Some(number) && differs_in_zero(entry, given) {
             continue;
         }
         let place = (0..ENTRY).find(|at| given[*at] != entry[*at]).unwrap_or(0);
@@ -67,13 +82,23 @@ pub fn compare(expected: &Expected, word: u64, out: &Guarded) -> Result<(), Stri
             words::entries(given).concat()
         ));
     }
-    if let Some(place) = out.first_written(ENTRY * entries.len()) {
+    Ok(())
+}
+
+/// Document 02's promise on rule 26: "Take those entries out and the list given
+/// before, a profile's entries included, remains."
+pub fn without_unknown(before: &Listed, given: &[u8]) -> Result<(), String> {
+    let entries = given.chunks_exact(ENTRY);
+    let kept: Vec<&[u8]> = entries.filter(|entry| entry[1] != UNKNOWN_TYPE).collect();
+    if kept.len() != before.entries.len() {
         return Err(format!(
-            "byte {place} of the buffer was written; the {} entries end before it",
-            entries.len()
+            "without rule 26 the checker lists {} entries; the list before has {}",
+            kept.len(),
+            before.entries.len()
         ));
     }
-    Ok(())
+    let same = same_entries(before, &kept.concat());
+    same.map_err(|what| format!("without rule 26, {what}"))
 }
 
 /// The word of a widening and every byte of the buffer.
@@ -145,6 +170,33 @@ mod tests {
         let mut other = one;
         other[15] = 0x80;
         assert!(!differs_in_zero(&one, &other));
+    }
+
+    fn listed(rules: &[u8]) -> Listed {
+        let entry = |rule: &u8| {
+            let mut entry = [0; ENTRY];
+            entry[1] = *rule;
+            entry
+        };
+        Listed {
+            entries: rules.iter().map(entry).collect(),
+            either_zero: None,
+        }
+    }
+
+    #[test]
+    fn without_rule_26_the_list_before_remains() {
+        let holds = |before: &[u8], given: &[u8]| {
+            let given = listed(given).entries.concat();
+            without_unknown(&listed(before), &given).is_ok()
+        };
+        assert!(holds(&[], &[]));
+        assert!(holds(&[], &[26, 26]));
+        assert!(holds(&[4, 24], &[4, 24, 26]));
+        assert!(!holds(&[4, 24], &[24, 26]));
+        assert!(!holds(&[4, 24], &[24, 4, 26]));
+        assert!(!holds(&[4], &[4, 24, 26]));
+        assert!(!holds(&[26], &[26]));
     }
 
     #[test]

@@ -147,8 +147,26 @@ fn half() -> Result<Vec<u8>, BuildError> {
     fit.build()
 }
 
-/// The catalogue, the names, the fits, one that was calculated half, and one
-/// that was cut short on its way.
+/// A type that a patch took out of the game: the catalogue does not have it.
+const GONE: i32 = 34272;
+
+/// A Rifter from before the patch, with one of these fitted and more in its
+/// hold.
+fn old() -> Result<Vec<u8>, BuildError> {
+    let mut fit = rifter(1);
+    fit.item(
+        FitItem::new(GONE, Slot::High(3)),
+        ItemResult::new(State::Online),
+    )
+    .item(
+        FitItem::new(GONE, Slot::Cargo).quantity(20),
+        ItemResult::new(State::Offline),
+    );
+    fit.build()
+}
+
+/// The catalogue, the names, the fits, one that was calculated half, one that
+/// was cut short on its way, and beside them an old one.
 pub fn write(folder: &Path) -> Result<(), Box<dyn Error>> {
     let fits = folder.join("fits");
     fs::create_dir_all(&fits)?;
@@ -158,6 +176,7 @@ pub fn write(folder: &Path) -> Result<(), Box<dyn Error>> {
     fs::write(fits.join("two.fit"), rifter(2).build()?)?;
     fs::write(fits.join("half.fit"), half()?)?;
     fs::write(fits.join("cut.fit"), &rifter(1).build()?[..100])?;
+    fs::write(folder.join("old.fit"), old()?)?;
     Ok(())
 }
 

@@ -21,9 +21,16 @@ extern "C" {
  * skills of one result at most FITCHECK_MOST_SKILLS, and a hall call takes at
  * most FITCHECK_FITS_PER_CALL fits. */
 #define FITCHECK_ENTRY_BYTES 24
-#define FITCHECK_MOST_ENTRIES 5398
+#define FITCHECK_MOST_ENTRIES 5654
 #define FITCHECK_MOST_SKILLS 512
 #define FITCHECK_FITS_PER_CALL 64
+
+/* The rules that document 01 does not have, in an entry's second byte: of a
+ * group that the league bans, more points than it allows, of a type that the
+ * catalogue lacks. docs/FORMAT.md has all of them. */
+#define FITCHECK_BANNED 24
+#define FITCHECK_POINTS 25
+#define FITCHECK_UNKNOWN_TYPE 26
 
 #define FITCHECK_REFUSAL(word) ((uint32_t)((word) >> 32))
 #define FITCHECK_COUNT(word) ((uint32_t)((word)&0xFFFFFFFFu))
@@ -35,7 +42,8 @@ extern "C" {
 
 /* Every rule that the fit breaks: the entries stand from the beginning of
  * `out`. A refused call writes nothing. A league's profile of no bytes is none,
- * and then the allowance is not read. */
+ * and then the allowance is not read. A hull's list ends with
+ * FITCHECK_UNKNOWN_TYPE for each item whose type the catalogue lacks. */
 uint64_t fit_list(const uint8_t *catalogue, size_t catalogue_length,
                   const uint8_t *fit, size_t fit_length,
                   const uint8_t *profile, size_t profile_length,
@@ -63,9 +71,9 @@ uint64_t fit_hall(const uint8_t *catalogue, size_t catalogue_length,
 uint64_t fit_widen(const uint8_t *old, size_t old_length,
                    uint8_t *out, size_t out_length);
 
-/* The number of this set of calls and images, which its name has too: a
+/* The number of this set of calls, images and rules, which its name has too: a
  * library of another set does not link with a program that asks for this. */
-uint64_t fit_interface_3(void);
+uint64_t fit_interface_4(void);
 
 #ifdef __cplusplus
 }

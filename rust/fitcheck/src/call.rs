@@ -15,7 +15,9 @@ const FIRST_ROOM: usize = 64;
 const LAST_ROOM: usize = 1 << 20;
 
 /// Every rule that the fit breaks, in the order of the original's `validate`;
-/// behind them what a league has to say, where the options bring one. With an
+/// behind them what a league has to say, where the options bring one, and then
+/// [`Rule::UnknownType`](crate::Rule::UnknownType) for each item whose type the
+/// catalogue lacks. With an
 /// empty list the fit is clear to fly where it has as many results as
 /// items: rules look at pairs, and [`FitImage::unpaired`] says what is left.
 ///
@@ -470,7 +472,7 @@ mod tests {
 
     #[test]
     fn the_buffer_grows_until_the_list_fits() {
-        for count in [0, 1, 64, 65, 512, 5_141, 5_142, 20_000] {
+        for count in [0, 1, 64, 65, 512, 5_654, 5_655, 20_000] {
             let bytes = grown(FIRST_ROOM, MOST_ENTRIES, listing(count)).unwrap();
             assert_eq!(bytes, vec![1; ENTRY_BYTES * count], "{count} entries");
         }

@@ -142,6 +142,7 @@ fn known(rule: u8, sub: u8, words: [u32; 4]) -> Option<Rule> {
             used: words[0],
             allowed: words[1],
         },
+        26 => Rule::UnknownType { type_id: id(0) },
         _ => return None,
     })
 }
@@ -194,6 +195,7 @@ fn fields(rule: &Rule) -> (u8, u8, [u32; 4]) {
         Rule::NotASkill { type_id } => (0, 0, [type_id.cast_unsigned(), 0, 0, 0]),
         Rule::Banned { group_id } => (0, 0, [group_id.cast_unsigned(), 0, 0, 0]),
         Rule::Points { used, allowed } => (0, 0, [used, allowed, 0, 0]),
+        Rule::UnknownType { type_id } => (0, 0, [type_id.cast_unsigned(), 0, 0, 0]),
         Rule::Unknown {
             sub, zero, words, ..
         } => (sub, zero, words),

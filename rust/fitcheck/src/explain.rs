@@ -9,6 +9,9 @@ const NAMED_ITEMS: usize = 3;
 /// has it: control characters are refused there.
 const SUBJECT: &str = "\u{0}";
 
+/// Stands for the items' numbers in the same way.
+const PLACES: &str = "\u{1}";
+
 /// Whom a sentence is about.
 enum About {
     Item(usize),
@@ -19,7 +22,7 @@ enum About {
 struct Said {
     type_id: Option<i32>,
     items: Vec<usize>,
-    /// With [`SUBJECT`] in the subject's place.
+    /// With [`SUBJECT`] or [`PLACES`] where the items are named.
     sentence: String,
 }
 
@@ -206,7 +209,8 @@ impl<'a> Explainer<'a> {
             [] => said.sentence.clone(),
             _ => said
                 .sentence
-                .replace(SUBJECT, &self.several_words(&said.items)),
+                .replace(SUBJECT, &self.several_words(&said.items))
+                .replace(PLACES, &places_words(&said.items)),
         }
     }
 
@@ -226,12 +230,11 @@ impl<'a> Explainer<'a> {
                 if let [index] = items[..] {
                     return self.item_words(index);
                 }
-                let places: Vec<String> = items.iter().map(usize::to_string).collect();
-                let places = places.join(", ");
+                let places = places_words(items);
                 match type_id.map(|type_id| (type_id, self.names.type_name(type_id))) {
-                    Some((_, Some(name))) => format!("{name} (items {places})"),
-                    Some((type_id, None)) => format!("type {type_id} (items {places})"),
-                    None => format!("each of items {places}"),
+                    Some((_, Some(name))) => format!("{name} ({places})"),
+                    Some((type_id, None)) => format!("type {type_id} ({places})"),
+                    None => format!("each of {places}"),
                 }
             })
             .collect();
@@ -347,6 +350,7 @@ impl<'a> Explainer<'a> {
             }
             Rule::Points { used: 1, allowed } => format!("1 point of {allowed} allowed"),
             Rule::Points { used, allowed } => format!("{used} points of {allowed} allowed"),
+            Rule::UnknownType { type_id } => self.unknown_type(subject, entry.target, type_id),
             Rule::Unknown {
                 rule,
                 sub,
@@ -461,6 +465,22 @@ impl<'a> Explainer<'a> {
         }
     }
 
+    /// The id stands beside a name too: it is what one looks for in type data.
+    fn unknown_type(&self, subject: &str, target: Target, type_id: i32) -> String {
+        let items = match target {
+            Target::Item { .. } if subject == SUBJECT => PLACES.to_string(),
+            Target::Item { index } => places_words(&[index]),
+            Target::Ship | Target::Unknown { .. } => subject.to_string(),
+        };
+        let missing = match self.names.type_name(type_id) {
+            Some(name) => format!("{name} (type {type_id}, {items})"),
+            None => format!("type {type_id} ({items})"),
+        };
+        format!(
+            "{missing} is not in this catalogue: the game no longer has it, or the catalogue is old"
+        )
+    }
+
     fn slot_taken(&self, subject: &str, target: Target) -> String {
         let unknown = || format!("{subject} shares its slot with another item");
         let (Some(fit), Target::Item { index }) = (self.fit, target) else {
@@ -491,6 +511,15 @@ impl<'a> Explainer<'a> {
                 format!("{subject} shares {} with {first} and {last}", item.slot)
             }
         }
+    }
+}
+
+/// Items by their numbers.
+fn places_words(items: &[usize]) -> String {
+    let numbers: Vec<String> = items.iter().map(usize::to_string).collect();
+    match items.len() {
+        1 => format!("item {}", numbers[0]),
+        _ => format!("items {}", numbers.join(", ")),
     }
 }
 
@@ -626,6 +655,11 @@ mod tests {
         assert_eq!(
             said(Rule::ShipRestricted),
             "item 3 cannot be fitted to this ship"
+        );
+        assert_eq!(
+            said(Rule::UnknownType { type_id: 34272 }),
+            "type 34272 (item 3) is not in this catalogue: the game no longer has it, or the \
+             catalogue is old"
         );
     }
 }

@@ -6,11 +6,12 @@
 //! declaration against the Rattle source that exports it.
 
 unsafe extern "C" {
-    // The number of this set of calls and images. Nothing else tells a library
-    // of other parameters apart, so whoever makes a call needs this symbol too.
+    // The number of this set of calls, images and rules. Nothing else tells a
+    // library of another set apart, so whoever makes a call needs this symbol
+    // too.
     // It is raised here, in include/fitcheck.h for C, and in the Rattle source,
     // crates/fitcheck/src/lib.rt, at the same time.
-    #[link_name = "fit_interface_3"]
+    #[link_name = "fit_interface_4"]
     fn fit_interface() -> u64;
 
     fn fit_list(

@@ -270,7 +270,9 @@ fn rule(rule: &Rule) -> Json {
             ("used", Json::Integer(used.into())),
             ("allowed", Json::Integer(allowed.into())),
         ],
-        Rule::NotASkill { type_id } => vec![("type_id", Json::Integer(type_id.into()))],
+        Rule::NotASkill { type_id } | Rule::UnknownType { type_id } => {
+            vec![("type_id", Json::Integer(type_id.into()))]
+        }
         Rule::Banned { group_id } => vec![("group_id", Json::Integer(group_id.into()))],
         Rule::Points { used, allowed } => vec![
             ("used", Json::Integer(used.into())),

@@ -128,9 +128,9 @@ pub use unpaired::Unpaired;
 pub const ENTRY_BYTES: usize = 24;
 
 /// No list has more entries: a mode, 1,024 skills, 12 resources, 8 racks and
-/// hardpoints, for each of 256 pairs 8 slot checks, 8 item rules and a ban, and
-/// the points.
-pub const MOST_ENTRIES: usize = 1 + 1_024 + 12 + 8 + 256 * (8 + 8 + 1) + 1;
+/// hardpoints, for each of 256 pairs 8 slot checks, 8 item rules, a ban and a
+/// missing type, and the points.
+pub const MOST_ENTRIES: usize = 1 + 1_024 + 12 + 8 + 256 * (8 + 8 + 1 + 1) + 1;
 
 /// No longer league profile is accepted.
 pub const PROFILE_BYTES: usize = 4 + 8 * MOST_GROUPS;
@@ -148,7 +148,7 @@ pub const FIT_BYTES: usize = 36 + 5 * 1_024 + 12 * 256 + 4 * 256 + 12 * 30_000;
 /// The library takes no more fits in one hall call; [`hall`] splits.
 pub const FITS_PER_CALL: usize = 64;
 
-/// The number of the calls and images that the linked library has. A library
+/// The number of the calls, images and rules that the linked library has. A library
 /// of another number than this crate was written for does not link.
 ///
 /// ```

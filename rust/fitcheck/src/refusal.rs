@@ -180,7 +180,7 @@ mod tests {
     #[test]
     fn a_word_is_a_refusal_or_a_count() {
         assert_eq!(Refusal::or_count(0), Ok(0));
-        assert_eq!(Refusal::or_count(5_398), Ok(5_398));
+        assert_eq!(Refusal::or_count(5_654), Ok(5_654));
         assert_eq!(Refusal::or_count(4_294_967_295), Ok(u32::MAX));
         for number in [1, 2, 3, 4, 5, 6, 8, 9, 10, 11, 12] {
             let word = number * 4_294_967_296;

@@ -134,6 +134,12 @@ pub enum Rule {
         /// How many points are allowed.
         allowed: u32,
     },
+    /// Of a type that the catalogue does not have: a patch removed it from the
+    /// game, or the catalogue is older than the type.
+    UnknownType {
+        /// The type that is missing.
+        type_id: i32,
+    },
     /// A rule that this crate does not know, or one whose fields are not as
     /// document 01 says. The library gives no such entry.
     Unknown {
@@ -150,7 +156,7 @@ pub enum Rule {
 
 impl Rule {
     /// The documents' number: 1 for `Resource` to 21 for `NotASkill`, then 24 for
-    /// `Banned` and 25 for `Points`.
+    /// `Banned`, 25 for `Points` and 26 for `UnknownType`.
     pub fn number(&self) -> u8 {
         match self {
             Rule::Resource { .. } => 1,
@@ -176,6 +182,7 @@ impl Rule {
             Rule::NotASkill { .. } => 21,
             Rule::Banned { .. } => 24,
             Rule::Points { .. } => 25,
+            Rule::UnknownType { .. } => 26,
             Rule::Unknown { rule, .. } => *rule,
         }
     }
@@ -206,6 +213,7 @@ impl Rule {
             Rule::NotASkill { .. } => "not_a_skill",
             Rule::Banned { .. } => "banned",
             Rule::Points { .. } => "points",
+            Rule::UnknownType { .. } => "unknown_type",
             Rule::Unknown { .. } => "unknown",
         }
     }

@@ -8,7 +8,7 @@ use mir.Syntax.{w32}
 use mir.Val.{toZ, ofZ}
 use mir.ValLaws.{toZ-ofZ}
 use Rattle.catalogue.specs.Catalogue.{catalogueOf}
-use Rattle.catalogue.specs.Lookups.{groupOf, categoryOf, volumeOf, rackOf, hardpointOf}
+use Rattle.catalogue.specs.Lookups.{isKnown, groupOf, categoryOf, volumeOf, rackOf, hardpointOf}
 use Rattle.fit.specs.Fit.{itemAt}
 use Rattle.context.specs.Gathered.{pairCount, groupsAt, factCount, Pairs, Before}
 use Rattle.context.proofs.Filling.{pairs-none, pairs-more, before-more, size-more}
@@ -49,13 +49,14 @@ loop-again c =
     let id : toZ w32 (ofZ w32 (it .result)) ≡ itemAt fit (l .i) .type = toZ-ofZ w32 (it .result) (record { sfits = it .ok }) ∙ it .ensures in (
       omega (arith, more),
       l .inv .1,
-      ap length put ∙ size-more cat fit (l .facts) (l .i) _ _ _ _ _ _ b (l .inv .2),
+      ap length put ∙ size-more cat fit (l .facts) (l .i) _ _ _ _ _ _ _ b (l .inv .2),
       subst (Pairs cat fit (l .i + 1)) (sym put)
-          (pairs-more cat fit (l .facts) (l .i) (v .group) (v .category) (v .rack) (v .hardpoint) (v .low) (v .high) b (l .inv .2)
+          (pairs-more cat fit (l .facts) (l .i) (v .group) (v .category) (v .rack) (v .hardpoint) (v .low) (v .high) (v .known) b (l .inv .2)
           (w .ensures .group ∙ ap (groupOf k) id) (w .ensures .category ∙ ap (categoryOf k) id) (w .ensures .rack ∙ ap (rackOf k) id)
-          (w .ensures .hardpoint ∙ ap (hardpointOf k) id) (w .ensures .volume ∙ ap (volumeOf k) id) (l .inv .3)),
+          (w .ensures .hardpoint ∙ ap (hardpointOf k) id) (w .ensures .volume ∙ ap (volumeOf k) id)
+          (w .ensures .known ∙ ap (isKnown k) id) (l .inv .3)),
       subst (Before groupsAt (s .args .facts .now)) (sym put)
-          (before-more cat fit (l .facts) (l .i) (v .group) (v .category) (v .rack) (v .hardpoint) (v .low) (v .high) b (l .inv .2) (s .args .facts .now) (l .inv .4)),
+          (before-more cat fit (l .facts) (l .i) (v .group) (v .category) (v .rack) (v .hardpoint) (v .low) (v .high) (v .known) b (l .inv .2) (s .args .facts .now) (l .inv .4)),
       c .before .before .before .before .before .hints2 .given ∙ c .before .before .before .before .before .before .before .before .before .before .hints .given ∙ l .inv .5,
     )
 

@@ -27,5 +27,8 @@ put-words-spec =
     (λ c. omega arith)
     (λ c. omega arith)
     (λ c. simp length-set (omega arith))
+    (λ c. omega arith)
+    (λ c. omega arith)
+    (λ c. simp length-set (omega arith))
     (λ c. simp length-set refl)
     (λ c. refl))

@@ -110,6 +110,12 @@ returns-23 : tie.Need-returns-23
 unfolding fields
 returns-23 c = c .words5 .ensures ∙ sym (ap fields (c .before .before .rule11 .given .1))
 
+returns-24 : tie.Need-returns-24
+unfolding fields
+returns-24 c =
+    rw (toZ-ofZ w32 (c .before .before .rule12 .given .0 .0) (record { sfits = c .before .known-told12 .given .0 .1 })) at (c .of-id6 .ensures)
+    ∙ sym (ap fields (c .before .before .rule12 .given .1))
+
 pub pack-spec : {M : Type 1} → statement M
 pack-spec =
     tie.close
@@ -165,6 +171,8 @@ pack-spec =
     (λ c κs. search needs)
     (λ c. search needs)
     (λ c κs. search needs)
+    (λ c. search needs)
+    (λ c κs. search needs)
     returns
     returns-2
     returns-3
@@ -187,4 +195,5 @@ pack-spec =
     returns-20
     returns-21
     returns-22
-    returns-23)
+    returns-23
+    returns-24)

@@ -1,4 +1,4 @@
--- `lists::write` meets its contract: the Rust's list, and behind a hull's the league's.
+-- `lists::write` meets its contract: the Rust's list, and behind a hull's the league's and the types that are missing.
 use native.Mathlib.Omega.{arith}
 use mathlib.Core.Path.{sym, _∙_}
 use borrow.Author.Needs.{needs}
@@ -17,16 +17,26 @@ returns c =
     let w = v .validate .ensures in
     (wrote-same (no-hull (a .catalogue .now) (a .fit .now) (terms (a .profile .now) (a .allowance)) off) (w .0), omega (arith, w .1))
 
+unknown-types-requires : tie.Need-unknown-types-requires
+unknown-types-requires c κs =
+    let l = c .before .before .before in
+    let v = l .before .before .before .before .before .before .before .before in
+    let s = v .before .before .before .before .before .before .before .before in
+    (s .pre .0, omega (arith, v .validate .ensures .1, l .validate2 .ensures .1))
+
 returns-2 : tie.Need-returns-2
 returns-2 c =
-    let i = c .before .before .before .before in
+    let u = c .before .before in
+    let l = u .before .before .before .before in
+    let i = l .before .before in
     let v = i .before .before .before .before .before .before in
     let a = v .before .before .before .before .before .before .before .before .args in
     let on = sym (i .before .is-hull .ensures) ∙ not-false _ (i .if1 .left) in
     let w = v .validate .ensures in
-    let l = c .before .before .validate2 .ensures in
-    let es = wrote-append (w .0) (l .0) in
-    (wrote-same (on-hull (a .catalogue .now) (a .fit .now) (terms (a .profile .now) (a .allowance)) on) es, omega (arith, w .1, l .1))
+    let x = l .validate2 .ensures in
+    let y = u .unknown-types .ensures in
+    let es = wrote-append (wrote-append (w .0) (x .0)) (y .0) in
+    (wrote-same (on-hull (a .catalogue .now) (a .fit .now) (terms (a .profile .now) (a .allowance)) on) es, omega (arith, w .1, x .1, y .1))
 
 pub write-spec : {M : Type 1} → statement M
 write-spec =
@@ -38,6 +48,7 @@ write-spec =
     (λ c. search needs)
     returns
     (λ c κs. search needs)
+    unknown-types-requires
     (λ c. search needs)
     (λ c. search needs)
     returns-2)

@@ -76,7 +76,7 @@ const SHORT: &[(Rows, &[usize], &str)] = &[
     ),
     (
         Rows::ListEntries,
-        &[1_585, 2_730, 3_855],
+        &[1_585, 2_730, 3_855, 4_367],
         "entries of a list are written",
     ),
     (
@@ -94,6 +94,11 @@ const SHORT: &[(Rows, &[usize], &str)] = &[
         Rows::Prices,
         &[64, 256, 2_048, 4_095],
         "groups of a profile are found",
+    ),
+    (
+        Rows::Unknown,
+        &[64, 128, 255],
+        "pairs of missing types are listed",
     ),
 ];
 
@@ -154,6 +159,7 @@ const NARROW: &[(Number, &[u32], &str)] = &[
     (Number::Points, &[8, 16], "the points of a group"),
     (Number::PointsUsed, &[8, 16, 24, 27], "used of Points"),
     (Number::Allowance, &[8, 16, 24, 31], "the allowance"),
+    (Number::UnknownId, &[8, 16, 24], "the id of a missing type"),
 ];
 
 /// What may be refused too early.
@@ -175,12 +181,12 @@ const REFUSED: &[(Measure, &[usize], &str)] = &[
     ),
     (
         Measure::OutBytes,
-        &[65_536, 123_384, 16_777_215],
+        &[65_536, 135_696, 16_777_215],
         "bytes of buffer",
     ),
     (
         Measure::ListEntries,
-        &[1_585, 2_730, 3_855],
+        &[1_585, 2_730, 3_855, 4_367],
         "entries of a list",
     ),
     (Measure::SkillEntries, &[128, 511], "entries of skills"),

@@ -9,6 +9,7 @@ mod league;
 mod resources;
 mod slots;
 mod tables;
+mod unknown;
 mod widen;
 
 use std::ops::Range;
@@ -20,13 +21,14 @@ use crate::rng::Rng;
 /// Makes one case.
 pub type Make = fn() -> Case;
 
-const TABLES: [&[Make]; 7] = [
+const TABLES: [&[Make]; 8] = [
     document::CASES,
     resources::CASES,
     slots::CASES,
     items::CASES,
     widen::CASES,
     league::CASES,
+    unknown::CASES,
     chains::CASES,
 ];
 

@@ -5,6 +5,7 @@ pub mod growth;
 pub mod hall;
 pub mod league;
 pub mod limits;
+mod patch;
 pub mod plant;
 mod raw;
 pub mod skills;
@@ -15,10 +16,15 @@ use crate::model::Fit;
 use crate::rng::Rng;
 use world::{Style, World};
 
-/// The generated case of a number. What its list calls bring is drawn by
-/// itself, so that the images are the same with and without.
+/// Has a patch draw other numbers than the case that it changes.
+const PATCH: u64 = 0x0050_4154_4348;
+
+/// The generated case of a number. What a patch takes away and what its list
+/// calls bring is drawn by itself, so that the rest is the same with and
+/// without.
 pub fn case(seed: u64, number: u64) -> Case {
     let mut case = images(&mut Rng::for_case(seed, number));
+    patch::apply(&mut Rng::for_case(seed ^ PATCH, number), &mut case);
     league::bring(&mut Rng::for_case(!seed, number), &mut case);
     case
 }

@@ -35,7 +35,7 @@ pub fn case(seed: u64, number: u64) -> Case {
     let mut asks = vec![
         Ask::List(Room::OneShort),
         Ask::List(Room::Exact),
-        Ask::List(Room::Of(129_552 + rng.below(100))),
+        Ask::List(Room::Of(135_696 + rng.below(100))),
     ];
     for result in [0, 1, rng.below(results as usize + 2) as u32, results + 1] {
         asks.push(Ask::Skill(result, Room::Exact));

@@ -99,8 +99,8 @@ fn longest() -> Case {
     let rooms = [
         Room::Exact,
         Room::OneShort,
-        Room::Of(129_551),
-        Room::Of(129_552),
+        Room::Of(135_695),
+        Room::Of(135_696),
     ];
     Case {
         title: "the longest list of a league, at full size".to_string(),

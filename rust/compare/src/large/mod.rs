@@ -13,6 +13,7 @@ mod league;
 mod limits;
 mod places;
 mod skills;
+mod unknown;
 mod widen;
 
 use crate::case::{Ask, Case, Room};
@@ -24,7 +25,7 @@ use crate::tally::size::LIST_BUFFERS;
 /// longest come last: a fault that another case shows need not wait for them.
 type Row = (usize, fn(usize) -> Case);
 
-const ROWS: [Row; 10] = [
+const ROWS: [Row; 11] = [
     (limits::COUNT, limits::case),
     (places::COUNT, places::case),
     (2, |number| match number {
@@ -40,6 +41,7 @@ const ROWS: [Row; 10] = [
         full("the longest list", fits::longest(), every_buffer())
     }),
     (league::COUNT, league::case),
+    (unknown::COUNT, unknown::case),
     (blocks::COUNT, blocks::case),
     (halls::COUNT, halls::case),
     (widen::COUNT, widen::case),

@@ -281,6 +281,9 @@ impl<'a> Catalogue<'a> {
         if type_id < 0 && self.flaw.has(Fault::BasesNegativeLost) {
             return None;
         }
+        if self.flaw.has(Fault::MissingBasesLost) && self.found(TYPES, type_id).is_none() {
+            return None;
+        }
         let most = self.flaw.rows(Rows::BasesOfOne, self.bases.rows);
         let (id, value) = match self.flaw.has(Fault::BaseAttributeLast) {
             true => (8, 0),
@@ -307,6 +310,16 @@ impl<'a> Catalogue<'a> {
             () if self.flaw.has(Fault::BaseOneStepOff) => value.next_up(),
             () => value,
         })
+    }
+
+    /// Whether links stand under a type's id.
+    pub fn has_links(&self, type_id: i32) -> bool {
+        self.rows_of(LINKS, type_id).next().is_some()
+    }
+
+    /// Whether base values stand under a type's id.
+    pub fn has_bases(&self, type_id: i32) -> bool {
+        self.rows_of(BASES, type_id).next().is_some()
     }
 
     /// The rows with one key, of keys that never descend.

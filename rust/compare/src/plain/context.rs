@@ -52,8 +52,11 @@ impl<'a> Context<'a> {
         let pairs = (0..flaw.rows(Rows::Pairs, fit.pairs()))
             .map(|number| {
                 let item = fit.item(number);
-                let (rack, hardpoint) = catalogue.slots_of(item.type_id);
                 let row = catalogue.type_of(item.type_id);
+                let (rack, hardpoint) = match row {
+                    None if flaw.has(Fault::MissingLinksLost) => (None, None),
+                    _ => catalogue.slots_of(item.type_id),
+                };
                 Pair {
                     number,
                     item,

@@ -49,6 +49,8 @@ pub enum Rows {
     Widened,
     /// The groups of a profile.
     Prices,
+    /// The pairs that rule 26 lists.
+    Unknown,
 }
 
 /// Numbers that may be too narrow.
@@ -99,6 +101,8 @@ pub enum Number {
     /// The points of all pairs together.
     PointsUsed,
     Allowance,
+    /// The type id that rule 26 shows.
+    UnknownId,
 }
 
 /// Sizes that may be refused too early.

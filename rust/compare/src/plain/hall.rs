@@ -94,7 +94,11 @@ fn judge(catalogue: &Catalogue, image: &[u8], flaw: Flaw) -> Verdict {
             return Err(7);
         }
         let league = League::none(flaw);
-        Ok((list(catalogue, &fit, &league, flaw)?, is_whole(&fit, flaw)))
+        let mut entries = list(catalogue, &fit, &league, flaw)?;
+        if flaw.has(Fault::HallUnknownClear) {
+            entries.retain(|entry| entry[1] != 26);
+        }
+        Ok((entries, is_whole(&fit, flaw)))
     });
     let (entries, is_whole) = match listed {
         Err(_) if flaw.has(Fault::HallRefusedFaulted) => return Verdict::Faulted,
@@ -106,6 +110,7 @@ fn judge(catalogue: &Catalogue, image: &[u8], flaw: Flaw) -> Verdict {
         None if flaw.has(Fault::HallUnreadRefused) => Verdict::Refused,
         Some(_) if !is_whole && flaw.has(Fault::HallUnequalRefused) => Verdict::Refused,
         Some(first) if first[1] == 19 && flaw.has(Fault::HallNoHullRefused) => Verdict::Refused,
+        Some(first) if first[1] == 26 && flaw.has(Fault::HallUnknownRefused) => Verdict::Refused,
         Some(_) if entries.len() > 100 && flaw.has(Fault::HallLongListRefused) => Verdict::Refused,
         _ => Verdict::Faulted,
     }

@@ -219,7 +219,8 @@ fn group_limit(context: &Context, entries: &mut Entries, limit: u8, pair: &Pair)
         None if flaw.has(Fault::GroupMissingIsZero) => 0.0,
         None => return,
     };
-    if !pair.is_fitted {
+    let is_counted = |pair: &Pair| pair.is_known || !flaw.has(Fault::MissingUncounted);
+    if !pair.is_fitted || !is_counted(pair) {
         return;
     }
     // Limit 0 counts every state, 1 Online and above, 2 Active and above.
@@ -238,6 +239,7 @@ fn group_limit(context: &Context, entries: &mut Entries, limit: u8, pair: &Pair)
         .iter()
         .filter(|other| other.is_fitted || flaw.has(Fault::GroupUnfitted))
         .filter(|other| other.group == pair.group && other.state >= least)
+        .filter(|other| is_counted(other))
         .filter(|other| other.state == least || !counts_alone)
         .count();
     let used = flaw.number(Number::GroupUsed, used) as u32;

@@ -15,6 +15,7 @@ mod league;
 mod resource;
 mod skill;
 mod slot;
+mod unknown;
 mod widen;
 
 use catalogue::Catalogue;
@@ -22,6 +23,7 @@ use context::Context;
 use entry::{Entries, Target};
 use fit::Fit;
 use league::League;
+use unknown::Place;
 
 use crate::checker::{Checker, ENTRY, Entry, Terms, refused};
 
@@ -133,10 +135,14 @@ fn list(catalogue: &Catalogue, fit: &Fit, league: &League, flaw: Flaw) -> Result
         if flaw.has(Fault::LeagueWithoutHull) {
             league.validate(&context, &mut entries);
         }
+        if flaw.has(Fault::UnknownWithoutHull) {
+            unknown::validate(&context, Place::End, &mut entries);
+        }
         if !flaw.has(Fault::HullGoesOn) {
             return Ok(entries.found);
         }
     }
+    unknown::validate(&context, Place::Front, &mut entries);
     if flaw.has(Fault::LeagueFirst) {
         league.validate(&context, &mut entries);
     }
@@ -148,10 +154,13 @@ fn list(catalogue: &Catalogue, fit: &Fit, league: &League, flaw: Flaw) -> Result
         resource::validate(&context, &mut entries);
         slot::validate(&context, &mut entries);
     }
+    unknown::validate(&context, Place::BeforeItems, &mut entries);
     item::validate(&context, &mut entries);
+    unknown::validate(&context, Place::BeforeLeague, &mut entries);
     if !flaw.has(Fault::LeagueFirst) {
         league.validate(&context, &mut entries);
     }
+    unknown::validate(&context, Place::End, &mut entries);
     shortened(entries, flaw, Rows::ListEntries, Measure::ListEntries)
 }
 

@@ -157,10 +157,10 @@ fn cargo(context: &Context, entries: &mut Entries) {
     let mut used = 0.0;
     for item in items.iter().filter(|item| item.kind == CARGO) {
         let row = context.catalogue.type_of(item.type_id);
-        let none = if flaw.has(Fault::CargoNoVolume) {
-            1.0
-        } else {
-            0.0
+        let none = match row {
+            None if flaw.has(Fault::MissingVolume1) => 1.0,
+            _ if flaw.has(Fault::CargoNoVolume) => 1.0,
+            _ => 0.0,
         };
         let volume = row.and_then(|row| row.volume).unwrap_or(none);
         let quantity = if flaw.has(Fault::CargoUnits) {

@@ -49,6 +49,9 @@ pub fn report(context: &Context, result: usize, entries: &mut Entries) -> Result
             None if flaw.has(Fault::SkillUntrained) => continue,
             None => 0,
         };
+        if flaw.has(Fault::MissingUnwanted) && context.catalogue.type_of(id).is_none() {
+            continue;
+        }
         if trained < level || (trained == level && flaw.has(Fault::SkillAtLevel)) {
             entries.add(target, 11, 0, &[id as u32, level.into(), trained.into()]);
         }

@@ -193,6 +193,16 @@ impl Catalogue {
         Some(self.values[place])
     }
 
+    /// Whether a type is among the catalogue's, whatever its group.
+    pub fn has_type(&self, type_id: i32) -> bool {
+        self.types.iter().any(|(id, _)| *id == type_id)
+    }
+
+    /// The first and the last type.
+    pub fn type_ends(&self) -> Option<(i32, i32)> {
+        Some((self.types.first()?.0, self.types.last()?.0))
+    }
+
     /// The volume of a type that is there and has one.
     pub fn volume(&self, type_id: i32) -> Option<f32> {
         self.get_type(type_id)?.volume()

@@ -4,13 +4,14 @@
 //! run by the crate `original`, which is compiled as published. What the
 //! original cannot say or hold is plain code: the total of drones over 32 bits
 //! in `drones`, base values finer than an f32 in `walk`, the widening of old
-//! catalogues in `widen`, the league's rules in `league`.
+//! catalogues in `widen`, the league's rules in `league`, rule 26 in `unknown`.
 
 mod catalogue;
 mod drones;
 mod encode;
 mod fit;
 pub mod league;
+mod unknown;
 mod walk;
 mod widen;
 mod words;
@@ -116,9 +117,19 @@ impl Hall {
     }
 }
 
-/// The list of a decoded fit: the original's, and behind it what the league
-/// has to say.
+/// The list of a decoded fit: what was listed before there was a rule 26, and
+/// behind it the pairs whose type is missing.
 pub fn list(catalogue: &Catalogue, fit: &Fit, league: &League) -> Listed {
+    let mut listed = list_before(catalogue, fit, league);
+    if fit.is_hull(catalogue) {
+        listed.entries.extend(unknown::entries(catalogue, fit));
+    }
+    listed
+}
+
+/// The list without rule 26: the original's, and behind it what the league has
+/// to say.
+pub fn list_before(catalogue: &Catalogue, fit: &Fit, league: &League) -> Listed {
     let mut listed = original_list(catalogue, fit);
     if fit.is_hull(catalogue) {
         listed.entries.extend(league.entries(catalogue, fit));

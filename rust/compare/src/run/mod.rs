@@ -14,7 +14,7 @@ use crate::model::{Fit, hall_image};
 use crate::profile::League;
 use crate::reference::{self, Fate, LIMIT, Listed, Refusal};
 use crate::tally::{Call, Hangar, Point, Tally, Zeros};
-use crate::verdict::{Expected, compare, compare_wide, expected, hall_in_words};
+use crate::verdict::{Expected, compare, compare_wide, expected, hall_in_words, without_unknown};
 
 pub use shown::Shown;
 
@@ -36,6 +36,8 @@ struct Subject {
     held: Held,
     decoded: Result<reference::Fit, Refusal>,
     listed: OnceCell<Listed>,
+    /// The list without rule 26.
+    before: OnceCell<Listed>,
     skills: RefCell<BTreeMap<u32, Result<Listed, Refusal>>>,
 }
 
@@ -47,6 +49,7 @@ impl Subject {
             held: Held::new(image),
             decoded,
             listed: OnceCell::new(),
+            before: OnceCell::new(),
             skills: RefCell::default(),
         }
     }
@@ -271,14 +274,22 @@ impl<'a> Stage<'a> {
         }
         if let Some(result) = call.result {
             tally.walk(catalogue, fit, result);
-        } else if expected.word == refused(10) && fit.hangar(catalogue).is_some() {
-            tally.meet(Point::Hangar(Hangar::NoRoom));
+        } else if expected.word == refused(10) {
+            if fit.hangar(catalogue).is_some() {
+                tally.meet(Point::Hangar(Hangar::NoRoom));
+            }
+            if let Ok(listed) = self.listed(source, subject, None) {
+                tally.no_room(&listed, length);
+            }
         }
         if expected.word >> 32 == 0 {
             tally.catalogue(Call::of(call), catalogue);
             match call.result {
                 None => {
                     tally.list(catalogue, fit, &expected.listed);
+                    if let Ok(league) = &self.brought.league {
+                        tally.unknown(catalogue, fit, league, &expected.listed);
+                    }
                     if self.brought.has_profile() && fit.is_hull(catalogue) {
                         tally.league(&expected.listed);
                     }
@@ -295,10 +306,9 @@ impl<'a> Stage<'a> {
             tally.hall(fates, hall.held.image.len());
             let images = reference::hall_fits(&hall.held.image).into_iter().flatten();
             for (image, fate) in images.zip(fates) {
-                if let Ok(fit) = reference::Fit::decode(image)
-                    && fit.hangar(catalogue).is_some()
-                {
-                    tally.meet(Point::HallHangar(*fate));
+                if let Ok(fit) = reference::Fit::decode(image) {
+                    let listed = reference::list(catalogue, &fit, &reference::League::default());
+                    tally.hall_fit(catalogue, &fit, *fate, &listed);
                 }
             }
         }
@@ -413,8 +423,27 @@ impl<'a> Stage<'a> {
             self.brought.held.unharmed(fill, "profile")?;
             compare(&expected, word, &out)?;
             zeros.note(&expected.listed, out.bytes());
+            if call.result.is_none() && word >> 32 == 0 {
+                let written = &out.bytes()[..ENTRY * word as usize];
+                self.less_unknown(source, subject, written)?;
+            }
         }
         Ok(())
+    }
+
+    /// An answered list without its entries of rule 26 is the one given before.
+    fn less_unknown(
+        &self,
+        source: &Source,
+        subject: &Subject,
+        written: &[u8],
+    ) -> Result<(), String> {
+        let parts = (&source.catalogue, &subject.decoded, &self.brought.league);
+        let (Ok(catalogue), Ok(fit), Ok(league)) = parts else {
+            return Err("the checker answers what is refused".to_string());
+        };
+        let before = || reference::list_before(catalogue, fit, league);
+        without_unknown(subject.before.get_or_init(before), written)
     }
 
     fn hold_hall(&self, checker: &dyn Checker) -> Result<(), String> {

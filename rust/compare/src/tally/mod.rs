@@ -5,6 +5,7 @@ mod league;
 mod look;
 mod point;
 pub mod size;
+mod unknown;
 mod wide;
 mod widened;
 
@@ -18,6 +19,7 @@ use crate::reference::{self, Catalogue, Fate, Fit, League, Listed, More, Refusal
 pub use edge::{Hangar, Shape, Spot};
 pub use league::LeagueEdge;
 pub use point::{Beside, Call, Point, RoomKind};
+pub use unknown::UnknownEdge;
 pub use widened::{Class, Fine, WidenRoom};
 
 use size::{Block, LONGEST_LIST};
@@ -146,6 +148,18 @@ impl Tally {
         league::listed(self, listed);
     }
 
+    /// The inputs and the list of an answered list call, as far as types are
+    /// missing.
+    pub fn unknown(&mut self, catalogue: &Catalogue, fit: &Fit, league: &League, listed: &Listed) {
+        unknown::list(self, catalogue, fit, league);
+        unknown::listed(self, listed);
+    }
+
+    /// A list that its buffer of so many bytes has no room for.
+    pub fn no_room(&mut self, listed: &Listed, length: usize) {
+        unknown::no_room(self, listed, length);
+    }
+
     /// An answered list call.
     pub fn list(&mut self, catalogue: &Catalogue, fit: &Fit, listed: &Listed) {
         self.listed(listed);
@@ -198,6 +212,14 @@ impl Tally {
             }
         }
         self.meet(Point::HallInput(length as u32));
+    }
+
+    /// One fit of an answered hall call, with its list.
+    pub fn hall_fit(&mut self, catalogue: &Catalogue, fit: &Fit, fate: Fate, listed: &Listed) {
+        if fit.hangar(catalogue).is_some() {
+            self.meet(Point::HallHangar(fate));
+        }
+        unknown::hall(self, catalogue, fit, fate, listed);
     }
 
     /// The word that a hall call must give.
@@ -265,6 +287,7 @@ impl Tally {
             self.meet(Point::GrownRule(entry[1]));
         }
         league::grown(self, old, new);
+        unknown::grown(self, old, new);
         let shapes = [
             (
                 growth.items.is_empty() && growth.results.is_empty(),

@@ -8,6 +8,7 @@ use super::size::{
     AMOUNTS, Block, Counting, HELD, Holder, IdOf, LARGEST_HALL, LIST_BUFFERS, LONGEST_LIST, Part,
     Place, RESULTS, Region, SKILL_BUFFERS, UNREAD,
 };
+use super::unknown::UnknownEdge;
 use super::widened::{Class, Fine, WidenRoom};
 use crate::case::{Lists, Plant, Room};
 use crate::generate::plant;
@@ -86,6 +87,8 @@ pub enum Point {
     Fine(Fine),
     /// What a list call brings, and what becomes of it.
     League(LeagueEdge),
+    /// Types that the catalogue lacks, and present ones that look alike.
+    Unknown(UnknownEdge),
 }
 
 #[derive(Clone, Copy, Debug, PartialEq, Eq, PartialOrd, Ord)]
@@ -170,7 +173,7 @@ impl RoomKind {
 /// Everything that a run has to meet.
 pub fn required() -> Vec<Point> {
     let mut points = Vec::new();
-    points.extend((1..=21).chain([24, 25]).map(Point::Rule));
+    points.extend((1..=21).chain(24..=26).map(Point::Rule));
     points.extend((0..=11).map(Point::Resource));
     points.extend((0..8).map(Point::Slots));
     points.extend((0..6).map(Point::WrongSlot));
@@ -226,7 +229,7 @@ pub fn required() -> Vec<Point> {
     points.extend((0..NAMES.len() as u8).map(Point::NameMissing));
     points.extend(Shape::ALL.map(Point::Shape));
     points.extend([Call::List, Call::Skill].map(Point::Grown));
-    points.extend((1..=21).chain([24, 25]).map(Point::GrownRule));
+    points.extend((1..=21).chain(24..=26).map(Point::GrownRule));
     points.extend(Class::ALL.map(Point::Widened));
     let pairs = plant::widening_pairs().into_iter();
     points.extend(pairs.map(|(first, second)| Point::WidenPair(first, second)));
@@ -235,6 +238,7 @@ pub fn required() -> Vec<Point> {
     points.extend([Call::List, Call::Skill].map(Point::Under));
     points.extend(Fine::ALL.map(Point::Fine));
     points.extend(LeagueEdge::all().into_iter().map(Point::League));
+    points.extend(UnknownEdge::all().into_iter().map(Point::Unknown));
     points
 }
 
@@ -339,6 +343,7 @@ impl fmt::Display for Point {
             Point::WidenedLong => out.write_str("widened to more than 16777216 bytes"),
             Point::Under(call) => write!(out, "{call} under a widened catalogue"),
             Point::League(edge) => out.write_str(&edge.words()),
+            Point::Unknown(edge) => out.write_str(&edge.words()),
             Point::Fine(fine) => write!(out, "base value finer than an f32: {}", fine.words()),
             size => size.fmt_size(out),
         }

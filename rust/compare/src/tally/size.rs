@@ -17,7 +17,7 @@ pub const HELD: [(Part, u32); 8] = [
 /// skills (from there on the library writes without counting first), and far
 /// beyond.
 pub const LIST_BUFFERS: [u32; 9] = [
-    65_520, 65_535, 65_536, 65_537, 129_551, 129_552, 129_553, 1_048_576, 16_777_216,
+    65_520, 65_535, 65_536, 65_537, 135_695, 135_696, 135_697, 1_048_576, 16_777_216,
 ];
 pub const SKILL_BUFFERS: [u32; 7] = [
     12_287, 12_288, 12_289, 65_535, 65_536, 1_048_576, 16_777_216,
@@ -64,6 +64,9 @@ pub const LONGEST_LIST: u32 = 3_856;
 
 /// The same with a profile that bans each of the subsystems.
 pub const LONGEST_LEAGUE: u32 = LONGEST_LIST + 256;
+
+/// The same where the catalogue has none of their types and group 0 is banned.
+pub const LONGEST_UNKNOWN: u32 = LONGEST_LEAGUE + 256;
 
 /// What a fit holds.
 #[derive(Clone, Copy, Debug, PartialEq, Eq, PartialOrd, Ord)]

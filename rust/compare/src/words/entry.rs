@@ -15,6 +15,7 @@ fn fields(rule: u8) -> &'static [&'static str] {
         21 => &["type"],
         24 => &["group"],
         25 => &["used", "allowed"],
+        26 => &["type"],
         _ => &[],
     }
 }

@@ -1,6 +1,6 @@
 //! The names of document 01's numbers.
 
-pub const RULES: [&str; 26] = [
+pub const RULES: [&str; 27] = [
     "no rule",
     "Resource",
     "Slots",
@@ -27,6 +27,7 @@ pub const RULES: [&str; 26] = [
     "ChargeSize",
     "Banned",
     "Points",
+    "UnknownType",
 ];
 
 pub const RESOURCES: [&str; 13] = [

@@ -1,6 +1,6 @@
 //! What the tests share: every checker at hand, and calls on sketches.
 //!
-//! Expected values in these tests are worked out from document 01.
+//! Expected values in these tests are worked out from documents 01 and 02.
 
 use compare::checker::{Checker, Terms, refused};
 use compare::plain::Plain;
@@ -42,6 +42,11 @@ pub fn ship(rule: u8) -> Vec<u8> {
 
 pub fn item(index: u32, rule: u8) -> Vec<u8> {
     entry(1, rule, 0, index, [0; 4])
+}
+
+/// An UnknownType entry.
+pub fn unknown(index: u32, type_id: i32) -> Vec<u8> {
+    entry(1, 26, 0, index, [type_id as u32, 0, 0, 0])
 }
 
 /// What a call gives on a buffer that is long enough.

@@ -45,7 +45,7 @@ fn cargo_is_volume_times_quantity() {
         .quantity(900)
         .item(602, CARGO, 0)
         .quantity(900);
-    assert_list(sketch, &[resource(11, 1.5, 1.0)]);
+    assert_list(sketch, &[resource(11, 1.5, 1.0), unknown(2, 602)]);
 }
 
 #[test]

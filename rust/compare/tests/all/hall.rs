@@ -133,7 +133,7 @@ fn unequal_numbers_change_no_other_fate() {
 /// What a hall says of one fit, from that fit's own list call and the two
 /// sizes in its image.
 fn share(checker: &dyn Checker, catalogue: &[u8], fit: &[u8]) -> u64 {
-    let mut room = vec![0; 129_552];
+    let mut room = vec![0; 135_696];
     let word = checker.list(catalogue, fit, Terms::default(), &mut room);
     let size = |at: usize| u32::from_le_bytes(fit[at..at + 4].try_into().unwrap());
     match word {

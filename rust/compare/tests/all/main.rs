@@ -10,4 +10,5 @@ mod league;
 mod original;
 mod recorded;
 mod refusals;
+mod unknown;
 mod widen;

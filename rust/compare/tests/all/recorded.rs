@@ -79,7 +79,7 @@ fn every_rule_refusal_and_call_is_recorded() {
             rules.extend(record.written.chunks(24).map(|entry| entry[1]));
         }
     }
-    assert_eq!(rules, (1..=21).chain([24, 25]).collect());
+    assert_eq!(rules, (1..=21).chain(24..=26).collect());
     let given = REFUSALS.map(u64::from).into_iter();
     assert_eq!(refusals, given.chain([0]).collect());
     for call in ["list", "skill", "hall", "widen"] {

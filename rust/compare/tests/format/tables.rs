@@ -180,7 +180,8 @@ fn the_rules() {
     // Behind those of the original stand document 02's.
     let ours = rows.split_off(taken);
     let named: Vec<(&str, &str)> = ours.iter().map(|row| (row[0], row[1])).collect();
-    assert_eq!(named, [("24", "Banned"), ("25", "Points")]);
+    let numbered = [("24", "Banned"), ("25", "Points"), ("26", "UnknownType")];
+    assert_eq!(named, numbered);
     assert_eq!(
         rows.iter().map(|row| row[1]).collect::<Vec<_>>(),
         every[..taken]

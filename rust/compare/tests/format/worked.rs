@@ -122,6 +122,22 @@ fn the_entries_of_the_league_are_the_pages() {
     }
 }
 
+/// A pair whose type is missing: the page's list, and nothing behind it.
+#[test]
+fn the_entries_of_a_missing_type_are_the_pages() {
+    let mut images = Images::of_the_page();
+    images.change("fit[33] = 01");
+    let expected = bytes("list 2049");
+    for (name, checker) in checkers() {
+        let mut out = vec![UNTOUCHED; expected.len() + ENTRY];
+        let word = called(&*checker, "list", &images, &mut out);
+        assert_eq!(word, (expected.len() / ENTRY) as u64, "{name}");
+        let (entries, behind) = out.split_at(expected.len());
+        assert_eq!(entries, expected, "{name}");
+        assert_eq!(behind, [UNTOUCHED; ENTRY], "{name}");
+    }
+}
+
 #[test]
 fn the_words_are_the_pages() {
     let rows = table("Worked bytes", "call");

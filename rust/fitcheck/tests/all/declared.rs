@@ -205,6 +205,16 @@ fn the_headers_numbers_are_the_crates() {
     assert_eq!(number("FITCHECK_MOST_ENTRIES"), fitcheck::MOST_ENTRIES);
     assert_eq!(number("FITCHECK_MOST_SKILLS"), fitcheck::MOST_SKILLS);
     assert_eq!(number("FITCHECK_FITS_PER_CALL"), fitcheck::FITS_PER_CALL);
+    for (name, rule) in [
+        ("FITCHECK_BANNED", "banned"),
+        ("FITCHECK_POINTS", "points"),
+        ("FITCHECK_UNKNOWN_TYPE", "unknown_type"),
+    ] {
+        let mut bytes = [0; fitcheck::ENTRY_BYTES];
+        bytes[1] = u8::try_from(number(name)).unwrap();
+        let entry = fitcheck::Entry::from_bytes(&bytes);
+        assert_eq!(entry.rule.name(), rule);
+    }
 }
 
 /// A rule, refusal or slot that is added later breaks no caller's `match`.

@@ -333,6 +333,47 @@ fn what_a_league_has_to_say() {
     assert_eq!(said(&profile, 0), ["1 point of 0 allowed"]);
 }
 
+/// Said once a type, whatever the slots; the type's id stands beside a name.
+#[test]
+fn types_that_are_missing() {
+    let mut fit = FitBuilder::new(587);
+    fit.ship(roomy())
+        .item(FitItem::new(34272, Slot::Cargo), result())
+        .item(FitItem::new(2048, Slot::Low(0)), result())
+        .item(FitItem::new(-9, Slot::Cargo), result())
+        .item(FitItem::new(34272, Slot::Cargo).quantity(0), result())
+        .item(FitItem::new(3330, Slot::Cargo), result())
+        .item_without_result(FitItem::new(34272, Slot::Cargo));
+    let known = catalogue();
+    let why = "is not in this catalogue: the game no longer has it, or the catalogue is old";
+    assert_eq!(
+        said(&known, &fit),
+        [
+            format!("type 34272 (item 0) {why}"),
+            format!("type -9 (item 2) {why}"),
+            format!("type 34272 (item 3) {why}"),
+            format!("type 3330 (item 4) {why}"),
+        ]
+    );
+    let (catalogue, fit) = (known.build().unwrap(), fit.build().unwrap());
+    let entries = fitcheck::list(&catalogue, &fit, &ListOptions::new()).unwrap();
+    let mut names = Names::new();
+    names.name_type(3330, "Caldari Frigate");
+    assert_eq!(
+        Explainer::new(&fit, &names).explain_all(&entries),
+        [
+            format!("type 34272 (items 0, 3) {why}"),
+            format!("type -9 (item 2) {why}"),
+            format!("Caldari Frigate (type 3330, item 4) {why}"),
+        ]
+    );
+    // The entry has the type's id, so that it is said without the fit too.
+    assert_eq!(
+        Explainer::new(&[], &names).explain_all(&entries)[0],
+        format!("type 34272 (items 0, 3) {why}")
+    );
+}
+
 #[test]
 fn hull_mode_and_skills() {
     let mut fit = FitBuilder::new(2048);
@@ -433,6 +474,8 @@ fn what_repeats_is_said_once() {
             "125mm Gatling AutoCannon I (item 3) cannot be fitted to this ship, Rifter",
             "3 of Damage Control (group 60) are fitted, and Damage Control II (items 0, 1) allows 1",
             "3 of Damage Control (group 60) are fitted, and Damage Control II (item 2) allows 2",
+            "type 99 (item 4) is not in this catalogue: the game no longer has it, or the \
+             catalogue is old",
         ]
     );
     assert_eq!(

@@ -151,9 +151,9 @@ fn a_library_of_another_interface_is_not_linked() {
         ),
         (
             archive(&format!("{wanted}7")),
-            "their parameters or images differ.",
+            "their parameters, images or rules differ.",
         ),
-        (b"fit_interface_3".to_vec(), "is not a static library."),
+        (b"fit_interface_4".to_vec(), "is not a static library."),
         (Vec::new(), "is not a static library."),
     ] {
         fs::write(&library, content).unwrap();

@@ -45,7 +45,7 @@ fn any_bytes_decode_and_lead_back() {
         // Nearer to what a call writes: few bytes are not zero.
         let mut near = [0; 24];
         near[0] = rng.below(3) as u8;
-        near[1] = rng.below(24) as u8;
+        near[1] = rng.below(28) as u8;
         near[2] = rng.below(15) as u8;
         near[3] = u8::from(rng.chance(50));
         for _ in 0..rng.below(5) {
@@ -65,7 +65,7 @@ fn what_the_calls_write_is_known() {
         profile: &profile,
         allowance: league.allowance,
     };
-    let mut seen = [0; 26];
+    let mut seen = [0; 27];
     for case in numbers(300) {
         let (catalogue, fits) = images(13, case);
         for fit in fits {
@@ -100,6 +100,9 @@ fn a_field_outside_document_01_is_not_taken_for_a_known_rule() {
         bytes(1, 12, 0, 0, 0, [255, 254, 0, 0]),
         bytes(1, 17, 2, 0, 0, [u32::MAX, 2, 1, 0]),
         bytes(0, 21, 0, 0, 0, [u32::MAX, 0, 0, 0]),
+        bytes(1, 24, 0, 0, 255, [u32::MAX, 0, 0, 0]),
+        bytes(0, 25, 0, 0, 0, [9, 8, 0, 0]),
+        bytes(1, 26, 0, 0, 255, [u32::MAX, 0, 0, 0]),
     ];
     for known in known {
         assert!(!matches!(leads_back(known).rule, Rule::Unknown { .. }));
@@ -118,6 +121,12 @@ fn a_field_outside_document_01_is_not_taken_for_a_known_rule() {
         bytes(1, 17, 3, 0, 0, [1, 2, 1, 0]),
         bytes(1, 18, 0, 0, 0, [1, 2, 1, 1]),
         bytes(0, 19, 0, 1, 0, [0; 4]),
+        bytes(1, 24, 1, 0, 0, [1, 0, 0, 0]),
+        bytes(0, 25, 0, 0, 0, [9, 8, 1, 0]),
+        bytes(1, 26, 1, 0, 0, [1, 0, 0, 0]),
+        bytes(1, 26, 0, 1, 0, [1, 0, 0, 0]),
+        bytes(1, 26, 0, 0, 0, [1, 1, 0, 0]),
+        bytes(1, 27, 0, 0, 0, [1, 0, 0, 0]),
     ];
     for unknown in unknown {
         assert!(matches!(leads_back(unknown).rule, Rule::Unknown { .. }));

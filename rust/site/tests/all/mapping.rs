@@ -10,7 +10,7 @@ use original::{Info, Run, Vector, Violation, eve};
 use site::mapping;
 
 use crate::common::{images, numbers};
-use crate::original::{from_plus_zero, printed, printed_originals};
+use crate::original::{from_plus_zero, printed, printed_originals, unknown_types, without_unknown};
 
 /// Every id that a catalogue's image has: of types, links and bases.
 fn type_ids(image: &[u8]) -> BTreeSet<i32> {
@@ -29,6 +29,7 @@ fn type_ids(image: &[u8]) -> BTreeSet<i32> {
 #[test]
 fn what_a_site_has_is_answered_as_the_original_does() {
     let (mut fits_seen, mut entries, mut lacking, mut unequal) = (0, 0, 0, 0);
+    let mut missing = 0;
     for case in numbers(300) {
         let (catalogue_image, fits) = images(61, case);
         let Ok(info) = Catalogue::decode(&catalogue_image) else {
@@ -64,7 +65,10 @@ fn what_a_site_has_is_answered_as_the_original_does() {
             let expected = from_plus_zero(printed_originals(&found));
             for catalogue in [&all, &own] {
                 let list = fitcheck::list(catalogue, &mapped_image, &ListOptions::new()).unwrap();
+                let (list, unknown) = without_unknown(list);
                 assert_eq!(printed(&list), expected, "case {case}");
+                assert_eq!(unknown, unknown_types(&run), "case {case}");
+                missing += unknown.len();
             }
             for result in 0..fit.calculation.items.len().min(6) as u32 + 2 {
                 let skills = |catalogue: &[u8]| {
@@ -85,6 +89,7 @@ fn what_a_site_has_is_answered_as_the_original_does() {
         fits_seen > 300 && entries > 1_000 && lacking > 500 && unequal > 30,
         "{fits_seen} fits, {entries} entries, {lacking} lacking, {unequal} unequal"
     );
+    assert!(missing > 100, "{missing} missing");
 }
 
 /// Type data that notes what is asked of it.

@@ -4,8 +4,8 @@
 //! entry and a violation print alike.
 
 use compare::reference::{self, Catalogue, Fit};
-use fitcheck::{Entry, ListOptions, Refusal, SkillOptions};
-use original::{Run, Target, Violation};
+use fitcheck::{Entry, ListOptions, Refusal, Rule, SkillOptions};
+use original::{Info, Run, Target, Violation};
 
 use crate::common::{images, numbers};
 
@@ -23,6 +23,31 @@ pub fn printed_originals(found: &[Violation]) -> Vec<String> {
         .collect()
 }
 
+/// The entries whose rules the original has, and those of rule 26, which it has
+/// not and which stand behind all others.
+pub fn without_unknown(mut list: Vec<Entry>) -> (Vec<Entry>, Vec<Entry>) {
+    let is_unknown = |entry: &Entry| matches!(entry.rule, Rule::UnknownType { .. });
+    let known = list.iter().take_while(|entry| !is_unknown(entry)).count();
+    let unknown = list.split_off(known);
+    assert!(unknown.iter().all(is_unknown), "{unknown:?}");
+    (list, unknown)
+}
+
+/// Rule 26 for each pair whose type the original does not find.
+pub fn unknown_types(run: &Run<'_, Catalogue>) -> Vec<Entry> {
+    let pairs = run.fit.items.iter().zip(&run.calculation.items);
+    let types = pairs.map(|(item, _)| item.type_id).enumerate();
+    let missing = types.filter(|(_, type_id)| run.info.get_type(*type_id).is_none());
+    let entries = missing.map(|(index, type_id)| Entry {
+        target: fitcheck::Target::Item { index },
+        rule: Rule::UnknownType { type_id },
+    });
+    match run.is_hull() {
+        true => entries.collect(),
+        false => Vec::new(),
+    }
+}
+
 /// Document 01 sums cargo from +0; some Rust releases sum from -0.
 pub fn from_plus_zero(printed: Vec<String>) -> Vec<String> {
     let minus_zero = "resource: CargoBay, used: -0.0";
@@ -36,11 +61,13 @@ fn number<T: std::fmt::Debug>(refused: Result<T, Refusal>) -> u32 {
     refused.expect_err("it is refused").number()
 }
 
+/// Rule 26 taken out, which it does not have.
 #[test]
 fn a_list_is_the_originals() {
     let mut lists = 0;
     let mut refusals = 0;
     let mut hangars = 0;
+    let mut missing = 0;
     for case in numbers(700) {
         let (catalogue_image, fits) = images(11, case);
         for image in fits {
@@ -56,6 +83,14 @@ fn a_list_is_the_originals() {
                 }
             };
             let list = list.unwrap_or_else(|refusal| panic!("case {case}: {refusal}"));
+            let run = Run {
+                info: &catalogue,
+                fit: &fit.fit,
+                calculation: &fit.calculation,
+            };
+            let (list, unknown) = without_unknown(list);
+            assert_eq!(unknown, unknown_types(&run), "case {case}");
+            missing += unknown.len();
             // More drones than 32 bits hold, the original cannot add up.
             if fit.hangar(&catalogue).is_some() {
                 let bytes: Vec<_> = list.iter().map(Entry::to_bytes).collect();
@@ -64,11 +99,6 @@ fn a_list_is_the_originals() {
                 hangars += 1;
                 continue;
             }
-            let run = Run {
-                info: &catalogue,
-                fit: &fit.fit,
-                calculation: &fit.calculation,
-            };
             let found: Vec<Violation> = run
                 .validate()
                 .into_iter()
@@ -83,7 +113,7 @@ fn a_list_is_the_originals() {
         }
     }
     assert!(lists > 1_000 && refusals > 100, "{lists} and {refusals}");
-    assert!(hangars > 20, "{hangars}");
+    assert!(hangars > 20 && missing > 100, "{hangars} and {missing}");
 }
 
 #[test]

@@ -42,12 +42,12 @@ fn a_widened_catalogue_is_document_02s_and_lists_what_the_old_one_did() {
             let Ok(fit) = reference::Fit::decode(&image) else {
                 continue;
             };
-            let original = reference::original_list(&decoded, &fit);
-            if original.either_zero.is_some() {
+            let before = reference::list(&decoded, &fit, &reference::League::default());
+            if before.either_zero.is_some() {
                 continue;
             }
             let ours = bytes(fitcheck::list(&new, &image, &ListOptions::new()));
-            assert_eq!(ours, Ok(original.entries), "case {case}");
+            assert_eq!(ours, Ok(before.entries), "case {case}");
             for result in 0..3 {
                 let original = reference::skill(&decoded, &fit, result);
                 let original = original.map(|list| list.entries).map_err(u32::from);

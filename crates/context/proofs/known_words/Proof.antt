@@ -1,13 +1,13 @@
--- `context::words_from` meets its contract: bits of ids, codes of slots, halves of the volume's bits.
+-- `context::known_words` meets its contract: bits of ids, codes of slots, halves of the volume's bits.
 use Prim.Native.Nat.{_+_, _*_, _^_}
 use native.Mathlib.Omega.{arith}
-use mathlib.Core.Path.{_≡_, ap, _∙_}
+use mathlib.Core.Path.{_≡_, refl, ap, _∙_}
 use lib.Ieee.{binary64, ofBits}
 use borrow.Author.Needs.{needs}
 use Rattle.image.proofs.Signs.{signed-kept}
 use Rattle.floats.proofs.Bits.{f64Bits-back}
-use Rattle.context.proofs.words_from.Statement.{statement}
-use Rattle.context.proofs.words_from.Tie as tie
+use Rattle.context.proofs.known_words.Statement.{statement}
+use Rattle.context.proofs.known_words.Tie as tie
 
 returns : tie.Need-returns
 returns c =
@@ -21,10 +21,11 @@ returns c =
       rack = c .before .before .before .code .ensures;
       hardpoint = c .before .before .code2 .ensures;
       volume = ap (ofBits binary64) (e ∙ x .ensures) ∙ f64Bits-back (info .volume) (search needs);
+      known = refl;
     }
 
-pub words-from-spec : {M : Type 1} → statement M
-words-from-spec =
+pub known-words-spec : {M : Type 1} → statement M
+known-words-spec =
     tie.close
     (tie.spec
     (λ c κs. search needs)

@@ -1,0 +1,45 @@
+-- What a call left: from its list of entries to the bytes of its buffer, and filters of them.
+use Prim.Native.Nat.{ℕ, zero, suc, _+_}
+use native.Mathlib.Omega.{arith}
+use mathlib.Core.Path.{_≡_, refl, sym, ap, _∙_}
+use mathlib.Core.Bool.{Bool, true, false, cond}
+use mathlib.Core.List.{List, [], _∷_, map}
+use lib.ListN.{length, getD}
+use Rattle.words.specs.Words.{only, table, tableFrom}
+use Rattle.words.proofs.Tables.{table-same}
+use Rattle.words.proofs.Elements.{table-later}
+use Rattle.entry.specs.declared.Entry.{Entry}
+use Rattle.entry.specs.declared.Rule.the-variants.{NotAHull}
+use Rattle.entry.specs.Entries.{onShip, entryBytes}
+use Rattle.promises.specs.Answers.{Outcome, refusal, entryAt, entriesOf, Conditions, Answers}
+use Rattle.promises.proofs.Answering.{elem-of}
+
+map-table : {B : Type 0} (f : Entry → B) (d : Entry) (es : List Entry) → map f es ≡ table (length es) (λ i. f (getD es i d))
+unfolding tableFrom
+map-table f d [] = refl
+map-table f d (e ∷ es) =
+    let q : 0 + 1 ≡ suc 0 = omega arith in
+    ap (λ r. f e ∷ r)
+    (map-table f d es
+    ∙ table-same (length es) _ _ (λ j h. let s : suc j ≡ j + 1 = omega arith in ap (λ (k : ℕ). f (getD (e ∷ es) k d)) s)
+    ∙ sym (table-later 1 0 (length es) (λ i. f (getD (e ∷ es) i d)))
+    ∙ ap (λ (k : ℕ). tableFrom k (length es) (λ i. f (getD (e ∷ es) i d))) q)
+
+-- an answered call left its list
+pub entries-are : {cs : Conditions} {es : List Entry} {b : List ℕ} {o : Outcome} → Answers cs es b o → refusal o ≡ 0
+    → entriesOf o ≡ map entryBytes es
+entries-are {es = es} {o = o} A answered =
+    let d = onShip NotAHull in
+    ap (λ (k : ℕ). table k (entryAt o)) (A .counted answered)
+    ∙ table-same (length es) (entryAt o) (λ i. entryBytes (getD es i d)) (λ j h. A .entries answered j (getD es j d) (elem-of d es j h))
+    ∙ sym (map-table entryBytes d es)
+
+-- a filter on bytes is the filter on entries
+pub only-map : {A B : Type 0} (f : A → B) (t : B → Bool) (s : A → Bool) → ((x : A) → t (f x) ≡ s x) → (l : List A) → only t (map f l) ≡ map f (only s l)
+unfolding only
+only-map f t s h [] = refl
+only-map f t s h (x ∷ l) = ap (λ (b : Bool). cond b (f x ∷ only t (map f l)) (only t (map f l))) (h x) ∙ go (s x) (only-map f t s h l)
+  where
+    go : (b : Bool) → only t (map f l) ≡ map f (only s l) → cond b (f x ∷ only t (map f l)) (only t (map f l)) ≡ map f (cond b (x ∷ only s l) (only s l))
+    go true e = ap (λ r. f x ∷ r) e
+    go false e = e
