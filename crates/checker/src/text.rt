@@ -108,6 +108,14 @@ pub fn checked(catalogue: &[u8], fit: &[u8], text: &mut [u8]) -> usize
 {
     let mut buffer = [0u8; 65520];
     let none = [0u8; 0];
-    let word = fitcheck::fit_list(catalogue, fit, &none, 0, &mut buffer);
+    let word = fitcheck::fit_list(
+        catalogue,
+        fit,
+        &none,
+        0,
+        fitcheck::MAIN_PAIRS,
+        fitcheck::MAIN_SKILLS,
+        &mut buffer,
+    );
     text_of(text, word, &buffer)
 }

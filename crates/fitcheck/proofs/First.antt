@@ -1,13 +1,16 @@
 -- Numbers with conditions, one list behind another: which is the first that holds. By cases on the conditions.
 use Prim.Native.Nat.{ℕ, zero, suc, _≤_, _<_, zero-le}
 use native.Mathlib.Omega.{arith}
-use mathlib.Core.Path.{_≡_, refl, sym, _∙_}
+use mathlib.Core.Path.{_≡_, refl, sym, ap, _∙_}
 use mathlib.Core.Bool.{Bool, true, false, cond}
 use mathlib.Core.List.{List, [], _∷_, _++_}
 use Rattle.words.specs.Words.{firstOf}
+use Rattle.numbers.specs.Refusals as Refusals
+use Rattle.catalogue.specs.Catalogue.{catalogueOf}
 use Rattle.catalogue.specs.Refusals.{catalogueRefusals, catalogueRefusal}
 use Rattle.catalogue.specs.Sound as Catalogue
 use Rattle.catalogue.proofs.Sound.{accepted-sound}
+use Rattle.fit.specs.Fit.{fitOf}
 use Rattle.fit.specs.Refusals.{fitRefusals, fitRefusal}
 use Rattle.fit.specs.Sound as Fit
 use Rattle.fit.proofs.Soundness.{sound}
@@ -15,7 +18,7 @@ use Rattle.profile.specs.Profile.{profileRefusals, profileRefusal}
 use Rattle.profile.specs.Sound as Profile
 use Rattle.profile.proofs.Accepted as Profiles
 use Rattle.lists.specs.Terms.{Terms}
-use Rattle.fitcheck.specs.Calls.{imageRefusals, inputRefusals}
+use Rattle.fitcheck.specs.Calls.{overPairs, imageRefusals, pageRefusals, inputRefusals}
 
 -- every number is one of 1 to limit
 abbrev pub Numbered : ℕ → List (ℕ × Bool) → Type 0
@@ -89,22 +92,45 @@ module _ (catalogue fit : List ℕ) where
       go zero q = (accepted-sound catalogue q, sound fit (fit-first q ∙ e))
       go (suc k) q = absurd (omega (arith, q, e, catalogue-first (omega (arith, q))))
 
+-- ---- on a page
+pub numbered-page : (t : Terms) (catalogue fit : List ℕ) → Numbered 13 (pageRefusals t catalogue fit)
+unfolding catalogueRefusals fitRefusals
+numbered-page t catalogue fit = omega arith
+
+module _ (t : Terms) (catalogue fit : List ℕ) where
+  pub images-first : 0 < firstOf (imageRefusals catalogue fit) → firstOf (imageRefusals catalogue fit) ≡ firstOf (pageRefusals t catalogue fit)
+  images-first h = sym (first-kept (imageRefusals catalogue fit) _ h)
+
+  -- what is left is 13
+  pub limit-first : firstOf (imageRefusals catalogue fit) ≡ 0 → (b : Bool) → overPairs t (catalogueOf catalogue) (fitOf fit) ≡ b
+      → firstOf (pageRefusals t catalogue fit) ≡ cond b Refusals.overLimit 0
+  unfolding firstOf
+  limit-first e b q =
+      first-past 6 (imageRefusals catalogue fit) _ (numbered-images catalogue fit) e ∙ ap (λ (x : Bool). cond x Refusals.overLimit 0) q
+
+  pub page-sound : firstOf (pageRefusals t catalogue fit) ≡ 0 → Catalogue.Sound catalogue × Fit.Sound fit
+  page-sound e = go (firstOf (imageRefusals catalogue fit)) refl
+    where
+      go : (k : ℕ) → firstOf (imageRefusals catalogue fit) ≡ k → Catalogue.Sound catalogue × Fit.Sound fit
+      go zero q = images-sound catalogue fit q
+      go (suc k) q = absurd (omega (arith, q, e, images-first (omega (arith, q))))
+
 -- ---- of all that a list call brings
-pub numbered-inputs : (t : Terms) (catalogue fit : List ℕ) → Numbered 12 (inputRefusals t catalogue fit)
+pub numbered-inputs : (t : Terms) (catalogue fit : List ℕ) → Numbered 13 (inputRefusals t catalogue fit)
 unfolding catalogueRefusals fitRefusals profileRefusals
 numbered-inputs t catalogue fit = omega arith
 
 module _ (t : Terms) (catalogue fit : List ℕ) where
-  pub images-first : 0 < firstOf (imageRefusals catalogue fit) → firstOf (imageRefusals catalogue fit) ≡ firstOf (inputRefusals t catalogue fit)
-  images-first h = sym (first-kept (imageRefusals catalogue fit) (profileRefusals (t .profile)) h)
+  pub page-first : 0 < firstOf (pageRefusals t catalogue fit) → firstOf (pageRefusals t catalogue fit) ≡ firstOf (inputRefusals t catalogue fit)
+  page-first h = sym (first-kept (pageRefusals t catalogue fit) (profileRefusals (t .profile)) h)
 
-  pub profile-first : firstOf (imageRefusals catalogue fit) ≡ 0 → profileRefusal (t .profile) ≡ firstOf (inputRefusals t catalogue fit)
+  pub profile-first : firstOf (pageRefusals t catalogue fit) ≡ 0 → profileRefusal (t .profile) ≡ firstOf (inputRefusals t catalogue fit)
   unfolding profileRefusal
-  profile-first e = sym (first-past 6 (imageRefusals catalogue fit) (profileRefusals (t .profile)) (numbered-images catalogue fit) e)
+  profile-first e = sym (first-past 13 (pageRefusals t catalogue fit) (profileRefusals (t .profile)) (numbered-page t catalogue fit) e)
 
   pub inputs-sound : firstOf (inputRefusals t catalogue fit) ≡ 0 → Catalogue.Sound catalogue × Fit.Sound fit × Profile.Sound (t .profile)
-  inputs-sound e = go (firstOf (imageRefusals catalogue fit)) refl
+  inputs-sound e = go (firstOf (pageRefusals t catalogue fit)) refl
     where
-      go : (k : ℕ) → firstOf (imageRefusals catalogue fit) ≡ k → Catalogue.Sound catalogue × Fit.Sound fit × Profile.Sound (t .profile)
-      go zero q = let s = images-sound catalogue fit q in (s .0, s .1, Profiles.sound (t .profile) (profile-first q ∙ e))
-      go (suc k) q = absurd (omega (arith, q, e, images-first (omega (arith, q))))
+      go : (k : ℕ) → firstOf (pageRefusals t catalogue fit) ≡ k → Catalogue.Sound catalogue × Fit.Sound fit × Profile.Sound (t .profile)
+      go zero q = let s = page-sound t catalogue fit q in (s .0, s .1, Profiles.sound (t .profile) (profile-first q ∙ e))
+      go (suc k) q = absurd (omega (arith, q, e, page-first (omega (arith, q))))

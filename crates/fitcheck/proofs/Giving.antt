@@ -85,4 +85,4 @@ module _ (t : Terms) (catalogue fit buffer : List ℕ) where
   pub list-past : firstOf (inputRefusals t catalogue fit) ≡ 0
       → listCall t catalogue fit buffer ≡ lent buffer (wholeList t (catalogueOf catalogue) (fitOf fit))
   unfolding listCall
-  list-past e = answer-past (inputRefusals t catalogue fit) _ _ 12 (numbered-inputs t catalogue fit) e
+  list-past e = answer-past (inputRefusals t catalogue fit) _ _ 13 (numbered-inputs t catalogue fit) e

@@ -1,4 +1,4 @@
--- The skill call, by the refusals of both images, the number of the result and the length of its walk.
+-- The skill call, by the refusals of both images on a page, the number of the result and the length of its walk.
 use Prim.Native.Nat.{ℕ, _+_, _≤_, _<_}
 use native.Mathlib.Omega.{arith}
 use mathlib.Core.Path.{_≡_, sym, _∙_}
@@ -15,8 +15,10 @@ use Rattle.skill.specs.Skill.{skillList}
 use Rattle.skill.specs.Held.{HoldsWanted}
 use Rattle.skill.specs.declared.Walk.{Walk}
 use Rattle.skill.proofs.Reports.{too-many}
-use Rattle.fitcheck.specs.Calls.{Refused, answer, noResult, tooManySkills, imageRefusals, skillRefusals, skillCall}
-use Rattle.fitcheck.proofs.First.{numbered-images}
+use Rattle.skill.proofs.Limits.{over-limit}
+use Rattle.lists.specs.Terms.{Terms, skillLimit}
+use Rattle.fitcheck.specs.Calls.{Refused, answer, noResult, tooManySkills, overSkills, pageRefusals, skillRefusals, skillCall}
+use Rattle.fitcheck.proofs.First.{numbered-page}
 use Rattle.fitcheck.proofs.Giving.{answer-kept, answer-past}
 
 -- ---- refusal 8
@@ -35,14 +37,25 @@ module _ (catalogue fit : List ℕ) (result : ℕ) (w : Walk) (v : HoldsWanted c
   pub over-few : w .len ≤ Sizes.mostWanted → tooManySkills (catalogueOf catalogue) (fitOf fit) result ≡ false
   over-few l = sym (too-many catalogue fit result w v h) ∙ le-ltb Sizes.mostWanted (w .len) l
 
--- ---- the call
-module _ (catalogue fit : List ℕ) (result : ℕ) (buffer : List ℕ) where
-  pub skill-refused : 0 < firstOf (imageRefusals catalogue fit) → skillCall catalogue fit result buffer ≡ Refused (firstOf (imageRefusals catalogue fit))
-  unfolding skillCall
-  skill-refused h = answer-kept (imageRefusals catalogue fit) _ _ h
+  -- ---- refusal 13, where 9 is not given: a limit above the main page's is not passed either
+  module _ (t : Terms) (held : w .len ≤ Sizes.mostWanted) where
+    pub over-page : t .skills < w .len → overSkills t (catalogueOf catalogue) (fitOf fit) result ≡ true
+    over-page l =
+        sym (over-limit (skillLimit t) catalogue fit result w v held h (omega arith)) ∙ lt-ltb (skillLimit t) (w .len) (omega (arith, l, held))
 
-  pub skill-past : firstOf (imageRefusals catalogue fit) ≡ 0
-      → skillCall catalogue fit result buffer
-      ≡ answer (skillRefusals (catalogueOf catalogue) (fitOf fit) result buffer) (skillList (catalogueOf catalogue) (fitOf fit) result)
+    pub within-page : w .len ≤ t .skills → overSkills t (catalogueOf catalogue) (fitOf fit) result ≡ false
+    within-page l =
+        sym (over-limit (skillLimit t) catalogue fit result w v held h (omega arith)) ∙ le-ltb (skillLimit t) (w .len) (omega (arith, l, held))
+
+-- ---- the call
+module _ (t : Terms) (catalogue fit : List ℕ) (result : ℕ) (buffer : List ℕ) where
+  pub skill-refused : 0 < firstOf (pageRefusals t catalogue fit)
+      → skillCall t catalogue fit result buffer ≡ Refused (firstOf (pageRefusals t catalogue fit))
   unfolding skillCall
-  skill-past e = answer-past (imageRefusals catalogue fit) _ _ 6 (numbered-images catalogue fit) e
+  skill-refused h = answer-kept (pageRefusals t catalogue fit) _ _ h
+
+  pub skill-past : firstOf (pageRefusals t catalogue fit) ≡ 0
+      → skillCall t catalogue fit result buffer
+      ≡ answer (skillRefusals t (catalogueOf catalogue) (fitOf fit) result buffer) (skillList (catalogueOf catalogue) (fitOf fit) result)
+  unfolding skillCall
+  skill-past e = answer-past (pageRefusals t catalogue fit) _ _ 13 (numbered-page t catalogue fit) e

@@ -15,8 +15,9 @@ use Rattle.fit.specs.Refusals.{fitRefusals}
 use Rattle.entry.specs.declared.Entry.{Entry}
 use Rattle.entry.specs.Entries as Entries
 use Rattle.profile.specs.Profile.{profileRefusals}
+use Rattle.context.specs.Context.{pairs}
 use Rattle.skill.specs.Skill.{tooMany, skillList}
-use Rattle.lists.specs.Terms.{Terms}
+use Rattle.lists.specs.Terms.{Terms, pairLimit, skillLimit}
 use Rattle.lists.specs.Lists.{wholeList}
 
 pub data Answer : Type 0 where
@@ -39,6 +40,14 @@ noResult f result = ltb (length (f .results) + 1) result
 abbrev pub tooManySkills : Catalogue → Fit → ℕ → Bool
 tooManySkills c f result = given (resultAt f result) false (tooMany Sizes.mostWanted c)
 
+-- 13: more pairs than the page takes
+abbrev pub overPairs : Terms → Catalogue → Fit → Bool
+overPairs t c f = ltb (pairLimit t) (length (pairs c f))
+
+-- 13: more distinct wanted skills than the page takes
+abbrev pub overSkills : Terms → Catalogue → Fit → ℕ → Bool
+overSkills t c f result = given (resultAt f result) false (tooMany (skillLimit t) c)
+
 -- 10: the buffer is shorter than 24 times the entry count
 unfoldable pub tooShort : List ℕ → List Entry → Bool
 tooShort buffer es = ltb (length buffer) (Sizes.entrySize * length es)
@@ -47,17 +56,23 @@ tooShort buffer es = ltb (length buffer) (Sizes.entrySize * length es)
 abbrev pub imageRefusals : (catalogue fit : List ℕ) → List (ℕ × Bool)
 imageRefusals catalogue fit = catalogueRefusals catalogue ++ fitRefusals fit
 
+-- both images on a page
+abbrev pub pageRefusals : Terms → (catalogue fit : List ℕ) → List (ℕ × Bool)
+pageRefusals t catalogue fit = imageRefusals catalogue fit ++ (Refusals.overLimit, overPairs t (catalogueOf catalogue) (fitOf fit)) ∷ []
+
 -- all that a list call brings
 abbrev pub inputRefusals : Terms → (catalogue fit : List ℕ) → List (ℕ × Bool)
-inputRefusals t catalogue fit = imageRefusals catalogue fit ++ profileRefusals (t .profile)
+inputRefusals t catalogue fit = pageRefusals t catalogue fit ++ profileRefusals (t .profile)
 
 abbrev pub bufferRefusals : (buffer : List ℕ) → List Entry → List (ℕ × Bool)
 bufferRefusals buffer es = (Refusals.tooShort, tooShort buffer es) ∷ []
 
-abbrev pub skillRefusals : Catalogue → Fit → (result : ℕ) → (buffer : List ℕ) → List (ℕ × Bool)
-skillRefusals c f result buffer =
+-- 13 for skills stands behind 9: it says that the main page's limit is not passed
+abbrev pub skillRefusals : Terms → Catalogue → Fit → (result : ℕ) → (buffer : List ℕ) → List (ℕ × Bool)
+skillRefusals t c f result buffer =
     (Refusals.noResult, noResult f result)
     ∷ (Refusals.tooManySkills, tooManySkills c f result)
+    ∷ (Refusals.overLimit, overSkills t c f result)
     ∷ (Refusals.tooShort, tooShort buffer (skillList c f result))
     ∷ []
 
@@ -67,11 +82,12 @@ listCall t catalogue fit buffer =
     let es = wholeList t (catalogueOf catalogue) (fitOf fit) in
     answer (inputRefusals t catalogue fit ++ bufferRefusals buffer es) es
 
-unfoldable pub skillCall : (catalogue fit : List ℕ) (result : ℕ) (buffer : List ℕ) → Answer
-skillCall catalogue fit result buffer =
+-- it reads the limits of its terms alone
+unfoldable pub skillCall : Terms → (catalogue fit : List ℕ) (result : ℕ) (buffer : List ℕ) → Answer
+skillCall t catalogue fit result buffer =
     let c = catalogueOf catalogue in
     let f = fitOf fit in
-    answer (imageRefusals catalogue fit ++ skillRefusals c f result buffer) (skillList c f result)
+    answer (pageRefusals t catalogue fit ++ skillRefusals t c f result buffer) (skillList c f result)
 
 -- the buffer afterwards: a refusal writes nothing, a list its own entries from byte 0
 unfoldable pub buffered : List ℕ → Answer → List ℕ

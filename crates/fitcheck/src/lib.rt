@@ -17,9 +17,9 @@ ghost use Rattle.context.specs.Gathered.{Gathered};
 ghost use Rattle.profile.specs.Sound as Profile;
 ghost use Rattle.skill.specs.Skill.{reported, skillList};
 ghost use Rattle.skill.specs.Held.{walkOf};
-ghost use Rattle.lists.specs.Terms.{terms};
+ghost use Rattle.lists.specs.Terms.{terms, limited, main};
 ghost use Rattle.lists.specs.Lists.{wholeList};
-ghost use Rattle.fitcheck.specs.Calls.{answer, imageRefusals, inputRefusals, skillRefusals};
+ghost use Rattle.fitcheck.specs.Calls.{answer, imageRefusals, pageRefusals, inputRefusals, skillRefusals};
 ghost use Rattle.fitcheck.specs.Calls.{listCall, skillCall, returned, buffered};
 ghost use Rattle.fitcheck.specs.Gave.{Gave, lent};
 ghost use Rattle.fitcheck.specs.Hall.{hallCall, hallReturned};
@@ -30,6 +30,11 @@ const ANY_LIST: usize = sizes::ENTRY_SIZE * lists::MOST_ENTRIES;
 
 // Of a walk, which holds 512 skills: each is listed once at most.
 const ANY_SKILL_LIST: usize = sizes::ENTRY_SIZE * sizes::MOST_WANTED;
+
+// The main page's limits, as a call brings them.
+pub const MAIN_PAIRS: u32 = sizes::MOST_PAIRS as u32;
+
+pub const MAIN_SKILLS: u32 = sizes::MOST_WANTED as u32;
 
 // The word of a refusal. The count beside it is 0.
 fn refused(number: u64) -> u64
@@ -50,13 +55,30 @@ fn image_refusal(catalogue: &[u8], fit: &[u8]) -> u64
     fit_refusals::number(fit)
 }
 
-// The first of refusals 1 to 6, 11 and 12 that holds, or 0.
-fn input_refusal(catalogue: &[u8], fit: &[u8], profile: &[u8]) -> u64
+// The first of refusals 1 to 6 and, for pairs, 13 that holds, or 0. More pairs than the main page takes were refused by 4.
+fn page_refusal(catalogue: &[u8], fit: &[u8], pairs: u32) -> u64
     ensures { λ r.
-        let t = terms (now (profile .entry)) 0 in
-        ⌜ r ≡ firstOf (inputRefusals t (now (catalogue .entry)) (now (fit .entry))) ⌝ }
+        let t = limited pairs 0 main in
+        ⌜ (r ≡ firstOf (pageRefusals t (now (catalogue .entry)) (now (fit .entry)))) × (r ≤ Refusals.highest) ⌝ }
 {
     let first = image_refusal(catalogue, fit);
+    if 0 < first {
+        return first;
+    }
+    let limit = pairs as usize;
+    if limit < fit::pair_count(fit) {
+        return refusals::OVER_LIMIT;
+    }
+    0
+}
+
+// The first of refusals 1 to 6, 13, 11 and 12 that holds, or 0.
+fn input_refusal(catalogue: &[u8], fit: &[u8], pairs: u32, profile: &[u8]) -> u64
+    ensures { λ r.
+        let t = limited pairs 0 (terms (now (profile .entry)) 0) in
+        ⌜ (r ≡ firstOf (inputRefusals t (now (catalogue .entry)) (now (fit .entry)))) × (r ≤ Refusals.highest) ⌝ }
+{
+    let first = page_refusal(catalogue, fit, pairs);
     if 0 < first {
         return first;
     }
@@ -112,21 +134,23 @@ fn list_accepted(
     lists::write(catalogue, fit, profile, allowance, &facts, &mut hints, out) as u64
 }
 
-// The list call: every rule that a fit breaks, those of a league with it.
+// The list call: every rule that a fit breaks, those of a league with it. A list wants no skills, and the limit of skills is not read.
 #[no_mangle]
 pub extern "C" fn fit_list(
     catalogue: &[u8],
     fit: &[u8],
     profile: &[u8],
     allowance: u32,
+    pairs: u32,
+    skills: u32,
     out: &mut [u8],
 ) -> u64
     ensures { λ r.
-        let t = terms (now (profile .entry)) allowance in
+        let t = limited pairs skills (terms (now (profile .entry)) allowance) in
         let call = listCall t (now (catalogue .entry)) (now (fit .entry)) (now (out .entry)) in
         ⌜ (r ≡ returned call) × (now (out .exit) ≡ buffered (now (out .entry)) call) ⌝ }
 {
-    let first = input_refusal(catalogue, fit, profile);
+    let first = input_refusal(catalogue, fit, pairs, profile);
     if 0 < first {
         return refused(first);
     }
@@ -151,13 +175,13 @@ fn skill_list(fit: &[u8], result: usize, walk: Walk, out: &mut [u8]) -> u64
     skill::report(fit, result, walk, out, 0) as u64
 }
 
-// The skill call on images that are accepted.
-fn skill_accepted(catalogue: &[u8], fit: &[u8], result: u32, out: &mut [u8]) -> u64
+// The skill call on images that are accepted. The walk is the main page's, whatever the limit.
+fn skill_accepted(catalogue: &[u8], fit: &[u8], result: u32, skills: u32, out: &mut [u8]) -> u64
     requires { ⌜ Catalogue.Sound (now catalogue) × Fit.Sound (now fit) ⌝ }
     ensures { λ r.
         let c = catalogueOf (now (catalogue .entry)) in
         let f = fitOf (now (fit .entry)) in
-        let refusals = skillRefusals c f result (now (out .entry)) in
+        let refusals = skillRefusals (limited 0 skills main) c f result (now (out .entry)) in
         ⌜ Gave (now (out .entry)) (now (out .exit)) r (answer refusals (skillList c f result)) ⌝ }
 {
     let result = result as usize;
@@ -169,21 +193,33 @@ fn skill_accepted(catalogue: &[u8], fit: &[u8], result: u32, out: &mut [u8]) -> 
     if sizes::MOST_WANTED < walk.len {
         return refused(refusals::TOO_MANY_SKILLS);
     }
+    let limit = skills as usize;
+    if limit < walk.len {
+        return refused(refusals::OVER_LIMIT);
+    }
     skill_list(fit, result, walk, out)
 }
 
 // The skill call: the skills that a result wants and that are trained lower.
 #[no_mangle]
-pub extern "C" fn fit_skill(catalogue: &[u8], fit: &[u8], result: u32, out: &mut [u8]) -> u64
+pub extern "C" fn fit_skill(
+    catalogue: &[u8],
+    fit: &[u8],
+    result: u32,
+    pairs: u32,
+    skills: u32,
+    out: &mut [u8],
+) -> u64
     ensures { λ r.
-        let call = skillCall (now (catalogue .entry)) (now (fit .entry)) result (now (out .entry)) in
+        let t = limited pairs skills main in
+        let call = skillCall t (now (catalogue .entry)) (now (fit .entry)) result (now (out .entry)) in
         ⌜ (r ≡ returned call) × (now (out .exit) ≡ buffered (now (out .entry)) call) ⌝ }
 {
-    let first = image_refusal(catalogue, fit);
-    if 0 < first {
-        return refused(first);
+    let refusal = page_refusal(catalogue, fit, pairs);
+    if 0 < refusal {
+        return refused(refusal);
     }
-    skill_accepted(catalogue, fit, result, out)
+    skill_accepted(catalogue, fit, result, skills, out)
 }
 
 // The hall call: how many of up to 64 fits are clear, faulted and refused. The catalogue is checked once for all of them.
@@ -222,8 +258,8 @@ pub extern "C" fn fit_widen(old: &[u8], out: &mut [u8]) -> u64
 
 // The number of this set of calls and images, in the symbol's name: a caller written for another set does not link.
 #[no_mangle]
-pub extern "C" fn fit_interface_4() -> u64
-    ensures { λ r. ⌜ r ≡ 4 ⌝ }
+pub extern "C" fn fit_interface_5() -> u64
+    ensures { λ r. ⌜ r ≡ 5 ⌝ }
 {
-    4
+    5
 }

@@ -1,15 +1,31 @@
 -- Document 02: what a list or skill call brings beside its images and its buffer. A request that gives a call one thing more adds a field here.
-use Prim.Native.Nat.{ℕ}
+use Prim.Native.Nat.{ℕ, min}
 use mathlib.Core.List.{List, []}
+use Rattle.numbers.specs.Sizes as Sizes
 
 pub record Terms : Type 0 where
   -- a league profile's bytes, and the points that it allows; no bytes: no profile, and the allowance is not read
   pub profile : List ℕ
   pub allowance : ℕ
+  -- how many pairs the page takes, and how many wanted skills of one result
+  pub pairs : ℕ
+  pub skills : ℕ
 
+-- on the main page
 abbrev pub terms : (profile : List ℕ) → (allowance : ℕ) → Terms
-terms profile allowance = record { profile = profile; allowance = allowance }
+terms profile allowance = record { profile = profile; allowance = allowance; pairs = Sizes.mostPairs; skills = Sizes.mostWanted }
 
--- no profile: the hall, `check`, and every other call
+-- on a page with limits of its own
+abbrev pub limited : (pairs skills : ℕ) → Terms → Terms
+limited pairs skills t = record { profile = t .profile; allowance = t .allowance; pairs = pairs; skills = skills }
+
+-- no profile, on the main page: the hall, `check`, and every other call
 abbrev pub main : Terms
 main = terms [] 0
+
+-- a limit above the main page's counts as that one
+abbrev pub pairLimit : Terms → ℕ
+pairLimit t = min (t .pairs) Sizes.mostPairs
+
+abbrev pub skillLimit : Terms → ℕ
+skillLimit t = min (t .skills) Sizes.mostWanted

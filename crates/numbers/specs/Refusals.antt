@@ -43,6 +43,10 @@ badProfile = 11
 abbrev pub badPrices : ℕ
 badPrices = 12
 
+-- pairs, or wanted skills, over a limit that the call brings
+abbrev pub overLimit : ℕ
+overLimit = 13
+
 -- no number is higher
 abbrev pub highest : ℕ
-highest = badPrices
+highest = overLimit

@@ -20,3 +20,5 @@ pub const TOO_SHORT: u64 = 10;
 pub const BAD_PROFILE: u64 = 11;
 
 pub const BAD_PRICES: u64 = 12;
+
+pub const OVER_LIMIT: u64 = 13;

@@ -12,7 +12,7 @@ use Rattle.entry.specs.declared.Entry.{Entry}
 use Rattle.entry.specs.Entries.{entryBytes, written}
 use Rattle.fitcheck.specs.Calls.{answerBy, answer, buffered, returned}
 use Rattle.fitcheck.proofs.First.{Numbered}
-use Rattle.promises.specs.Answers.{outcome, Conditions, highest, None, Answers}
+use Rattle.promises.specs.Answers.{outcome, refusal, Conditions, highest, None, Answers}
 use Rattle.promises.proofs.Conditions.{is-none, word-refused, word-answered, word-numbered}
 use Rattle.promises.proofs.Entries.{entry-at, entries-length}
 
@@ -26,6 +26,11 @@ pub elem-of : {A : Type 0} (d : A) (l : List A) (i : ℕ) → i < length l → g
 elem-of d [] i h = absurd (not-suc-le-zero h)
 elem-of d (x ∷ l) zero h = refl
 elem-of d (x ∷ l) (suc i) h = elem-of d l i (le-of-suc-le-suc h)
+
+-- a number that is first is given
+pub given-first : (n : ℕ) (buffer : List ℕ) (es : List Entry) (k : ℕ) → k ≡ suc n → refusal (outcome buffer (answerBy k es)) ≡ suc n
+unfolding answerBy returned
+given-first n buffer es k e = let q : suc n * 4294967296 / 4294967296 ≡ suc n = omega arith in ap (λ (m : ℕ). refusal (outcome buffer (answerBy m es))) e ∙ q
 
 -- ---- the call
 module _ (l : Conditions) (numbered : Numbered highest l) (es : List Entry) (before : List ℕ)

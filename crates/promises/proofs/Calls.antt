@@ -1,5 +1,5 @@
 -- The list call and the skill call: their conditions, and what they list. By the lengths of the two lists.
-use Prim.Native.Nat.{ℕ, _+_, _*_, _≤_}
+use Prim.Native.Nat.{ℕ, _+_, _*_, _≤_, min}
 use native.Mathlib.Omega.{arith}
 use mathlib.Core.Path.{_≡_}
 use mathlib.Core.Bool.{false}
@@ -16,7 +16,7 @@ use Rattle.skill.specs.Skill.{tooMany, skillList}
 use Rattle.lists.specs.Terms.{Terms}
 use Rattle.lists.specs.Lists.{wholeList}
 use Rattle.fitcheck.specs.Calls.{tooShort, listCall, skillCall}
-use Rattle.promises.specs.Answers.{outcome, refusal, Conditions, catalogueConditions, fitConditions, inputConditions, listConditions, skillConditions, Answers}
+use Rattle.promises.specs.Answers.{outcome, refusal, Conditions, pageConditions, inputConditions, listConditions, skillConditions, Answers}
 use Rattle.promises.proofs.Conditions.{none-parts, last-first}
 use Rattle.promises.proofs.Accepted.{accepted, sized, list-accepted, list-fits, asked, skills-fit}
 use Rattle.promises.proofs.Answering.{answers}
@@ -31,15 +31,15 @@ list-answers t catalogue fit buffer =
     (λ h. let k = list-short fit (sized (list-accepted t catalogue fit buffer h)) t (catalogueOf catalogue) in omega arith)
     (λ h. list-fits t catalogue fit buffer h)
 
-pub skill-answers : (catalogue fit : List ℕ) (result : ℕ) (buffer : List ℕ)
-    → Answers (skillConditions catalogue fit result buffer) (skillList (catalogueOf catalogue) (fitOf fit) result) buffer
-    (outcome buffer (skillCall catalogue fit result buffer))
+pub skill-answers : (t : Terms) (catalogue fit : List ℕ) (result : ℕ) (buffer : List ℕ)
+    → Answers (skillConditions t catalogue fit result buffer) (skillList (catalogueOf catalogue) (fitOf fit) result) buffer
+    (outcome buffer (skillCall t catalogue fit result buffer))
 unfolding skillCall catalogueRefusals fitRefusals
-skill-answers catalogue fit result buffer =
+skill-answers t catalogue fit result buffer =
     let es = skillList (catalogueOf catalogue) (fitOf fit) result in
-    answers (skillConditions catalogue fit result buffer) (omega arith) es buffer
-    (λ h. let k = skills-short (catalogueOf catalogue) (fitOf fit) result (asked catalogue fit result buffer h .few) in omega arith)
-    (λ h. skills-fit catalogue fit result buffer h)
+    answers (skillConditions t catalogue fit result buffer) (omega arith) es buffer
+    (λ h. let k = skills-short (catalogueOf catalogue) (fitOf fit) result (asked t catalogue fit result buffer h .few) in omega arith)
+    (λ h. skills-fit t catalogue fit result buffer h)
 
 -- ---- room for the longest list
 pub list-room : (t : Terms) (catalogue fit buffer : List ℕ) → 135696 ≤ length buffer
@@ -54,16 +54,17 @@ list-room t catalogue fit buffer room h =
     let l = ltb→lt (length buffer) (24 * length es) (k .1) in
     omega arith
 
-pub skill-room : (catalogue fit : List ℕ) (result : ℕ) (buffer : List ℕ) → 12288 ≤ length buffer
-    → refusal (outcome buffer (skillCall catalogue fit result buffer)) ≡ 10 → ⊥
+pub skill-room : (t : Terms) (catalogue fit : List ℕ) (result : ℕ) (buffer : List ℕ) → 12288 ≤ length buffer
+    → refusal (outcome buffer (skillCall t catalogue fit result buffer)) ≡ 10 → ⊥
 unfolding tooShort
-skill-room catalogue fit result buffer room h =
+skill-room t catalogue fit result buffer room h =
     let es = skillList (catalogueOf catalogue) (fitOf fit) result in
     let many = given (resultAt (fitOf fit) result) false (tooMany 512 (catalogueOf catalogue)) in
-    let images = catalogueConditions catalogue ++ fitConditions fit in
-    let own : Conditions = (8, ltb (length (fitOf fit .results) + 1) result) ∷ (9, many) ∷ [] in
+    let over = given (resultAt (fitOf fit) result) false (tooMany (min (t .skills) 512) (catalogueOf catalogue)) in
+    let page = pageConditions t catalogue fit in
+    let own : Conditions = (8, ltb (length (fitOf fit .results) + 1) result) ∷ (9, many) ∷ (13, over) ∷ [] in
     let k =
-    last-first 10 (images ++ own) (tooShort buffer es) (omega arith) (skill-answers catalogue fit result buffer .refused 10 (omega arith) .0 h) in
-    let s = skills-short (catalogueOf catalogue) (fitOf fit) result (none-parts images own (k .0) .1 .1 .0) in
+    last-first 10 (page ++ own) (tooShort buffer es) (omega arith) (skill-answers t catalogue fit result buffer .refused 10 (omega arith) .0 h) in
+    let s = skills-short (catalogueOf catalogue) (fitOf fit) result (none-parts page own (k .0) .1 .1 .0) in
     let l = ltb→lt (length buffer) (24 * length es) (k .1) in
     omega arith

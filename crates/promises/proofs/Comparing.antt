@@ -116,13 +116,13 @@ module _ (old new : Fit) (g : Grown old new) where
       let t = trained-lower (old .skills) (old .levels) (new .levels) (g .levels) (w .0) in
       placed-when _ _ _ _ (λ b. lt→ltb _ _ (le-trans (suc-le-suc t) (ltb→lt _ _ b))) (λ _. record { target = refl; rule = Rises.skill t }))
 
-pub skills-kept : (catalogue old new before before′ : List ℕ) (result : ℕ)
+pub skills-kept : (t t′ : Terms) (catalogue old new before before′ : List ℕ) (result : ℕ)
     → Grown (fitOf old) (fitOf new)
-    → refusal (outcome before (skillCall catalogue old result before)) ≡ 0 → refusal (outcome before′ (skillCall catalogue new result before′)) ≡ 0
-    → Kept (outcome before (skillCall catalogue old result before)) (outcome before′ (skillCall catalogue new result before′))
-skills-kept catalogue old new before before′ n g h h′ =
+    → refusal (outcome before (skillCall t catalogue old result before)) ≡ 0 → refusal (outcome before′ (skillCall t′ catalogue new result before′)) ≡ 0
+    → Kept (outcome before (skillCall t catalogue old result before)) (outcome before′ (skillCall t′ catalogue new result before′))
+skills-kept t t′ catalogue old new before before′ n g h h′ =
     let c = catalogueOf catalogue in
-    let A = skill-answers catalogue old n before in
-    let A′ = skill-answers catalogue new n before′ in
-    kept A A′ h h′ (skills-grow (fitOf old) (fitOf new) g c n (asked catalogue old n before (A .answered .0 h) .inside))
+    let A = skill-answers t catalogue old n before in
+    let A′ = skill-answers t′ catalogue new n before′ in
+    kept A A′ h h′ (skills-grow (fitOf old) (fitOf new) g c n (asked t catalogue old n before (A .answered .0 h) .inside))
     (skills-sound c (fitOf old) n) (skills-sound c (fitOf new) n)

@@ -5,7 +5,7 @@ use mathlib.Core.Path.{_≡_, refl, sym, _∙_}
 use mathlib.Core.Bool.{Bool, true, false, not, cond}
 use mathlib.Core.List.{[], _∷_, _++_}
 use mathlib.Core.Logic.{_⊎_, inl, inr, _↔_}
-use lib.Dec.{T}
+use lib.Dec.{T, T-not}
 use Rattle.words.specs.Words.{firstOf}
 use Rattle.fitcheck.proofs.First.{Numbered, first-small}
 use Rattle.promises.specs.Answers.{Conditions, First, None}
@@ -117,6 +117,12 @@ left-out n b (x ∷ l) m h = go (x .1) (left-out n b l m) h
         → cond c (x .0) (firstOf (l ++ (n, b) ∷ m)) ≡ cond c (x .0) (firstOf (l ++ m))
     go true f k = refl
     go false f k = f k
+
+-- a condition that does not hold where those before it do not is never the first
+pub never-reached : (n : ℕ) (l : Conditions) (b : Bool) (m : Conditions) → Without n l → (None l → T (not b)) → (First n m → ⊥) → First n (l ++ (n, b) ∷ m) → ⊥
+never-reached n [] b m w f g h = elim h [ inl a ↦ T-not b (f tt) (a .1) | inr a ↦ g (a .1) ]
+never-reached n (x ∷ l) b m w f g h =
+    elim h [ inl a ↦ w .0 (a .0) | inr a ↦ never-reached n l b m (w .1) (λ k. f (a .0, k)) g (a .1) ]
 
 -- where the last one is the first, none before it holds
 pub last-first : (n : ℕ) (l : Conditions) (b : Bool) → Without n l → First n (l ++ (n, b) ∷ []) → None l × T b

@@ -9,10 +9,11 @@ use Rattle.promises.specs.RefusalCases.{LENGTHS, KEYS, FIELDS, SIZES, ID
 use Rattle.promises.specs.WidenCases.{VALUES, WIDENED}
 use Rattle.promises.specs.LeagueCases.{PROFILES, LEAGUE, PROFILED}
 use Rattle.promises.specs.UnknownCases.{UNKNOWNS, CARRIED}
+use Rattle.promises.specs.PageCases.{PAIRS, PAGES}
 use Rattle.promises.specs.Edges.{STARRED, SKILLS, PARTS, EDGES, Agree}
 use Rattle.promises.proofs.All.{All, nil, cons}
 use Rattle.promises.proofs.Opened.{opened}
-use Rattle.promises.proofs.Large.{agree-large}
+use Rattle.promises.proofs.Large.{agree-large, agree-limits}
 
 -- ---- part by part, so that an outcome that fails is found
 agree-starred : Agree STARRED
@@ -127,6 +128,14 @@ agree-carried : Agree CARRIED
 unfolding opened
 agree-carried = refl
 
+agree-pairs : Agree PAIRS
+unfolding opened
+agree-pairs = refl
+
+agree-pages : Agree PAGES
+unfolding opened
+agree-pages = refl
+
 join : (a b : List Case) → Agree a → Agree b → Agree (a ++ b)
 join a b p q = map-append (λ (x : Case). outcomeOf (x .0)) a b ∙ ap₂ _++_ p q ∙ sym (map-append (λ (x : Case). x .1) a b)
 
@@ -143,4 +152,5 @@ edges =
     (cons agree-lengths (cons agree-keys (cons agree-fields (cons agree-sizes (cons agree-ids (cons agree-ranges
     (cons agree-drones (cons agree-numbers (cons agree-buffers (cons agree-firsts (cons agree-large (cons agree-zeros
     (cons agree-values (cons agree-widened (cons agree-profiles (cons agree-league (cons agree-profiled
-    (cons agree-unknowns (cons agree-carried nil)))))))))))))))))))))))))))))
+    (cons agree-unknowns (cons agree-carried
+    (cons agree-pairs (cons agree-limits (cons agree-pages nil))))))))))))))))))))))))))))))))

@@ -79,4 +79,9 @@ example = record {
   new-points = refl;
   old-skills = refl;
   new-skills = refl;
+  old-narrow = refl;
+  new-narrow = refl;
+  new-wider = refl;
+  old-narrow-skills = refl;
+  new-wider-skills = refl;
 }

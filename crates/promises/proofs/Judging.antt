@@ -19,6 +19,7 @@ use Rattle.fit.specs.Fit.{fitOf, itemCount, resultCount}
 use Rattle.fit.specs.Refusals.{fitRefusals, fitRefusal}
 use Rattle.profile.specs.Profile.{pricesOf, badProfile, badPrices}
 use Rattle.entry.specs.declared.Entry.{Entry}
+use Rattle.context.specs.Context.{pairs}
 use Rattle.lists.specs.Terms.{main}
 use Rattle.lists.specs.Lists.{wholeList}
 use Rattle.fitcheck.specs.Calls.{listCall, tooShort}
@@ -27,7 +28,7 @@ use Rattle.promises.specs.Answers.{Outcome, outcome, refusal, count, Con
 use Rattle.promises.specs.Answers.{First, None, Answers}
 use Rattle.promises.specs.Halls.{hallConditions, clearIn, faultedIn, refusedIn, HallAnswers, Judged}
 use Rattle.promises.proofs.Conditions.{first-is, is-first, none-is, is-none, prefix-first, behind-first, none-join, first-between}
-use Rattle.promises.proofs.Lengths.{list-short}
+use Rattle.promises.proofs.Lengths.{pairs-short, list-short}
 use Rattle.promises.proofs.Calls.{list-answers}
 
 -- ---- three tests of which one passes
@@ -161,9 +162,9 @@ or-false true t = tt
 or-false false t = t
 
 -- no profile is not refused
-none-brought : None (profileConditions [])
+no-profile : None (profileConditions [])
 unfolding badProfile badPrices pricesOf isEmpty inOrder anyOf tableFrom u32At
-none-brought = (tt, (tt, tt))
+no-profile = (tt, (tt, tt))
 
 -- ---- a fit and its list call
 module _ (catalogue fit buffer : List ℕ) (fine : None (catalogueConditions catalogue)) where
@@ -184,9 +185,17 @@ module _ (catalogue fit buffer : List ℕ) (fine : None (catalogueConditions cat
   abbrev A : Answers (listConditions main catalogue fit buffer) es buffer (outcome buffer (listCall main catalogue fit buffer))
   A = list-answers main catalogue fit buffer
 
-  -- those behind them: no profile, and the room
+  -- those behind them: the main page and no profile, and the room
+  abbrev brought : Conditions
+  brought = (13, ltb 256 (length (pairs cat (fitOf fit)))) ∷ profileConditions []
+
   abbrev behind : Conditions
-  behind = profileConditions [] ++ (10, tooShort buffer es) ∷ []
+  behind = brought ++ (10, tooShort buffer es) ∷ []
+
+  none-brought : None ownConditions → None brought
+  unfolding fitRefusals
+  none-brought n =
+      (subst (λ (b : Bool). T (not b)) (sym (le-ltb 256 (length (pairs cat (fitOf fit))) (pairs-short fit (n .0) cat))) tt, no-profile)
 
   -- none of them: what is left is the room
   long-enough : 24 * length es ≤ length buffer → None ownConditions → None (listConditions main catalogue fit buffer)
@@ -194,14 +203,14 @@ module _ (catalogue fit buffer : List ℕ) (fine : None (catalogueConditions cat
   long-enough h n =
       let enough : None ((10, tooShort buffer es) ∷ []) = (subst (λ (b : Bool). T (not b)) (sym (le-ltb (length buffer) (24 * length es) h)) tt, tt) in
       none-join (catalogueConditions catalogue) (ownConditions ++ behind) fine
-      (none-join ownConditions behind n (none-join (profileConditions []) ((10, tooShort buffer es) ∷ []) none-brought enough))
+      (none-join ownConditions behind n (none-join brought ((10, tooShort buffer es) ∷ []) (none-brought n) enough))
 
   too-short : length buffer < 24 * length es → None ownConditions → First 10 (listConditions main catalogue fit buffer)
   unfolding fitRefusals tooShort
   too-short h n =
       let short : First 10 ((10, tooShort buffer es) ∷ []) = inl (refl, lt→ltb (length buffer) (24 * length es) h) in
       behind-first 10 (catalogueConditions catalogue) (ownConditions ++ behind) fine
-      (behind-first 10 ownConditions behind n (behind-first 10 (profileConditions []) ((10, tooShort buffer es) ∷ []) none-brought short))
+      (behind-first 10 ownConditions behind n (behind-first 10 brought ((10, tooShort buffer es) ∷ []) (none-brought n) short))
 
   abbrev o : Outcome
   o = outcome buffer (listCall main catalogue fit buffer)

@@ -1,20 +1,20 @@
 -- The large rows of the edges. To compute them would take too long: lengths are by laws of lists, the walk through a chain by induction.
-use Prim.Native.Nat.{ℕ, zero, suc, _+_, _-_, _≤_, _<_}
+use Prim.Native.Nat.{ℕ, zero, suc, _+_, _-_, _≤_, _<_, min}
 use native.Mathlib.Nat.{add-zero, zero-add, eq-or-lt-of-le}
 use native.Mathlib.Numerals.{add-one}
 use native.Mathlib.Omega.{arith}
-use mathlib.Core.Path.{_≡_, refl, sym, ap, ap₂, _∙_}
+use mathlib.Core.Path.{_≡_, refl, sym, ap, ap₂, _∙_, subst}
 use mathlib.Core.Bool.{Bool, true, false, not, _&&_, _||_, cond}
 use mathlib.Core.List.{List, [], _∷_, _++_, foldl, foldl-append, append-nil}
 use mathlib.Core.Option.{Option, none, some}
 use mathlib.Core.Logic.{⊎-elim}
-use lib.Dec.{eqb, ltb}
+use lib.Dec.{T, eqb, ltb}
 use lib.IntN.{pos}
 use lib.Ieee.{Float}
 use lib.ListN.{length, replicate, length-append, length-replicate, getD, getElem?}
-use borrow.Author.Tests.{ne-eqb}
+use borrow.Author.Tests.{ne-eqb, lt-ltb, le-ltb}
 use Rattle.words.specs.Words.{_>>=_, each, find, given, sumOf, firstOf, tableFrom, table, from, same}
-use Rattle.words.proofs.Tables.{getD-table, table-more, map-table}
+use Rattle.words.proofs.Tables.{length-table, getD-table, table-more, map-table}
 use Rattle.words.proofs.Elements.{elem-table}
 use Rattle.image.specs.Bytes.{le, u32At}
 use Rattle.numbers.specs.Names.{requiredSkill1, requiredSkill1Level}
@@ -25,10 +25,13 @@ use Rattle.catalogue.specs.Lookups.{baseValue}
 use Rattle.fit.specs.Fit.{resultAt, allResults, fitOf, skillCount, itemCount, resultCount, attributeCount, sizeOf}
 use Rattle.fit.specs.Refusals.{badSize}
 use Rattle.skill.specs.Skill.{Demand, required, demands, ofSkill, note, noted, skillAt, met, walkWithin, tooMany, entryOf, skillList}
+use Rattle.skill.proofs.Limits.{walk-same, small-limit}
+use Rattle.lists.specs.Terms.{Terms, limited, main, skillLimit}
 use Rattle.fitcheck.specs.Calls.{tooShort}
-use Rattle.promises.specs.Cases.{base, tree, asks, SkillRefusal, Number, Holds, outcomeOf}
+use Rattle.promises.specs.Cases.{base, tree, asks, OverSkills, SkillRefusal, Number, Holds, Expected, outcomeOf}
 use Rattle.promises.specs.CallCases.{words}
 use Rattle.promises.specs.RefusalCases.{linked, laden, step, chain, flown, LARGE}
+use Rattle.promises.specs.PageCases.{LIMITS}
 use Rattle.promises.specs.Edges.{Agree}
 use Rattle.promises.proofs.Opened.{opened}
 
@@ -148,19 +151,31 @@ met-line n (suc k) h m =
     ∙ sym (table-more (suc k) wanted)
     ∙ ap (λ (i : ℕ). table i wanted) (add-one (suc k))
 
--- 512 steps through a chain of 513, and of 512
+-- 512 steps through a chain of 513; as many steps as there are skills through a shorter one
 walk-513 : walkWithin 512 (chain 513) (asks 0 1) ≡ table 513 wanted
 unfolding walkWithin
 walk-513 = ap noted (met-line 513 512 (omega arith) (omega arith)) ∙ noted-line 513
 
-walk-512 : walkWithin 512 (chain 512) (asks 0 1) ≡ table 512 wanted
+walk-own : (k : ℕ) → k < 512 → walkWithin (suc k) (chain (suc k)) (asks 0 1) ≡ table (suc k) wanted
 unfolding walkWithin
-walk-512 =
+walk-own k h =
+    let q : k ≡ suc k - 1 = omega arith in
+    let nothing = ap (λ (i : ℕ). ofSkill (chain (suc k)) (pos i)) q ∙ last-demands (suc k) in
     ap noted
-    (met-more 512 511 (met-line 512 511 (omega arith) (omega arith))
-    ∙ ap (λ (l : List Demand). table 512 wanted ++ l) (last-demands 512)
-    ∙ append-nil (table 512 wanted))
-    ∙ noted-line 512
+    (met-more (suc k) k (met-line (suc k) k (omega arith) (omega arith))
+    ∙ ap (λ (l : List Demand). table (suc k) wanted ++ l) nothing
+    ∙ append-nil (table (suc k) wanted))
+    ∙ noted-line (suc k)
+
+walk-ends : (k : ℕ) → k < 512 → T (not (tooMany (suc k) (chain (suc k)) (asks 0 1)))
+unfolding tooMany
+walk-ends k h =
+    let e = ap (λ (l : List Demand). length l) (walk-own k h) ∙ length-table 0 (suc k) wanted in
+    subst (λ (b : Bool). T (not b)) (sym (le-ltb (suc k) (length (walkWithin (suc k) (chain (suc k)) (asks 0 1))) (omega (arith, e)))) tt
+
+-- further steps meet nothing
+walk-to : (k : ℕ) → k < 512 → walkWithin 512 (chain (suc k)) (asks 0 1) ≡ table (suc k) wanted
+walk-to k h = walk-same (chain (suc k)) (asks 0 1) (suc k) 512 (omega arith) (walk-ends k h) ∙ walk-own k h
 
 -- ---- the rows
 -- zeros behind a head
@@ -200,22 +215,82 @@ fit-above : badSize (laden 30001) ≡ true
 unfolding opened
 fit-above = by-size (laden 30001) 360048 (long (words (0 ∷ 0 ∷ 0 ∷ 30001 ∷ 0 ∷ 0 ∷ 0 ∷ []) ++ (0 ∷ 0 ∷ le 2 30001 ++ replicate 4 0)) 360012)
 
--- refusals 8 to 10 of a ship that asks for the first skill of a chain, by what its walk notes
-by-walk : (c : Catalogue) (buffer : List ℕ) (ws : List Demand) → walkWithin 512 c (asks 0 1) ≡ ws
-    → outcomeOf (SkillRefusal c (flown (asks 0 1) []) 0 buffer)
-    ≡ Number (cond (ltb 512 (length ws)) 9 (cond (tooShort buffer (each ws (entryOf (flown (asks 0 1) []) 0))) 10 0))
-unfolding outcomeOf firstOf resultAt given tooMany skillList _>>=_
-by-walk c buffer ws e =
-    ap
-    (λ (l : List Demand). Number (cond (ltb 512 (length l)) 9 (cond (tooShort buffer (each l (entryOf (flown (asks 0 1) []) 0))) 10 0)))
-    e
+-- refusals 8, 9, 13 and 10 of a ship that asks for the first skill of a chain, by what its walk notes
+noted-refusal : Terms → List ℕ → List Demand → Bool → Expected
+noted-refusal t buffer ws over = Number (cond (ltb 512 (length ws)) 9 (cond over 13 (cond (tooShort buffer (each ws (entryOf (flown (asks 0 1) []) 0))) 10 0)))
+
+by-walk : (t : Terms) (c : Catalogue) (buffer : List ℕ) (ws : List Demand) → walkWithin 512 c (asks 0 1) ≡ ws
+    → outcomeOf (SkillRefusal t c (flown (asks 0 1) []) 0 buffer) ≡ noted-refusal t buffer ws (ltb (skillLimit t) (length ws))
+unfolding outcomeOf firstOf resultAt given tooMany skillList _>>=_ noted-refusal
+by-walk t c buffer ws e =
+    ap (noted-refusal t buffer (walkWithin 512 c (asks 0 1))) (small-limit c (asks 0 1) (skillLimit t) 512 (omega arith))
+    ∙ ap (λ (l : List Demand). noted-refusal t buffer l (ltb (skillLimit t) (length l))) e
 
 pub agree-large : Agree LARGE
-unfolding opened
+unfolding opened noted-refusal
 agree-large =
     ap₂ _∷_ (ap Holds catalogue-at) (ap₂ _∷_ (ap Holds catalogue-above)
     (ap₂ _∷_ (ap Holds fit-at) (ap₂ _∷_ (ap Holds fit-above)
-    (ap₂ _∷_ (by-walk (chain 513) [] (table 513 wanted) walk-513)
-    (ap₂ _∷_ (by-walk (chain 512) (replicate 12287 7) (table 512 wanted) walk-512)
-    (ap₂ _∷_ (by-walk (chain 512) (replicate 12288 7) (table 512 wanted) walk-512)
+    (ap₂ _∷_ (by-walk main (chain 513) [] (table 513 wanted) walk-513)
+    (ap₂ _∷_ (by-walk main (chain 512) (replicate 12287 7) (table 512 wanted) (walk-to 511 (omega arith)))
+    (ap₂ _∷_ (by-walk main (chain 512) (replicate 12288 7) (table 512 wanted) (walk-to 511 (omega arith)))
     refl))))))
+
+-- on a page, with no room for an entry
+by-limit : (k limit : ℕ) → k < 512
+    → outcomeOf (SkillRefusal (limited 0 limit main) (chain (suc k)) (flown (asks 0 1) []) 0 [])
+    ≡ noted-refusal (limited 0 limit main) [] (table (suc k) wanted) (ltb (min limit 512) (length (table (suc k) wanted)))
+by-limit k limit h = by-walk (limited 0 limit main) (chain (suc k)) [] (table (suc k) wanted) (walk-to k h)
+
+over-513 : (limit : ℕ) → outcomeOf (SkillRefusal (limited 0 limit main) (chain 513) (flown (asks 0 1) []) 0 []) ≡ Number 9
+unfolding opened noted-refusal
+over-513 limit = by-walk (limited 0 limit main) (chain 513) [] (table 513 wanted) walk-513
+
+-- 513 are over every limit
+over-any : (limit : ℕ) → 512 ≤ limit → outcomeOf (OverSkills (limited 0 limit main) (chain 513) (flown (asks 0 1) []) 0) ≡ Holds true
+unfolding outcomeOf resultAt given
+over-any limit h =
+    let e = ap (λ (l : List Demand). length l) walk-513 ∙ length-table 0 513 wanted in
+    let many = small-limit (chain 513) (asks 0 1) (min limit 512) 512 (omega arith) in
+    ap Holds (many ∙ lt-ltb (min limit 512) (length (walkWithin 512 (chain 513) (asks 0 1))) (omega (arith, e, h)))
+
+pub agree-limits : Agree LIMITS
+unfolding opened noted-refusal
+agree-limits =
+    ap₂ _∷_ (by-limit 0 0 (omega arith))
+    (ap₂ _∷_ (by-limit 63 0 (omega arith))
+    (ap₂ _∷_ (by-limit 511 0 (omega arith))
+    (ap₂ _∷_ (by-limit 0 1 (omega arith))
+    (ap₂ _∷_ (by-limit 1 1 (omega arith))
+    (ap₂ _∷_ (by-limit 62 63 (omega arith))
+    (ap₂ _∷_ (by-limit 63 63 (omega arith))
+    (ap₂ _∷_ (by-limit 62 64 (omega arith))
+    (ap₂ _∷_ (by-limit 63 64 (omega arith))
+    (ap₂ _∷_ (by-limit 64 64 (omega arith))
+    (ap₂ _∷_ (by-limit 63 65 (omega arith))
+    (ap₂ _∷_ (by-limit 64 65 (omega arith))
+    (ap₂ _∷_ (by-limit 65 65 (omega arith))
+    (ap₂ _∷_ (by-limit 254 255 (omega arith))
+    (ap₂ _∷_ (by-limit 255 255 (omega arith))
+    (ap₂ _∷_ (by-limit 255 256 (omega arith))
+    (ap₂ _∷_ (by-limit 256 256 (omega arith))
+    (ap₂ _∷_ (by-limit 255 257 (omega arith))
+    (ap₂ _∷_ (by-limit 256 257 (omega arith))
+    (ap₂ _∷_ (by-limit 257 257 (omega arith))
+    (ap₂ _∷_ (by-limit 509 511 (omega arith))
+    (ap₂ _∷_ (by-limit 510 511 (omega arith))
+    (ap₂ _∷_ (by-limit 511 511 (omega arith))
+    (ap₂ _∷_ (by-limit 510 512 (omega arith))
+    (ap₂ _∷_ (by-limit 511 512 (omega arith))
+    (ap₂ _∷_ (by-limit 511 513 (omega arith))
+    (ap₂ _∷_ (by-limit 511 65536 (omega arith))
+    (ap₂ _∷_ (by-limit 511 2147483648 (omega arith))
+    (ap₂ _∷_ (by-limit 511 4294967295 (omega arith))
+    (ap₂ _∷_ (over-513 0)
+    (ap₂ _∷_ (over-513 511)
+    (ap₂ _∷_ (over-513 512)
+    (ap₂ _∷_ (over-513 513)
+    (ap₂ _∷_ (over-513 4294967295)
+    (ap₂ _∷_ (over-any 513 (omega arith))
+    (ap₂ _∷_ (over-any 4294967295 (omega arith))
+    refl)))))))))))))))))))))))))))))))))))

@@ -19,6 +19,7 @@ pub mod Judging
 pub mod Opened
 pub mod Large
 pub mod Seven
+pub mod Pages
 pub mod Leagues
 pub mod Numbers
 pub mod Left

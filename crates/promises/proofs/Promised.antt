@@ -3,8 +3,8 @@ use mathlib.Core.Path.{_≡_, refl}
 use Rattle.words.specs.Words.{each, tableFrom}
 use Rattle.lists.specs.Terms.{Terms, main}
 use Rattle.promises.specs.Answers.{refusal}
-use Rattle.promises.specs.Compare.{Kept}
-use Rattle.promises.specs.GrownCase.{CATALOGUE, OLD, NEW, BANNING, PRICING, ROOM}
+use Rattle.promises.specs.Compare.{Alike, Kept}
+use Rattle.promises.specs.GrownCase.{CATALOGUE, OLD, NEW, BANNING, PRICING, NARROW, WIDER, ROOM}
 use Rattle.promises.specs.Promises.{listOutcome, skillOutcome, Names, Promises}
 use Rattle.promises.proofs.Calls.{list-answers, skill-answers, list-room, skill-room}
 use Rattle.promises.proofs.Comparing.{list-kept, skills-kept}
@@ -16,6 +16,7 @@ use Rattle.promises.proofs.Opened.{opened}
 use Rattle.promises.proofs.Seven.{no-seven, list-as-before, drones-exact}
 use Rattle.promises.proofs.Leagues.{no-profile}
 use Rattle.promises.proofs.Unknowns.{unknowns, unknowns-left}
+use Rattle.promises.proofs.Pages.{small-page, small-page-skills, main-page}
 use Rattle.promises.proofs.Widening.{widen-answers, widen-decodes, widen-stands}
 use Rattle.promises.proofs.Edges.{edges}
 
@@ -34,6 +35,9 @@ promised = record {
   no-profile = no-profile;
   unknowns = unknowns;
   unknowns-left = unknowns-left;
+  small-page = small-page;
+  small-page-skills = small-page-skills;
+  main-page = main-page;
   drones-exact = drones-exact;
   list-kept = list-kept;
   skill-kept = skills-kept;
@@ -41,7 +45,7 @@ promised = record {
   example = example;
   tables = tables;
   skill-lists = skill-lists;
-  too-many = more-wanted 512;
+  too-many = more-wanted;
   hall-call = hall-answers;
   hall-fits = judged;
   widen-answers = widen-answers;
@@ -52,23 +56,26 @@ promised = record {
 }
 
 -- Demand 3 as it is promised, of the two images: its premises are those that they meet.
-applies : (t : Terms) → refusal (listOutcome t CATALOGUE OLD ROOM) ≡ 0 → refusal (listOutcome t CATALOGUE NEW ROOM) ≡ 0
-    → Kept (listOutcome t CATALOGUE OLD ROOM) (listOutcome t CATALOGUE NEW ROOM)
-applies t =
-    promised .list-kept t t CATALOGUE OLD NEW ROOM ROOM (record { profile = refl; allowance = refl }) (example .bytes) (example .grown) (example .volumes)
+applies : (t t′ : Terms) → Alike t t′ → refusal (listOutcome t CATALOGUE OLD ROOM) ≡ 0 → refusal (listOutcome t′ CATALOGUE NEW ROOM) ≡ 0
+    → Kept (listOutcome t CATALOGUE OLD ROOM) (listOutcome t′ CATALOGUE NEW ROOM)
+applies t t′ alike = promised .list-kept t t′ CATALOGUE OLD NEW ROOM ROOM alike (example .bytes) (example .grown) (example .volumes)
 
 list-applies : Kept (listOutcome main CATALOGUE OLD ROOM) (listOutcome main CATALOGUE NEW ROOM)
 unfolding opened
-list-applies = applies main refl refl
+list-applies = applies main main (record { profile = refl; allowance = refl }) refl refl
 
 bans-apply : Kept (listOutcome BANNING CATALOGUE OLD ROOM) (listOutcome BANNING CATALOGUE NEW ROOM)
 unfolding opened
-bans-apply = applies BANNING refl refl
+bans-apply = applies BANNING BANNING (record { profile = refl; allowance = refl }) refl refl
 
 points-apply : Kept (listOutcome PRICING CATALOGUE OLD ROOM) (listOutcome PRICING CATALOGUE NEW ROOM)
 unfolding opened
-points-apply = applies PRICING refl refl
+points-apply = applies PRICING PRICING (record { profile = refl; allowance = refl }) refl refl
 
-skill-applies : Kept (skillOutcome CATALOGUE OLD 2 ROOM) (skillOutcome CATALOGUE NEW 2 ROOM)
+pages-apply : Kept (listOutcome NARROW CATALOGUE OLD ROOM) (listOutcome WIDER CATALOGUE NEW ROOM)
 unfolding opened
-skill-applies = promised .skill-kept CATALOGUE OLD NEW ROOM ROOM 2 (example .grown) refl refl
+pages-apply = applies NARROW WIDER (record { profile = refl; allowance = refl }) refl refl
+
+skill-applies : Kept (skillOutcome NARROW CATALOGUE OLD 2 ROOM) (skillOutcome WIDER CATALOGUE NEW 2 ROOM)
+unfolding opened
+skill-applies = promised .skill-kept NARROW WIDER CATALOGUE OLD NEW ROOM ROOM 2 (example .grown) refl refl

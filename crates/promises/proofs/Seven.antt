@@ -15,12 +15,11 @@ use Rattle.floats.specs.Floats.{ofNat}
 use Rattle.catalogue.specs.Catalogue.{Catalogue, catalogueOf}
 use Rattle.fit.specs.Fit.{Item, Result, fitOf}
 use Rattle.fit.specs.Refusals.{badSize}
-use Rattle.entry.specs.declared.Entry.{Entry}
 use Rattle.context.specs.Context.{Pair, pairsFrom, pairs}
 use Rattle.resource.specs.Resource.{isLaunched, launched}
 use Rattle.lists.specs.Terms.{Terms}
 use Rattle.lists.specs.Lists.{wholeList}
-use Rattle.fitcheck.specs.Calls.{answerBy, answer, returned, inputRefusals, bufferRefusals, listCall, skillCall}
+use Rattle.fitcheck.specs.Calls.{answerBy, answer, inputRefusals, bufferRefusals, listCall, skillCall}
 use Rattle.fitcheck.specs.Hall.{hallCall, hallReturned}
 use Rattle.promises.specs.Answers.{outcome, refusal, listConditions, skillConditions}
 use Rattle.promises.specs.Before.{tooManyDrones, listBefore}
@@ -29,25 +28,22 @@ use Rattle.promises.specs.Halls.{hallConditions}
 use Rattle.promises.proofs.All.{All, nil, cons}
 use Rattle.promises.proofs.Conditions.{never-first, left-out}
 use Rattle.promises.proofs.Lengths.{pairs-short}
+use Rattle.promises.proofs.Answering.{given-first}
 use Rattle.promises.proofs.Calls.{list-answers, skill-answers}
 use Rattle.promises.proofs.Comparing.{quantities}
 use Rattle.promises.proofs.Judging.{hall-answers}
 
 pub no-seven : (t : Terms) (catalogue fit input buffer : List ℕ) (result : ℕ)
     → (refusal (outcome buffer (listCall t catalogue fit buffer)) ≡ 7 → ⊥)
-    × (refusal (outcome buffer (skillCall catalogue fit result buffer)) ≡ 7 → ⊥)
+    × (refusal (outcome buffer (skillCall t catalogue fit result buffer)) ≡ 7 → ⊥)
     × (hallReturned (hallCall catalogue input) / 4294967296 ≡ 7 → ⊥)
 no-seven t catalogue fit input buffer result = (
   λ h. never-first 7 (listConditions t catalogue fit buffer) (omega arith) (list-answers t catalogue fit buffer .refused 7 (omega arith) .0 h),
-  λ h. never-first 7 (skillConditions catalogue fit result buffer) (omega arith) (skill-answers catalogue fit result buffer .refused 7 (omega arith) .0 h),
+  λ h. never-first 7 (skillConditions t catalogue fit result buffer) (omega arith) (skill-answers t catalogue fit result buffer .refused 7 (omega arith) .0 h),
   λ h. never-first 7 (hallConditions catalogue input) (omega arith) (hall-answers catalogue input .refused 7 (omega arith) .0 h),
 )
 
 -- ---- the calls that 7 did not refuse
-given-seven : (buffer : List ℕ) (es : List Entry) (k : ℕ) → k ≡ 7 → refusal (outcome buffer (answerBy k es)) ≡ 7
-unfolding answerBy returned
-given-seven buffer es k e = ap (λ (n : ℕ). refusal (outcome buffer (answerBy n es))) e
-
 pub list-as-before : (t : Terms) (catalogue fit buffer : List ℕ) → (refusal (outcome buffer (listBefore t catalogue fit buffer)) ≡ 7 → ⊥)
     → outcome buffer (listCall t catalogue fit buffer) ≡ outcome buffer (listBefore t catalogue fit buffer)
 unfolding listBefore listCall answer
@@ -57,7 +53,7 @@ list-as-before t catalogue fit buffer h =
     let es = wholeList t c f in
     let l = inputRefusals t catalogue fit in
     let m = bufferRefusals buffer es in
-    let e = left-out 7 (tooManyDrones c f) l m (λ q. h (given-seven buffer es (firstOf (l ++ (7, tooManyDrones c f) ∷ m)) q)) in
+    let e = left-out 7 (tooManyDrones c f) l m (λ q. h (given-first 6 buffer es (firstOf (l ++ (7, tooManyDrones c f) ∷ m)) q)) in
     ap (λ (k : ℕ). outcome buffer (answerBy k es)) (sym e)
 
 -- ---- the total

@@ -60,7 +60,7 @@ module _ (t : Terms) (c : Catalogue) (k : Frame) (ids : List Id) (ps : List Pair
 
 pub unknowns : (t : Terms) (c : Catalogue) (f : Fit)
     → (only Other (wholeList t c f) ≡ leagueList t c f) × (t .profile ≡ [] → leagueList t c f ≡ listOf c f)
-unfolding wholeList leagueList
+unfolding wholeList leagueList leagueWith
 unknowns t c f = (
   without t c (f .frame) (f .skills) (pairs c f),
   λ e. ap (λ (profile : List ℕ). leagueList (terms profile (t .allowance)) c f) e ∙ rust-list (t .allowance) c f,

@@ -18,6 +18,7 @@ use Rattle.entry.specs.declared.Rule.the-variants.{Skill}
 use Rattle.entry.specs.declared.Entry.{Entry}
 use Rattle.skill.specs.Skill.{Demand, walkWithin, tooMany, targetOf, entryOf, skillList}
 use Rattle.skill.specs.Wanted.{Wanted, Once, Walked}
+use Rattle.lists.specs.Terms.{Terms}
 use Rattle.fitcheck.specs.Calls.{skillCall}
 use Rattle.promises.specs.Answers.{outcome, refusal}
 use Rattle.promises.specs.Walks.{Highest, idsOf, WalkOf, MoreWanted, Lacks, SkillsOf}
@@ -136,13 +137,14 @@ module _ (c : Catalogue) (f : Fit) (n : ℕ) where
           (each-has _ e (w (k .0) (k .1) .1 (k .2)) (when-has (ltb (level (k .0)) (k .1)) _ e (lt→ltb _ _ (k .3)) (k .4)))
 
 -- ---- an answered call
-pub skill-lists : (catalogue fit : List ℕ) (result : ℕ) (buffer : List ℕ) → refusal (outcome buffer (skillCall catalogue fit result buffer)) ≡ 0
+pub skill-lists : (t : Terms) (catalogue fit : List ℕ) (result : ℕ) (buffer : List ℕ)
+    → refusal (outcome buffer (skillCall t catalogue fit result buffer)) ≡ 0
     → SkillsOf (catalogueOf catalogue) (fitOf fit) result
 unfolding resultAt given
-skill-lists catalogue fit n buffer h =
+skill-lists t catalogue fit n buffer h =
     let c = catalogueOf catalogue in
     let f = fitOf fit in
-    let a = asked catalogue fit n buffer (skill-answers catalogue fit n buffer .answered .0 h) in
+    let a = asked t catalogue fit n buffer (skill-answers t catalogue fit n buffer .answered .0 h) in
     let l = a .inside in
     let r = getD (allResults f) n (f .frame .shipResult) in
     let e : getElem? (allResults f) n ≡ some r = elem-of (f .frame .shipResult) (allResults f) n (omega arith) in

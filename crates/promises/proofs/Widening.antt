@@ -22,7 +22,7 @@ use Rattle.fit.specs.Refusals.{fitRefusals}
 use Rattle.profile.specs.Profile.{profileRefusals}
 use Rattle.skill.specs.Skill.{skillList}
 use Rattle.lists.specs.Lists.{wholeList}
-use Rattle.fitcheck.specs.Calls.{Answer, answer, bufferRefusals, skillRefusals, listCall, skillCall}
+use Rattle.fitcheck.specs.Calls.{Answer, answer, overPairs, bufferRefusals, skillRefusals, listCall, skillCall}
 use Rattle.fitcheck.specs.Widen.{outputBy, output, outputWord, filled, noRoom, widenCall}
 use Rattle.fitcheck.proofs.First.{Numbered}
 use Rattle.promises.specs.Answers.{Outcome, refusal, count, Conditions, None}
@@ -130,11 +130,14 @@ module _ (old buffer : List ℕ) where
         accepted = ap firstOf same-refusals ∙ none-is (oldRefusals old) (none .0, (none .1 .0, (none .1 .1 .0, tt)));
         lists = λ t fit buffer.
             ap₂ (λ (l : Conditions) (c : Catalogue).
-            let es = wholeList t c (fitOf fit) in
-            answer (l ++ fitRefusals fit ++ profileRefusals (t .profile) ++ bufferRefusals buffer es) es)
+            let f = fitOf fit in
+            let es = wholeList t c f in
+            answer (l ++ fitRefusals fit ++ ((13, overPairs t c f) ∷ []) ++ profileRefusals (t .profile) ++ bufferRefusals buffer es) es)
             same-refusals (decoded old (old-size none));
-        skills = λ fit result buffer.
-            ap₂ (λ (l : Conditions) (c : Catalogue). answer (l ++ fitRefusals fit ++ skillRefusals c (fitOf fit) result buffer) (skillList c (fitOf fit) result))
+        skills = λ t fit result buffer.
+            ap₂ (λ (l : Conditions) (c : Catalogue).
+            let f = fitOf fit in
+            answer (l ++ fitRefusals fit ++ ((13, overPairs t c f) ∷ []) ++ skillRefusals t c f result buffer) (skillList c f result))
             same-refusals (decoded old (old-size none));
       }
 

@@ -1,5 +1,5 @@
 -- Document 01, "Refusals in their order", and document 02: what a caller has after a call, and the order of the refusals.
-use Prim.Native.Nat.{ℕ, _+_, _*_, _/_, _%_, _≤_, _<_}
+use Prim.Native.Nat.{ℕ, _+_, _*_, _/_, _%_, _≤_, _<_, min}
 use mathlib.Core.Path.{_≡_}
 use mathlib.Core.Bool.{Bool, false, not}
 use mathlib.Core.List.{List, [], _∷_, _++_}
@@ -12,6 +12,7 @@ use Rattle.catalogue.specs.Catalogue.{catalogueOf}
 use Rattle.catalogue.specs.Refusals as Catalogue
 use Rattle.fit.specs.Fit.{fitOf, resultAt}
 use Rattle.fit.specs.Refusals as Fit
+use Rattle.context.specs.Context.{pairs}
 use Rattle.entry.specs.declared.Entry.{Entry}
 use Rattle.entry.specs.Entries.{entryBytes}
 use Rattle.profile.specs.Profile.{pricesOf, badProfile, badPrices}
@@ -46,7 +47,7 @@ entriesOf o = table (count o) (entryAt o)
 -- ---- the refusals, each with its condition, in their order
 -- no call gives a higher number
 abbrev pub highest : ℕ
-highest = 12
+highest = 13
 
 abbrev pub Conditions : Type 0
 Conditions = List (ℕ × Bool)
@@ -61,24 +62,32 @@ fitConditions fit =
     let f = fitOf fit in
     (4, Fit.badSize fit) ∷ (5, Fit.badOrder f) ∷ (6, Fit.badField f) ∷ []
 
+-- of both images on a page: 13 for pairs. A limit above the main page's counts as that one
+abbrev pub pageConditions : Terms → (catalogue fit : List ℕ) → Conditions
+pageConditions t catalogue fit =
+    catalogueConditions catalogue ++ fitConditions fit
+    ++ (13, ltb (min (t .pairs) 256) (length (pairs (catalogueOf catalogue) (fitOf fit)))) ∷ []
+
 abbrev pub profileConditions : (profile : List ℕ) → Conditions
 profileConditions profile = (11, badProfile profile) ∷ (12, badPrices (pricesOf profile)) ∷ []
 
 -- of all that a list call brings
 abbrev pub inputConditions : Terms → (catalogue fit : List ℕ) → Conditions
-inputConditions t catalogue fit = catalogueConditions catalogue ++ fitConditions fit ++ profileConditions (t .profile)
+inputConditions t catalogue fit = pageConditions t catalogue fit ++ profileConditions (t .profile)
 
 abbrev pub listConditions : Terms → (catalogue fit buffer : List ℕ) → Conditions
 listConditions t catalogue fit buffer =
     inputConditions t catalogue fit ++ (10, tooShort buffer (wholeList t (catalogueOf catalogue) (fitOf fit))) ∷ []
 
-abbrev pub skillConditions : (catalogue fit : List ℕ) (result : ℕ) (buffer : List ℕ) → Conditions
-skillConditions catalogue fit result buffer =
+-- 13 for skills behind 9: over the page's limit, and not over the main page's
+abbrev pub skillConditions : Terms → (catalogue fit : List ℕ) (result : ℕ) (buffer : List ℕ) → Conditions
+skillConditions t catalogue fit result buffer =
     let c = catalogueOf catalogue in
     let f = fitOf fit in
-    catalogueConditions catalogue ++ fitConditions fit
+    pageConditions t catalogue fit
     ++ (8, ltb (length (f .results) + 1) result)
     ∷ (9, given (resultAt f result) false (tooMany 512 c))
+    ∷ (13, given (resultAt f result) false (tooMany (min (t .skills) 512) c))
     ∷ (10, tooShort buffer (skillList c f result))
     ∷ []
 
@@ -94,7 +103,7 @@ None (x ∷ l) = T (not (x .1)) × None l
 
 -- ---- a call under some conditions, which lists es where none of them holds
 pub record Answers (conditions : Conditions) (es : List Entry) (before : List ℕ) (o : Outcome) : Type 0 where
-  -- a number refuses exactly where its condition is the first that holds, and is one of 1 to 12
+  -- a number refuses exactly where its condition is the first that holds, and is one of 1 to 13
   pub refused : (n : ℕ) → 0 < n → (refusal o ≡ n) ↔ First n conditions
   pub answered : (refusal o ≡ 0) ↔ None conditions
   pub numbered : refusal o ≤ highest

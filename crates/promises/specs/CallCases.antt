@@ -66,7 +66,7 @@ abbrev pub typesAt : ℕ → ℕ → List ℕ
 typesAt a b = words (0 ∷ 0 ∷ 2 ∷ 0 ∷ 0 ∷ a ∷ b ∷ []) ++ replicate 32 0
 
 -- an effect with a mark
-abbrev marked : ℕ → List ℕ
+abbrev pub marked : ℕ → List ℕ
 marked mark = words (0 ∷ 1 ∷ 0 ∷ 0 ∷ 0 ∷ 5 ∷ mark ∷ [])
 
 -- names 20, 22, 76 and 77 with the attributes 6, 7, 4 and 5; effect 3, a Medium slot; type 1, a ship, and type 9, a module with that effect,
@@ -111,7 +111,7 @@ loaded items results =
     words (0 ∷ items ∷ results ∷ 0 ∷ 1 ∷ 0 ∷ 0 ∷ []) ++ each (replicate items 11) (λ slot. words (9 ∷ 1 ∷ slot ∷ [])) ++ replicate (4 * results + 8) 0
 
 -- so many skills, items and results, all of zeros
-abbrev sized : ℕ → ℕ → ℕ → List ℕ
+abbrev pub sized : ℕ → ℕ → ℕ → List ℕ
 sized skills items results = words (skills ∷ items ∷ results ∷ 0 ∷ 0 ∷ 0 ∷ 0 ∷ []) ++ replicate (5 * skills + 12 * items + 4 * results + 8) 0
 
 -- a fit of one item: slot kind, zero byte, index

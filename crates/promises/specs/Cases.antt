@@ -19,7 +19,7 @@ use Rattle.profile.specs.Profile.{profileRefusal}
 use Rattle.lists.specs.Terms.{Terms, main}
 use Rattle.lists.specs.Lists.{wholeList}
 use Rattle.skill.specs.Skill.{Demand, wantedSkills, tooMany, skillList}
-use Rattle.fitcheck.specs.Calls.{returned, buffered, skillRefusals, listCall, skillCall}
+use Rattle.fitcheck.specs.Calls.{returned, buffered, overPairs, overSkills, skillRefusals, listCall, skillCall}
 use Rattle.fitcheck.specs.Hall.{hallCall, hallReturned}
 use Rattle.fitcheck.specs.Widen.{outputWord, filled, widenCall}
 use Rattle.promises.specs.Before.{listBefore}
@@ -201,15 +201,18 @@ pub data Input : Type 0 where
   Skilled : Catalogue → Fit → ℕ → Input
   -- an entry in bytes
   Written : Entry → Input
-  -- the conditions of refusals 1 and 4; the first of 8, 9 and 10 that holds, or of 11 and 12, or 0
+  -- the conditions of refusals 1, 4 and, for pairs and for skills, 13; the first of 8, 9, 13 for skills and 10 that holds, or of 11 and 12, or 0
   BadLength : (catalogue : List ℕ) → Input
   BadSize : (fit : List ℕ) → Input
-  SkillRefusal : Catalogue → Fit → (result : ℕ) → (buffer : List ℕ) → Input
+  OverPairs : Terms → Catalogue → Fit → Input
+  OverSkills : Terms → Catalogue → Fit → (result : ℕ) → Input
+  SkillRefusal : Terms → Catalogue → Fit → (result : ℕ) → (buffer : List ℕ) → Input
   ProfileRefusal : (profile : List ℕ) → Input
   -- the calls, of bytes
   ListCall : (catalogue fit buffer : List ℕ) → Input
   LeagueCall : Terms → (catalogue fit buffer : List ℕ) → Input
   SkillCall : (catalogue fit : List ℕ) (result : ℕ) (buffer : List ℕ) → Input
+  PageSkillCall : Terms → (catalogue fit : List ℕ) (result : ℕ) (buffer : List ℕ) → Input
   HallCall : (catalogue input : List ℕ) → Input
   -- the list call as it was before
   ListBefore : (catalogue fit buffer : List ℕ) → Input
@@ -242,11 +245,14 @@ outcomeOf (Skilled c f n) = Entries (skillList c f n)
 outcomeOf (Written e) = InBytes (entryBytes e)
 outcomeOf (BadLength catalogue) = Holds (badLength catalogue)
 outcomeOf (BadSize fit) = Holds (badSize fit)
-outcomeOf (SkillRefusal c f n buffer) = Number (firstOf (skillRefusals c f n buffer))
+outcomeOf (OverPairs t c f) = Holds (overPairs t c f)
+outcomeOf (OverSkills t c f n) = Holds (overSkills t c f n)
+outcomeOf (SkillRefusal t c f n buffer) = Number (firstOf (skillRefusals t c f n buffer))
 outcomeOf (ProfileRefusal profile) = Number (profileRefusal profile)
 outcomeOf (ListCall catalogue fit buffer) = let a = listCall main catalogue fit buffer in Returns (returned a) (buffered buffer a)
 outcomeOf (LeagueCall t catalogue fit buffer) = let a = listCall t catalogue fit buffer in Returns (returned a) (buffered buffer a)
-outcomeOf (SkillCall catalogue fit result buffer) = let a = skillCall catalogue fit result buffer in Returns (returned a) (buffered buffer a)
+outcomeOf (SkillCall catalogue fit result buffer) = let a = skillCall main catalogue fit result buffer in Returns (returned a) (buffered buffer a)
+outcomeOf (PageSkillCall t catalogue fit result buffer) = let a = skillCall t catalogue fit result buffer in Returns (returned a) (buffered buffer a)
 outcomeOf (HallCall catalogue input) = Number (hallReturned (hallCall catalogue input))
 outcomeOf (ListBefore catalogue fit buffer) = let a = listBefore main catalogue fit buffer in Returns (returned a) (buffered buffer a)
 outcomeOf (Single n) = Number (wideBits (le 4 n) 0)

@@ -42,7 +42,7 @@ addedItems old new = drop (length (old .items)) (new .items)
 abbrev pub AddedVolumes : Catalogue → Fit → Fit → Type 0
 AddedVolumes c old new = (i : Item) → List·Memᴰ i (addedItems old new) → i .slot ≡ Slots.cargo → T (volumeAllowed c (i .type))
 
--- the two calls bring the same profile and the same allowance
+-- the two calls bring the same profile and the same allowance; their limits may differ
 pub record Alike (t t′ : Terms) : Type 0 where
   pub profile : t .profile ≡ t′ .profile
   pub allowance : t .allowance ≡ t′ .allowance

@@ -1,5 +1,5 @@
 -- Document 01, "Edges, those marked * proved": one table of inputs and outcomes. First the starred edges, then a case for and against every
--- rule, entries and calls in bytes, every part of every refusal, and what widens to what.
+-- rule, entries and calls in bytes, every part of every refusal, what widens to what, leagues, and the limits of pages.
 use Prim.Native.Nat.{ℕ}
 use mathlib.Core.Path.{_≡_}
 use mathlib.Core.Bool.{true, false}
@@ -22,6 +22,7 @@ use Rattle.promises.specs.RefusalCases.{LENGTHS, KEYS, FIELDS, SIZES, ID
 use Rattle.promises.specs.WidenCases.{VALUES, WIDENED}
 use Rattle.promises.specs.LeagueCases.{PROFILES, LEAGUE, PROFILED}
 use Rattle.promises.specs.UnknownCases.{UNKNOWNS, CARRIED}
+use Rattle.promises.specs.PageCases.{PAIRS, LIMITS, PAGES}
 
 -- ---- skills
 -- skills 1 and 2 demand each other: 2 at 1, and 1 at 4
@@ -105,7 +106,7 @@ abbrev pub PARTS : List (List Case)
 PARTS =
     STARRED ∷ SKILLS ∷ KINDS ∷ RESOURCES ∷ SLOTS ∷ ITEMS ∷ CROWDS ∷ ORDER ∷ ENTRIES ∷ CALLS
     ∷ LENGTHS ∷ KEYS ∷ FIELDS ∷ SIZES ∷ IDS ∷ RANGES ∷ DRONES ∷ NUMBERS ∷ BUFFERS ∷ FIRSTS ∷ LARGE ∷ ZEROS
-    ∷ VALUES ∷ WIDENED ∷ PROFILES ∷ LEAGUE ∷ PROFILED ∷ UNKNOWNS ∷ CARRIED ∷ []
+    ∷ VALUES ∷ WIDENED ∷ PROFILES ∷ LEAGUE ∷ PROFILED ∷ UNKNOWNS ∷ CARRIED ∷ PAIRS ∷ LIMITS ∷ PAGES ∷ []
 
 abbrev pub EDGES : List Case
 EDGES = each PARTS λ part. part

@@ -16,8 +16,8 @@ use Rattle.fit.specs.Fit.{Item, Result, Fit, allResults, fitOf}
 use Rattle.entry.specs.declared.Entry.{Entry}
 use Rattle.entry.specs.declared.Rule.the-variants.{Resource, Slots, NotAnImplant, SlotTaken, Skill, MaxGroup, MaxType, NotASkill, Banned, Points, UnknownType}
 use Rattle.entry.specs.Entries.{onShip, onItem}
-use Rattle.lists.specs.Terms.{Terms, terms, main}
-use Rattle.fitcheck.specs.Calls.{Listed, listCall, skillCall}
+use Rattle.lists.specs.Terms.{Terms, terms, limited, main}
+use Rattle.fitcheck.specs.Calls.{Refused, Listed, listCall, skillCall}
 use Rattle.promises.specs.Compare.{Bytes, Grown, AddedVolumes}
 use Rattle.promises.specs.Cases.{ship, gun, gunnery, ore, ghost, unknown, attribute, has, result, Thing, stack, one}
 use Rattle.promises.specs.CallCases.{words}
@@ -171,6 +171,13 @@ BANNING = terms (words (1 ∷ 50 ∷ 4294967295 ∷ [])) 5
 abbrev pub PRICING : Terms
 PRICING = terms (words (1 ∷ 50 ∷ 3 ∷ [])) 5
 
+-- it on a page that takes the old fit's five pairs and no more, and one wanted skill; and on one for the new fit's nine
+abbrev pub NARROW : Terms
+NARROW = limited 5 1 PRICING
+
+abbrev pub WIDER : Terms
+WIDER = limited 9 2 PRICING
+
 -- a ban of the guns at these positions
 abbrev pub bans : List ℕ → List Entry
 bans positions = map (λ i. onItem i (Banned (pos 50))) positions
@@ -204,5 +211,11 @@ pub record Example : Type 0 where
   pub new-bans : listCall BANNING CATALOGUE NEW ROOM ≡ Listed (NEW-LIST ++ bans (0 ∷ 1 ∷ 5 ∷ []) ++ NEW-LAST)
   pub old-points : listCall PRICING CATALOGUE OLD ROOM ≡ Listed (OLD-LIST ++ (onShip (Points 6 5) ∷ OLD-LAST))
   pub new-points : listCall PRICING CATALOGUE NEW ROOM ≡ Listed (NEW-LIST ++ (onShip (Points 9 5) ∷ NEW-LAST))
-  pub old-skills : skillCall CATALOGUE OLD 2 ROOM ≡ Listed (lacks 3)
-  pub new-skills : skillCall CATALOGUE NEW 2 ROOM ≡ Listed (lacks 1)
+  pub old-skills : skillCall main CATALOGUE OLD 2 ROOM ≡ Listed (lacks 3)
+  pub new-skills : skillCall main CATALOGUE NEW 2 ROOM ≡ Listed (lacks 1)
+  -- so are those on two pages, of which the old one does not take the new fit
+  pub old-narrow : listCall NARROW CATALOGUE OLD ROOM ≡ listCall PRICING CATALOGUE OLD ROOM
+  pub new-narrow : listCall NARROW CATALOGUE NEW ROOM ≡ Refused 13
+  pub new-wider : listCall WIDER CATALOGUE NEW ROOM ≡ listCall PRICING CATALOGUE NEW ROOM
+  pub old-narrow-skills : skillCall NARROW CATALOGUE OLD 2 ROOM ≡ Listed (lacks 3)
+  pub new-wider-skills : skillCall WIDER CATALOGUE NEW 2 ROOM ≡ Listed (lacks 1)

@@ -36,8 +36,8 @@ pub record HallAnswers (catalogue input : List ℕ) (word : ℕ) : Type 0 where
   pub total : word / 4294967296 ≡ 0 → clearIn word + faultedIn word + refusedIn word ≡ fitCount input
   pub few : word / 4294967296 ≡ 0 → fitCount input ≤ 64
 
--- a fit in the hall, beside its own list call with no profile and any buffer: clear where that answers with no entry and there are as many results as items,
--- refused where that refuses with 4 to 6
+-- a fit in the hall, beside its own list call on the main page with no profile and any buffer: clear where that answers with no entry and
+-- there are as many results as items, refused where that refuses with 4 to 6
 pub record Judged (catalogue fit buffer : List ℕ) (o : Outcome) : Type 0 where
   pub clear : T (isClear (catalogueOf catalogue) fit) ↔ ((refusal o ≡ 0) × (count o ≡ 0) × (itemCount fit ≡ resultCount fit))
   pub turned-away : T (fitRefused fit) ↔ ((4 ≤ refusal o) × (refusal o ≤ 6))

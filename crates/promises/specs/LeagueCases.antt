@@ -125,10 +125,10 @@ LEAGUE =
     ∷ []
 
 -- ---- the list call with a profile
-abbrev bad : List ℕ
+abbrev pub bad : List ℕ
 bad = replicate 3 0
 
-abbrev dear : List ℕ
+abbrev pub dear : List ℕ
 dear = profile ((5, 1000001) ∷ [])
 
 abbrev refuses : List ℕ → List ℕ → List ℕ → ℕ → Case

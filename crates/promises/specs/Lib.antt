@@ -17,3 +17,4 @@ pub mod RefusalCases
 pub mod WidenCases
 pub mod LeagueCases
 pub mod UnknownCases
+pub mod PageCases

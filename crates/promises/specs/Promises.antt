@@ -42,8 +42,8 @@ use Rattle.promises.specs.Edges.{EDGES, Agree}
 abbrev pub listOutcome : Terms → (catalogue fit buffer : List ℕ) → Outcome
 listOutcome t catalogue fit buffer = outcome buffer (listCall t catalogue fit buffer)
 
-abbrev pub skillOutcome : (catalogue fit : List ℕ) (result : ℕ) (buffer : List ℕ) → Outcome
-skillOutcome catalogue fit result buffer = outcome buffer (skillCall catalogue fit result buffer)
+abbrev pub skillOutcome : Terms → (catalogue fit : List ℕ) (result : ℕ) (buffer : List ℕ) → Outcome
+skillOutcome t catalogue fit result buffer = outcome buffer (skillCall t catalogue fit result buffer)
 
 -- Demand 1. Of any bytes, a call gives the first refusal of the documents' order whose condition holds, and no other byte than the
 -- entries' own changes; where no condition holds, it gives the list.
@@ -52,22 +52,23 @@ ListAnswers = (t : Terms) (catalogue fit buffer : List ℕ)
     → Answers (listConditions t catalogue fit buffer) (wholeList t (catalogueOf catalogue) (fitOf fit)) buffer (listOutcome t catalogue fit buffer)
 
 abbrev pub SkillAnswers : Type 0
-SkillAnswers = (catalogue fit : List ℕ) (result : ℕ) (buffer : List ℕ)
-    → Answers (skillConditions catalogue fit result buffer) (skillList (catalogueOf catalogue) (fitOf fit) result) buffer
-    (skillOutcome catalogue fit result buffer)
+SkillAnswers = (t : Terms) (catalogue fit : List ℕ) (result : ℕ) (buffer : List ℕ)
+    → Answers (skillConditions t catalogue fit result buffer) (skillList (catalogueOf catalogue) (fitOf fit) result) buffer
+    (skillOutcome t catalogue fit result buffer)
 
 -- No list has more than 5,654 entries, no skill list more than 512: a buffer of 135,696 bytes, or of 12,288, is never too short.
 abbrev pub ListRoom : Type 0
 ListRoom = (t : Terms) (catalogue fit buffer : List ℕ) → 135696 ≤ length buffer → refusal (listOutcome t catalogue fit buffer) ≡ 10 → ⊥
 
 abbrev pub SkillRoom : Type 0
-SkillRoom = (catalogue fit : List ℕ) (result : ℕ) (buffer : List ℕ) → 12288 ≤ length buffer → refusal (skillOutcome catalogue fit result buffer) ≡ 10 → ⊥
+SkillRoom = (t : Terms) (catalogue fit : List ℕ) (result : ℕ) (buffer : List ℕ) → 12288 ≤ length buffer
+    → refusal (skillOutcome t catalogue fit result buffer) ≡ 10 → ⊥
 
 -- Drones over 4,294,967,295 were refused by 7. No call gives this number any more.
 abbrev pub NoSeven : Type 0
 NoSeven = (t : Terms) (catalogue fit input buffer : List ℕ) (result : ℕ)
     → (refusal (listOutcome t catalogue fit buffer) ≡ 7 → ⊥)
-    × (refusal (skillOutcome catalogue fit result buffer) ≡ 7 → ⊥)
+    × (refusal (skillOutcome t catalogue fit result buffer) ≡ 7 → ⊥)
     × (hallReturned (hallCall catalogue input) / 4294967296 ≡ 7 → ⊥)
 
 -- Every list call that was not refused by 7 leaves what it left before, the word and every byte of the buffer: those that were answered, and
@@ -77,10 +78,11 @@ ListAsBefore = (t : Terms) (catalogue fit buffer : List ℕ)
     → (refusal (outcome buffer (listBefore t catalogue fit buffer)) ≡ 7 → ⊥)
     → listOutcome t catalogue fit buffer ≡ outcome buffer (listBefore t catalogue fit buffer)
 
--- P2. Without a profile, whatever the allowance, a list call leaves what it left before there were leagues, the word and every byte: the
--- Rust's list with the missing types behind it, or the number that refused it.
+-- P2. Without a profile, whatever the allowance, a list call that 13 does not refuse leaves what it left before there were leagues, the word
+-- and every byte: the Rust's list with the missing types behind it, or the number that refused it.
 abbrev pub NoProfile : Type 0
 NoProfile = (t : Terms) (catalogue fit buffer : List ℕ) → t .profile ≡ []
+    → (refusal (listOutcome t catalogue fit buffer) ≡ 13 → ⊥)
     → listOutcome t catalogue fit buffer ≡ outcome buffer (rustCall catalogue fit buffer)
 
 -- P5. Take rule 26 out and the list given before remains, a league's entries included; without a profile that is the Rust's.
@@ -94,6 +96,25 @@ UnknownsLeft = (t : Terms) (catalogue fit buffer : List ℕ) → refusal (listOu
     → only (λ e. not (eqb (u8At e 1) 26)) (entriesOf (listOutcome t catalogue fit buffer))
     ≡ map entryBytes (leagueList t (catalogueOf catalogue) (fitOf fit))
 
+-- P8. Whatever the limits of a page, a call that 13 does not refuse leaves what the main page's leaves, the word and every byte of the buffer:
+-- each list that it answers, and every other refusal. Limits above the main page's, 256 and 512, count as those.
+abbrev pub SmallPage : Type 0
+SmallPage = (t t′ : Terms) (catalogue fit buffer : List ℕ)
+    → Alike t t′ → 256 ≤ t′ .pairs → (refusal (listOutcome t catalogue fit buffer) ≡ 13 → ⊥)
+    → listOutcome t catalogue fit buffer ≡ listOutcome t′ catalogue fit buffer
+
+-- The skill call of each result, likewise. It reads no profile.
+abbrev pub SmallPageSkills : Type 0
+SmallPageSkills = (t t′ : Terms) (catalogue fit : List ℕ) (result : ℕ) (buffer : List ℕ)
+    → 256 ≤ t′ .pairs → 512 ≤ t′ .skills → (refusal (skillOutcome t catalogue fit result buffer) ≡ 13 → ⊥)
+    → skillOutcome t catalogue fit result buffer ≡ skillOutcome t′ catalogue fit result buffer
+
+-- 13 is of smaller pages: the main page gives it for nothing.
+abbrev pub MainPage : Type 0
+MainPage = (t : Terms) (catalogue fit : List ℕ) (result : ℕ) (buffer : List ℕ) → 256 ≤ t .pairs
+    → (refusal (listOutcome t catalogue fit buffer) ≡ 13 → ⊥)
+    × (512 ≤ t .skills → refusal (skillOutcome t catalogue fit result buffer) ≡ 13 → ⊥)
+
 -- The drones of a fit that 4 does not refuse, 256 stacks of 4,294,967,295 at most, are a number that an f64 holds: the one that is listed has
 -- the value of their total, with no rounding.
 abbrev pub DronesExact : Type 0
@@ -102,7 +123,7 @@ DronesExact = (c : Catalogue) (fit : List ℕ) → Bytes fit → T (not (badSize
 
 -- Demand 3 for the list. Items and results put behind those of a fit with as many results as items, drones in any number among them, and
 -- lowered levels, make no entry vanish: it has its own place in the new list, in the old order, with a used number no lower and every other
--- byte the same. Rules 24, 25 and 26 are among the entries, as both calls have the same profile and allowance.
+-- byte the same. Rules 24, 25 and 26 are among the entries, as both calls have the same profile and allowance. Their limits may differ.
 abbrev pub ListKept : Type 0
 ListKept = (t t′ : Terms) (catalogue old new oldBuffer newBuffer : List ℕ) → Alike t t′ → Bytes new
     → Grown (fitOf old) (fitOf new)
@@ -112,13 +133,13 @@ ListKept = (t t′ : Terms) (catalogue old new oldBuffer newBuffer : List ℕ) �
     → Kept (listOutcome t catalogue old oldBuffer) (listOutcome t′ catalogue new newBuffer)
 
 -- Demand 3 for the skill lists of every old result, ship and character included: those are the results whose old call is answered.
--- Volumes do not matter here.
+-- Volumes do not matter here, nor do the pages.
 abbrev pub SkillKept : Type 0
-SkillKept = (catalogue old new oldBuffer newBuffer : List ℕ) (result : ℕ)
+SkillKept = (t t′ : Terms) (catalogue old new oldBuffer newBuffer : List ℕ) (result : ℕ)
     → Grown (fitOf old) (fitOf new)
-    → refusal (skillOutcome catalogue old result oldBuffer) ≡ 0
-    → refusal (skillOutcome catalogue new result newBuffer) ≡ 0
-    → Kept (skillOutcome catalogue old result oldBuffer) (skillOutcome catalogue new result newBuffer)
+    → refusal (skillOutcome t catalogue old result oldBuffer) ≡ 0
+    → refusal (skillOutcome t′ catalogue new result newBuffer) ≡ 0
+    → Kept (skillOutcome t catalogue old result oldBuffer) (skillOutcome t′ catalogue new result newBuffer)
 
 -- The premises leave nothing out: a fit with as many results as items has grown by any items and any results behind its own, none and
 -- unequal numbers included, and by any levels that are no higher. `Example` has two images that meet them all.
@@ -131,19 +152,19 @@ AnyGrowth = (old : Fit) (levels : List ℕ) (items : List Item) (results : List 
 -- The walk. An answered skill call is about a result that wants at most 512 skills. Its walk lists the wanted skills and no other, each
 -- once, in the order met, at the highest level demanded; an entry is made of each that is trained below that.
 abbrev pub SkillLists : Type 0
-SkillLists = (catalogue fit : List ℕ) (result : ℕ) (buffer : List ℕ) → refusal (skillOutcome catalogue fit result buffer) ≡ 0
+SkillLists = (t : Terms) (catalogue fit : List ℕ) (result : ℕ) (buffer : List ℕ) → refusal (skillOutcome t catalogue fit result buffer) ≡ 0
     → SkillsOf (catalogueOf catalogue) (fitOf fit) result
 
--- The condition of refusal 9: more than 512 distinct skills are wanted.
+-- The condition of refusals 9 and, for skills, 13: more distinct skills are wanted than a limit, 512 or the page's.
 abbrev pub TooMany : Type 0
-TooMany = (c : Catalogue) (r : Result) → T (tooMany 512 c r) ↔ MoreWanted 512 c r
+TooMany = (limit : ℕ) (c : Catalogue) (r : Result) → T (tooMany limit c r) ↔ MoreWanted limit c r
 
 -- The hall call's word, on any bytes.
 abbrev pub HallCall : Type 0
 HallCall = (catalogue input : List ℕ) → HallAnswers catalogue input (hallReturned (hallCall catalogue input))
 
--- Where the catalogue is not refused, a fit is clear exactly where its list call, with no profile, answers with no entry and it has as many
--- results as items, refused exactly where that refuses with 4 to 6, and faulted where it lists entries or has unequal numbers.
+-- Where the catalogue is not refused, a fit is clear exactly where its list call, on the main page with no profile, answers with no entry and
+-- it has as many results as items, refused exactly where that refuses with 4 to 6, and faulted where it lists entries or has unequal numbers.
 abbrev pub HallFits : Type 0
 HallFits = (catalogue fit buffer : List ℕ) → None (catalogueConditions catalogue) → Judged catalogue fit buffer (listOutcome main catalogue fit buffer)
 
@@ -181,6 +202,9 @@ pub record Promises : Type 0 where
   pub no-profile : NoProfile
   pub unknowns : Unknowns
   pub unknowns-left : UnknownsLeft
+  pub small-page : SmallPage
+  pub small-page-skills : SmallPageSkills
+  pub main-page : MainPage
   pub drones-exact : DronesExact
   pub list-kept : ListKept
   pub skill-kept : SkillKept

@@ -15,6 +15,7 @@ use Rattle.catalogue.specs.Catalogue.{Id, Name, Base, Catalogue}
 use Rattle.fit.specs.Fit.{Result, Fit}
 use Rattle.entry.specs.declared.Rule.the-variants.{WrongSlot, NotAModule, Skill, ShipRestricted, MaxGroup, MaxType, NotAHull, NotASkill, UnknownType}
 use Rattle.entry.specs.Entries.{onShip, onItem}
+use Rattle.lists.specs.Terms.{main}
 use Rattle.promises.specs.Cases.{attribute, typed, ship, gun, unknown, base, tree, has, result, asksFor, asks, Thing, one, fit}
 use Rattle.promises.specs.Cases.{Fitted, Wants, Skilled, BadLength, BadSize, SkillRefusal, ListCall, SkillCall, HallCall, ListBefore}
 use Rattle.promises.specs.Cases.{Number, Holds, Entries, Demands, Returns, Case}
@@ -374,9 +375,9 @@ LARGE =
     ∷ (BadSize (laden 30000), Holds false)
     ∷ (BadSize (laden 30001), Holds true)
     -- 9: a chain of 513, with no buffer; 10: one of 512, whose entries take 12,288 bytes
-    ∷ (SkillRefusal (chain 513) (flown (asks 0 1) []) 0 [], Number 9)
-    ∷ (SkillRefusal (chain 512) (flown (asks 0 1) []) 0 (replicate 12287 7), Number 10)
-    ∷ (SkillRefusal (chain 512) (flown (asks 0 1) []) 0 (replicate 12288 7), Number 0)
+    ∷ (SkillRefusal main (chain 513) (flown (asks 0 1) []) 0 [], Number 9)
+    ∷ (SkillRefusal main (chain 512) (flown (asks 0 1) []) 0 (replicate 12287 7), Number 10)
+    ∷ (SkillRefusal main (chain 512) (flown (asks 0 1) []) 0 (replicate 12288 7), Number 0)
     ∷ []
 
 -- ---- zeros

@@ -13,7 +13,7 @@ use Rattle.profile.specs.Profile.{profileRefusals}
 use Rattle.skill.specs.Skill.{skillList}
 use Rattle.lists.specs.Terms.{Terms}
 use Rattle.lists.specs.Lists.{wholeList}
-use Rattle.fitcheck.specs.Calls.{Answer, answer, bufferRefusals, skillRefusals, listCall, skillCall}
+use Rattle.fitcheck.specs.Calls.{Answer, answer, overPairs, bufferRefusals, skillRefusals, listCall, skillCall}
 use Rattle.fitcheck.specs.Widen.{outputWord, filled, noRoom, widenCall}
 use Rattle.promises.specs.Answers.{Outcome, refusal, count, Conditions, First, None}
 
@@ -50,17 +50,19 @@ written o = take (count o) (o .buffer)
 -- ---- the list call and the skill call under an old catalogue, as they were
 abbrev pub listUnderOld : Terms → (old fit buffer : List ℕ) → Answer
 listUnderOld t old fit buffer =
-    let es = wholeList t (oldCatalogueOf old) (fitOf fit) in
-    answer (oldRefusals old ++ fitRefusals fit ++ profileRefusals (t .profile) ++ bufferRefusals buffer es) es
-
-abbrev pub skillsUnderOld : (old fit : List ℕ) (result : ℕ) (buffer : List ℕ) → Answer
-skillsUnderOld old fit result buffer =
     let c = oldCatalogueOf old in
     let f = fitOf fit in
-    answer (oldRefusals old ++ fitRefusals fit ++ skillRefusals c f result buffer) (skillList c f result)
+    let es = wholeList t c f in
+    answer (oldRefusals old ++ fitRefusals fit ++ ((13, overPairs t c f) ∷ []) ++ profileRefusals (t .profile) ++ bufferRefusals buffer es) es
+
+abbrev pub skillsUnderOld : Terms → (old fit : List ℕ) (result : ℕ) (buffer : List ℕ) → Answer
+skillsUnderOld t old fit result buffer =
+    let c = oldCatalogueOf old in
+    let f = fitOf fit in
+    answer (oldRefusals old ++ fitRefusals fit ++ ((13, overPairs t c f) ∷ []) ++ skillRefusals t c f result buffer) (skillList c f result)
 
 -- a catalogue that is not refused, under which every call answers as under the old one
 pub record Stands (old new : List ℕ) : Type 0 where
   pub accepted : catalogueRefusal new ≡ 0
   pub lists : (t : Terms) (fit buffer : List ℕ) → listCall t new fit buffer ≡ listUnderOld t old fit buffer
-  pub skills : (fit : List ℕ) (result : ℕ) (buffer : List ℕ) → skillCall new fit result buffer ≡ skillsUnderOld old fit result buffer
+  pub skills : (t : Terms) (fit : List ℕ) (result : ℕ) (buffer : List ℕ) → skillCall t new fit result buffer ≡ skillsUnderOld t old fit result buffer

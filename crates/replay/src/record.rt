@@ -1,4 +1,6 @@
 // One record: a call, and the original's answer to it.
+use fitcheck::MAIN_PAIRS;
+use fitcheck::MAIN_SKILLS;
 ghost use mathlib.Core.Path.{_≡_};
 ghost use Prim.Native.Nat.{_+_, _<_, _≤_};
 ghost use lib.ListN.{length};
@@ -58,7 +60,7 @@ fn profile_at(b: &[u8], at: usize) -> usize
     at + 36 + number(b, at) + number(b, at + 4)
 }
 
-// The call of the record at a place.
+// The call of the record at a place, on the main page.
 fn call(b: &[u8], at: usize, out: &mut [u8]) -> u64
     requires { ⌜ at + size (now b) at ≤ length (now b) ⌝ }
 {
@@ -68,7 +70,16 @@ fn call(b: &[u8], at: usize, out: &mut [u8]) -> u64
     let profile = image::part(b, profile_at(b, at), number(b, at + 8));
     let result = image::u32_at(b, at + 16);
     if result == LIST {
-        return fitcheck::fit_list(catalogue, fit, profile, image::u32_at(b, at + 12), out);
+        let allowance = image::u32_at(b, at + 12);
+        return fitcheck::fit_list(
+            catalogue,
+            fit,
+            profile,
+            allowance,
+            MAIN_PAIRS,
+            MAIN_SKILLS,
+            out,
+        );
     }
     if result == HALL {
         return fitcheck::fit_hall(catalogue, fit);
@@ -76,7 +87,7 @@ fn call(b: &[u8], at: usize, out: &mut [u8]) -> u64
     if result == WIDEN {
         return fitcheck::fit_widen(catalogue, out);
     }
-    fitcheck::fit_skill(catalogue, fit, result, out)
+    fitcheck::fit_skill(catalogue, fit, result, MAIN_PAIRS, MAIN_SKILLS, out)
 }
 
 // Whether the call of the record at a place gives its word and leaves its bytes.

@@ -4,5 +4,6 @@ pub mod Zips
 pub mod Requirements
 pub mod Noting
 pub mod Walks
+pub mod Limits
 pub mod Notes
 pub mod Reports

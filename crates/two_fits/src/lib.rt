@@ -1,7 +1,7 @@
 // Demand 3 of the two calls as they are exported: an old and a new call, each with its own buffer, and what their contracts say of both.
 // Document 01, "Two fits compared".
 ghost use mathlib.Core.Path.{_≡_};
-ghost use Rattle.lists.specs.Terms.{terms};
+ghost use Rattle.lists.specs.Terms.{terms, limited, main};
 ghost use Rattle.fitcheck.specs.Calls.{listCall, skillCall};
 ghost use Rattle.promises.specs.Answers.{outcome};
 ghost use Rattle.promises.specs.Compare.{Bytes};
@@ -11,6 +11,12 @@ ghost use Rattle.two_fits.specs.Kept.{left, ListsKept, SkillsKept};
 pub struct Words {
     pub old: u64,
     pub new: u64,
+}
+
+// What the page of one call takes.
+pub struct Page {
+    pub pairs: u32,
+    pub skills: u32,
 }
 
 // What a slice holds are bytes; each is looked at, so that this is proved of it. How many there are.
@@ -25,29 +31,49 @@ fn bytes(b: &[u8]) -> usize
     i
 }
 
-// Two list calls with one profile and one allowance: their words and their buffers are the call's. Where both are answered, no entry of the
-// old list vanishes.
+// Two list calls with one profile and one allowance, each on its own page: their words and their buffers are the call's. Where both are
+// answered, no entry of the old list vanishes.
 pub fn lists(
     catalogue: &[u8],
     profile: &[u8],
     allowance: u32,
     old: &[u8],
     new: &[u8],
+    first: Page,
+    second: Page,
     before: &mut [u8],
     after: &mut [u8],
 ) -> Words
     ensures { λ r.
         let c = now (catalogue .entry) in
-        let t = terms (now (profile .entry)) allowance in
+        let league = terms (now (profile .entry)) allowance in
+        let t = limited (first .pairs) (first .skills) league in
+        let t′ = limited (second .pairs) (second .skills) league in
         let o = left (r .old) (now (before .exit)) in
         let o′ = left (r .new) (now (after .exit)) in
         ⌜ (outcome (now (before .entry)) (listCall t c (now (old .entry)) (now (before .entry))) ≡ o)
-        × (outcome (now (after .entry)) (listCall t c (now (new .entry)) (now (after .entry))) ≡ o′)
+        × (outcome (now (after .entry)) (listCall t′ c (now (new .entry)) (now (after .entry))) ≡ o′)
         × ListsKept c (now (old .entry)) (now (new .entry)) o o′ ⌝ }
 {
     let _ = bytes(new);
-    let a = fitcheck::fit_list(catalogue, old, profile, allowance, before);
-    let b = fitcheck::fit_list(catalogue, new, profile, allowance, after);
+    let a = fitcheck::fit_list(
+        catalogue,
+        old,
+        profile,
+        allowance,
+        first.pairs,
+        first.skills,
+        before,
+    );
+    let b = fitcheck::fit_list(
+        catalogue,
+        new,
+        profile,
+        allowance,
+        second.pairs,
+        second.skills,
+        after,
+    );
     Words { old: a, new: b }
 }
 
@@ -57,18 +83,22 @@ pub fn skills(
     old: &[u8],
     new: &[u8],
     result: u32,
+    first: Page,
+    second: Page,
     before: &mut [u8],
     after: &mut [u8],
 ) -> Words
     ensures { λ r.
         let c = now (catalogue .entry) in
+        let t = limited (first .pairs) (first .skills) main in
+        let t′ = limited (second .pairs) (second .skills) main in
         let o = left (r .old) (now (before .exit)) in
         let o′ = left (r .new) (now (after .exit)) in
-        ⌜ (outcome (now (before .entry)) (skillCall c (now (old .entry)) result (now (before .entry))) ≡ o)
-        × (outcome (now (after .entry)) (skillCall c (now (new .entry)) result (now (after .entry))) ≡ o′)
+        ⌜ (outcome (now (before .entry)) (skillCall t c (now (old .entry)) result (now (before .entry))) ≡ o)
+        × (outcome (now (after .entry)) (skillCall t′ c (now (new .entry)) result (now (after .entry))) ≡ o′)
         × SkillsKept (now (old .entry)) (now (new .entry)) o o′ ⌝ }
 {
-    let a = fitcheck::fit_skill(catalogue, old, result, before);
-    let b = fitcheck::fit_skill(catalogue, new, result, after);
+    let a = fitcheck::fit_skill(catalogue, old, result, first.pairs, first.skills, before);
+    let b = fitcheck::fit_skill(catalogue, new, result, second.pairs, second.skills, after);
     Words { old: a, new: b }
 }

@@ -11,6 +11,7 @@ use bench::subject::{self, Catalogue, Fit, List};
 use bench::svg::{self, Chart, Curve};
 use bench::world::{self, FULL, PARTS, SMALL};
 use compare::checker::Terms;
+use compare::page::Limits;
 use compare::profile::League;
 
 const USAGE: &str = "\
@@ -77,6 +78,7 @@ fn everything(picture: Option<&str>) {
     hangars(small);
     leagues(small, full);
     missing(small, full);
+    pages(small, full);
     skills(small, full);
     hall(small, full);
     widen();
@@ -143,6 +145,7 @@ fn leagues(small: &Catalogue, full: &Catalogue) {
     let terms = Terms {
         profile: &profile,
         allowance: league.allowance,
+        ..Terms::default()
     };
     let fits = of_shape(fits::REALISTIC, FITS);
     for (title, catalogue, has_target) in [
@@ -166,6 +169,21 @@ fn missing(small: &Catalogue, full: &Catalogue) {
     for (title, catalogue) in [("small catalogue", small), ("full-size catalogue", full)] {
         let row = subject::beside(catalogue, &there, &gone);
         report::missing_row(title, row);
+    }
+    println!();
+}
+
+/// Limits that refuse nothing: what they cost is asking for them.
+fn pages(small: &Catalogue, full: &Catalogue) {
+    println!("## (j) A page of 64 pairs and 64 skills, realistic fit, µs\n");
+    report::page_head();
+    let room = Limits::of(64, 64);
+    let fits = of_shape(fits::REALISTIC, FITS);
+    for (title, catalogue) in [("small catalogue", small), ("full-size catalogue", full)] {
+        for (call, result) in [("list", None), ("skills of a module", Some(MODULE))] {
+            let row = subject::pages(catalogue, &fits, result, room);
+            report::page_row(&format!("{call}, {title}"), row);
+        }
     }
     println!();
 }
@@ -335,7 +353,7 @@ fn call(case: &str, times: usize) -> bool {
     for _ in 0..times {
         let catalogue = black_box(&catalogue);
         black_box(match result {
-            Some(result) => library.skill(catalogue, &fit, result, &mut buffer),
+            Some(result) => library.skill(catalogue, &fit, result, Limits::MAIN, &mut buffer),
             None => library.list(catalogue, &fit, Terms::default(), &mut buffer),
         });
     }

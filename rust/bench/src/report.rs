@@ -97,6 +97,24 @@ pub fn missing_row(title: &str, [there, gone]: [f64; 2]) {
     );
 }
 
+/// What a smaller page may cost beside the main one.
+const PAGE: f64 = 1.1;
+
+pub fn page_head() {
+    println!("| | main page | smaller page | ÷ main, target {PAGE} |");
+    println!("|---|---|---|---|");
+}
+
+pub fn page_row(title: &str, [main, smaller]: [f64; 2]) {
+    let ratio = smaller / main;
+    let shown = if ratio <= PAGE { "met" } else { "missed" };
+    println!(
+        "| {title} | {} | {} | {ratio:.2} {shown} |",
+        micros(main),
+        micros(smaller)
+    );
+}
+
 pub fn skill_head() {
     println!(
         "| | entries | skill | short buffer | scan | original \

@@ -5,6 +5,7 @@ use std::hint::black_box;
 
 use compare::checker::{Checker, ENTRY, Terms};
 use compare::names::{COUNT, REQUIRED};
+use compare::page::Limits;
 use compare::reference::Original;
 use compare::{model, rattle, reference};
 use original::{Info, ItemResult, Rule, Run, Target, Violation};
@@ -22,6 +23,7 @@ const ANY_SKILLS: usize = 12_288;
 const NO_LEAGUE: Terms = Terms {
     profile: &[],
     allowance: 0,
+    limits: Limits::MAIN,
 };
 
 /// How often each task is sampled.
@@ -273,6 +275,48 @@ pub fn leagues(catalogue: &Catalogue, fits: &[Fit], terms: Terms) -> [f64; 2] {
     )
 }
 
+/// Times a call over the fits in turn, on the main page and on one that takes as
+/// much as the fits have: what the library leaves is the same.
+pub fn pages(catalogue: &Catalogue, fits: &[Fit], result: Option<u32>, small: Limits) -> [f64; 2] {
+    let library = library();
+    let call = |fit: &Fit, limits: Limits, out: &mut Vec<u8>| {
+        let (image, fit) = (black_box(&catalogue.image), &fit.image);
+        let limits = black_box(limits);
+        black_box(match result {
+            None => library.list(
+                image,
+                fit,
+                Terms {
+                    limits,
+                    ..NO_LEAGUE
+                },
+                out,
+            ),
+            Some(result) => library.skill(image, fit, result, limits, out),
+        })
+    };
+    let mut long = [vec![0; ANY_LIST], vec![0; ANY_LIST]];
+    let [main, smaller] = &mut long;
+    for fit in fits {
+        let word = call(fit, small, smaller);
+        assert_eq!(word >> 32, 0, "the smaller page answers");
+        assert_eq!(word, call(fit, Limits::MAIN, main), "as the main page does");
+        assert_eq!(smaller, main, "byte by byte");
+    }
+    let [mut t0, mut t1] = [fits, fits].map(Turns::new);
+    medians(
+        ROUNDS,
+        [
+            &mut || {
+                call(t0.next().1, Limits::MAIN, main);
+            },
+            &mut || {
+                call(t1.next().1, small, smaller);
+            },
+        ],
+    )
+}
+
 /// The list of both sides, byte by byte the same: the library's with either
 /// buffer, and the original's over each of the tables that are timed.
 pub fn agreed_list(library: &dyn Checker, catalogue: &Catalogue, fit: &Fit) -> Vec<u8> {
@@ -300,7 +344,8 @@ pub fn agreed_skills(
         fit.run(&catalogue.hashed).report(outcome, target),
         fit.run(&catalogue.sorted).report(outcome, target),
     ];
-    let call = |out: &mut [u8]| library.skill(&catalogue.image, &fit.image, result, out);
+    let call =
+        |out: &mut [u8]| library.skill(&catalogue.image, &fit.image, result, Limits::MAIN, out);
     agreed(&originals, ANY_SKILLS, call, |_| true)
 }
 
@@ -377,12 +422,14 @@ pub fn skill(catalogue: &Catalogue, fits: &[Fit], result: u32) -> Skill {
         [
             &mut || {
                 let fit = t0.next().1;
-                black_box(library.skill(black_box(image), &fit.image, result, &mut long));
+                let (image, fit) = (black_box(image), &fit.image);
+                black_box(library.skill(image, fit, result, Limits::MAIN, &mut long));
             },
             &mut || {
                 let (number, fit) = t1.next();
                 let buffer = &mut exact[number];
-                black_box(library.skill(black_box(image), &fit.image, result, buffer));
+                let (image, fit) = (black_box(image), &fit.image);
+                black_box(library.skill(image, fit, result, Limits::MAIN, buffer));
             },
             &mut || {
                 black_box(scan::catalogue(black_box(image)));

@@ -1,6 +1,9 @@
 //! A case: one catalogue, one or more fits, and the calls made on them.
 
+use std::fmt;
+
 use crate::model::{Catalogue, Damage, Fit, Item, Outcome};
+use crate::page::Limits;
 use crate::profile::League;
 
 #[derive(Clone, Debug, Default)]
@@ -14,6 +17,8 @@ pub struct Case {
     pub frame: Damage,
     /// What every list call brings beside its images; the others bring nothing.
     pub league: League,
+    /// What every list and skill call brings, but for those on the grown fit.
+    pub limits: Limits,
     /// What the first fit grows by, for the comparison of two fits.
     pub growth: Growth,
     pub asks: Vec<Ask>,
@@ -25,7 +30,7 @@ pub struct Case {
 /// A refusal planted on purpose, and how.
 #[derive(Clone, Copy, Debug, PartialEq, Eq, PartialOrd, Ord)]
 pub struct Plant {
-    pub refusal: u8,
+    pub cause: Cause,
     pub how: &'static str,
 }
 
@@ -52,6 +57,7 @@ pub enum Ask {
 pub struct Lists {
     pub result: Option<u32>,
     pub room: Room,
+    pub limits: Limits,
 }
 
 /// How long a buffer is lent.
@@ -87,6 +93,8 @@ pub struct Growth {
     pub results: Vec<Outcome>,
     /// How far each trained level falls; skills beyond the end keep theirs.
     pub lowered: Vec<u8>,
+    /// What the calls on the grown fit bring, which may be unlike the others.
+    pub limits: Limits,
 }
 
 impl Growth {
@@ -102,26 +110,83 @@ impl Growth {
     }
 }
 
-/// The refusals that a call may give, in their order. 7 is given by none.
-pub const REFUSALS: [u8; 11] = [1, 2, 3, 4, 5, 6, 11, 12, 8, 9, 10];
+/// The refusals that a call may give, in their order. 7 is given by none; 13
+/// stands where its first cause does.
+pub const REFUSALS: [u8; 12] = [1, 2, 3, 4, 5, 6, 13, 11, 12, 8, 9, 10];
 
-/// Where a refusal stands in that order.
-pub fn rank(refusal: u8) -> usize {
-    let place = REFUSALS.iter().position(|number| *number == refusal);
-    place.expect("a refusal that a call may give")
+/// Why a call is refused. 13 has two causes, each in a place of its own.
+#[derive(Clone, Copy, Debug, PartialEq, Eq, PartialOrd, Ord)]
+pub enum Cause {
+    /// What document 01 or 02 says of a number.
+    Number(u8),
+    /// More pairs than the limit: 13, directly after 6.
+    Pairs,
+    /// More wanted skills than the limit: 13, in the place of 9.
+    Skills,
+}
+
+/// The causes in their order. Over 512 wanted skills are 9, whatever the limit.
+pub const CAUSES: [Cause; 13] = [
+    Cause::Number(1),
+    Cause::Number(2),
+    Cause::Number(3),
+    Cause::Number(4),
+    Cause::Number(5),
+    Cause::Number(6),
+    Cause::Pairs,
+    Cause::Number(11),
+    Cause::Number(12),
+    Cause::Number(8),
+    Cause::Number(9),
+    Cause::Skills,
+    Cause::Number(10),
+];
+
+impl Cause {
+    /// The refusal that is given.
+    pub fn number(self) -> u8 {
+        match self {
+            Cause::Number(number) => number,
+            Cause::Pairs | Cause::Skills => 13,
+        }
+    }
+
+    /// Where it stands in the order.
+    pub fn rank(self) -> usize {
+        let place = CAUSES.iter().position(|cause| *cause == self);
+        place.expect("a refusal that a call may give")
+    }
+}
+
+impl fmt::Display for Cause {
+    fn fmt(&self, out: &mut fmt::Formatter) -> fmt::Result {
+        match self {
+            Cause::Number(number) => write!(out, "{number}"),
+            Cause::Pairs => out.write_str("13 for pairs"),
+            Cause::Skills => out.write_str("13 for skills"),
+        }
+    }
 }
 
 impl Case {
     /// The refusal that every call of this case must give, if one is planted.
     pub fn expected_refusal(&self) -> Option<u8> {
-        let refusals = self.planted.iter().map(|plant| plant.refusal);
-        refusals.min_by_key(|refusal| rank(*refusal))
+        let causes = self.planted.iter().map(|plant| plant.cause);
+        let first = causes.min_by_key(|cause| cause.rank());
+        first.map(Cause::number)
     }
 }
 
 #[cfg(test)]
 mod tests {
     use super::*;
+
+    #[test]
+    fn the_causes_give_the_refusals_in_their_order() {
+        let mut numbers = CAUSES.map(Cause::number).to_vec();
+        assert_eq!(numbers.remove(Cause::Skills.rank()), 13);
+        assert_eq!(numbers, REFUSALS);
+    }
 
     #[test]
     fn room_follows_what_is_written() {

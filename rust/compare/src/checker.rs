@@ -1,6 +1,8 @@
 //! What a checker is: the calls of documents 01 and 02 over raw slices, and the
 //! word that each of them returns.
 
+use crate::page::Limits;
+
 /// The calls. Each returns the refusal number (0 where answered) times
 /// 4,294,967,296 plus the count (0 where refused).
 pub trait Checker: Sync {
@@ -8,7 +10,14 @@ pub trait Checker: Sync {
     fn list(&self, catalogue: &[u8], fit: &[u8], terms: Terms, out: &mut [u8]) -> u64;
 
     /// The skills that one result lacks: 0 ship, 1 character, 2 first item.
-    fn skill(&self, catalogue: &[u8], fit: &[u8], result: u32, out: &mut [u8]) -> u64;
+    fn skill(
+        &self,
+        catalogue: &[u8],
+        fit: &[u8],
+        result: u32,
+        limits: Limits,
+        out: &mut [u8],
+    ) -> u64;
 
     /// The numbers of clear, faulted and refused fits; no buffer is lent.
     fn hall(&self, catalogue: &[u8], input: &[u8]) -> u64;
@@ -24,6 +33,7 @@ pub struct Terms<'a> {
     /// A league's profile; no bytes are none.
     pub profile: &'a [u8],
     pub allowance: u32,
+    pub limits: Limits,
 }
 
 /// Bytes of one entry.

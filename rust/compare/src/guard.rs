@@ -60,6 +60,10 @@ impl Guarded {
         }
     }
 
+    pub fn fill(&self) -> Fill {
+        self.fill
+    }
+
     pub fn bytes(&self) -> &[u8] {
         &self.all[self.start..self.start + self.length]
     }

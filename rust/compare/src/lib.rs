@@ -14,6 +14,7 @@ pub mod large;
 pub mod model;
 pub mod names;
 pub mod numbers;
+pub mod page;
 pub mod plain;
 pub mod profile;
 pub mod rattle;

@@ -31,8 +31,14 @@ mod exported;
 mod linked {
     use super::{Checker, exported};
     use crate::checker::Terms;
+    use crate::page::Limits;
 
     struct Rattle;
+
+    fn of(limits: Limits) -> exported::Limits {
+        let Limits { pairs, skills } = limits;
+        exported::Limits { pairs, skills }
+    }
 
     pub fn library() -> Option<Box<dyn Checker>> {
         Some(Box::new(Rattle))
@@ -40,11 +46,19 @@ mod linked {
 
     impl Checker for Rattle {
         fn list(&self, catalogue: &[u8], fit: &[u8], terms: Terms, out: &mut [u8]) -> u64 {
-            exported::list(catalogue, fit, terms.profile, terms.allowance, out)
+            let (profile, allowance) = (terms.profile, terms.allowance);
+            exported::list(catalogue, fit, profile, allowance, of(terms.limits), out)
         }
 
-        fn skill(&self, catalogue: &[u8], fit: &[u8], result: u32, out: &mut [u8]) -> u64 {
-            exported::skill(catalogue, fit, result, out)
+        fn skill(
+            &self,
+            catalogue: &[u8],
+            fit: &[u8],
+            result: u32,
+            limits: Limits,
+            out: &mut [u8],
+        ) -> u64 {
+            exported::skill(catalogue, fit, result, of(limits), out)
         }
 
         fn hall(&self, catalogue: &[u8], input: &[u8]) -> u64 {

@@ -5,11 +5,12 @@
 use std::collections::BTreeSet;
 use std::fs;
 
-use crate::case::{Ask, Case, Room, rank};
+use crate::case::{Ask, Case, Room};
 use crate::cases;
 use crate::checker::{Checker, ENTRY, Terms};
 use crate::fixed;
 use crate::model::{Fit, hall_image};
+use crate::page::Limits;
 use crate::reference::Original;
 use crate::run::run;
 use crate::tally::{Point, Tally};
@@ -30,7 +31,7 @@ const SMALL: usize = 1_700;
 /// The most bytes of a record with a walk of 512 skills or more.
 const LONG_WALK: usize = 8_600;
 
-/// One call and the original's answer to it.
+/// One call on the main page and the original's answer to it.
 #[derive(Clone, Debug, PartialEq)]
 pub struct Record {
     /// The catalogue; of the old form for a widening.
@@ -51,6 +52,10 @@ impl Record {
     /// The original's answer to one call of a case.
     fn of(case: &Case, ask: Ask) -> Option<Record> {
         let image = |fit: &Fit| fit.image();
+        let is_of_a_page = matches!(ask, Ask::List(_) | Ask::Skill(..));
+        if is_of_a_page && case.limits != Limits::MAIN {
+            return None;
+        }
         let (fit, result, room) = match ask {
             Ask::Hall => (hall_image(&case.fits, &case.frame), HALL, None),
             Ask::List(room) => (image(&case.fits[0]), LIST, Some(room)),
@@ -72,12 +77,13 @@ impl Record {
         let terms = Terms {
             profile: &profile,
             allowance,
+            limits: Limits::MAIN,
         };
         let call = |out: &mut [u8]| match ask {
             Ask::Hall => Original.hall(&catalogue, &fit),
             Ask::List(_) => Original.list(&catalogue, &fit, terms, out),
             Ask::Widen(_) => Original.widen(&catalogue, out),
-            _ => Original.skill(&catalogue, &fit, result, out),
+            _ => Original.skill(&catalogue, &fit, result, Limits::MAIN, out),
         };
         // The bytes that an answered call writes, by its word.
         let written = |word: u64| match ask {
@@ -245,7 +251,7 @@ fn is_exact(ask: &Ask) -> bool {
 /// of the pairs the neighbours alone are recorded.
 fn is_far_apart(case: &Case) -> bool {
     match case.planted[..] {
-        [second, first] => rank(second.refusal) > rank(first.refusal) + 2,
+        [second, first] => second.cause.rank() > first.cause.rank() + 2,
         _ => false,
     }
 }

@@ -5,6 +5,7 @@ use std::time::{Duration, Instant};
 use crate::case::{Ask, Case, Room};
 use crate::checker::Checker;
 use crate::model::{Damage, Fit, Outcome};
+use crate::page::Limits;
 use crate::profile::{League, Profile};
 use crate::run::{Difference, run};
 use crate::tally::Tally;
@@ -85,6 +86,7 @@ impl Small<'_> {
             self.rows(|case| &mut profile(case).prices);
             self.damage(|case| &mut profile(case).damage);
         }
+        self.page();
         self.rows(|case| &mut case.growth.items);
         self.rows(|case| &mut case.growth.results);
         self.rows(|case| &mut case.growth.lowered);
@@ -114,6 +116,41 @@ impl Small<'_> {
                 case.asks[0] = single;
             });
         }
+    }
+
+    /// The main page's limits in the place of others; else fewer pairs and
+    /// fewer skills under a lower limit.
+    fn page(&mut self) {
+        self.change(|case| case.growth.limits = Limits::MAIN);
+        self.change(|case| case.limits.pairs = Limits::MAIN.pairs);
+        self.change(|case| case.limits.skills = Limits::MAIN.skills);
+        while self.pair_less() {}
+        while (1..3).any(|rows| self.skill_less(rows)) {}
+    }
+
+    /// The last pair, and the limit with it.
+    fn pair_less(&mut self) -> bool {
+        let has_pairs = |fit: &Fit| !fit.items.is_empty() && !fit.results.is_empty();
+        if self.case.limits.pairs == 0 || !self.case.fits.first().is_some_and(has_pairs) {
+            return false;
+        }
+        self.change(|case| {
+            case.limits.pairs -= 1;
+            case.fits[0].items.pop();
+            case.fits[0].results.pop();
+        })
+    }
+
+    /// The last demand, of one row or with its level, and the limit with it.
+    fn skill_less(&mut self, rows: usize) -> bool {
+        let left = self.case.catalogue.bases.len().checked_sub(rows);
+        let Some(left) = left.filter(|_| self.case.limits.skills > 0) else {
+            return false;
+        };
+        self.change(|case| {
+            case.limits.skills -= 1;
+            case.catalogue.bases.truncate(left);
+        })
     }
 
     fn fit(&mut self, number: usize) {
@@ -216,6 +253,7 @@ fn same(a: &Case, b: &Case) -> bool {
         && a.fits == b.fits
         && a.frame == b.frame
         && a.league == b.league
+        && a.limits == b.limits
         && a.growth == b.growth
         && a.asks == b.asks
         && a.planted == b.planted
@@ -225,7 +263,10 @@ fn same(a: &Case, b: &Case) -> bool {
 mod tests {
     use super::*;
     use crate::generate;
+    use crate::model::Item;
+    use crate::names::REQUIRED;
     use crate::plain::{Fault, Flaw, Plain};
+    use crate::sketch::Sketch;
 
     #[test]
     fn a_difference_shrinks_to_what_shows_it() {
@@ -246,5 +287,42 @@ mod tests {
         assert_eq!(small.catalogue.types.len(), 1, "the hull alone");
         assert_eq!(small.catalogue.names.len(), 0);
         assert!(run(&small, &Plain::default(), &mut Tally::default()).is_ok());
+    }
+
+    /// A case that differs, made small.
+    fn shrunk(case: Case, fault: Fault) -> Case {
+        let checker = Plain::with(Flaw::Fault(fault));
+        let difference = run(&case, &checker, &mut Tally::default()).expect_err("it differs");
+        shrink(&case, &difference, &checker).0
+    }
+
+    #[test]
+    fn limits_fall_with_what_they_limit() {
+        let mut sketch = Sketch::hull();
+        sketch.fit.items = vec![Item::default(); 4];
+        sketch.fit.results = vec![Outcome::default(); 6];
+        let case = Case {
+            limits: Limits::of(4, 3),
+            ..sketch.list("six results of four pairs")
+        };
+        let small = shrunk(case, Fault::PairsByLarger);
+        let fit = &small.fits[0];
+        assert_eq!((fit.items.len(), fit.results.len()), (0, 1));
+        assert_eq!(small.limits, Limits::of(0, 512));
+
+        let mut sketch = Sketch::hull().ship(REQUIRED, 1.0).name(REQUIRED + 1);
+        for id in 1..5 {
+            sketch = sketch
+                .base(id, REQUIRED, id as f32 + 1.0)
+                .base(id, REQUIRED + 1, 1.0);
+        }
+        let case = Case {
+            limits: Limits::of(7, 4),
+            ..sketch.skills("five skills of four", 0)
+        };
+        let small = shrunk(case, Fault::SkillsOneOver);
+        assert_eq!(small.limits, Limits::of(256, 0));
+        assert_eq!(small.catalogue.bases.len(), 0);
+        assert_eq!(small.fits[0].attribute_total(), 1);
     }
 }

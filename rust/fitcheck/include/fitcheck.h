@@ -25,6 +25,11 @@ extern "C" {
 #define FITCHECK_MOST_SKILLS 512
 #define FITCHECK_FITS_PER_CALL 64
 
+/* What the main page takes: so many pairs (items that have a result) of a fit,
+ * and so many wanted skills of a result. */
+#define FITCHECK_MAIN_PAIRS 256
+#define FITCHECK_MAIN_SKILLS 512
+
 /* The rules that document 01 does not have, in an entry's second byte: of a
  * group that the league bans, more points than it allows, of a type that the
  * catalogue lacks. docs/FORMAT.md has all of them. */
@@ -42,19 +47,24 @@ extern "C" {
 
 /* Every rule that the fit breaks: the entries stand from the beginning of
  * `out`. A refused call writes nothing. A league's profile of no bytes is none,
- * and then the allowance is not read. A hull's list ends with
+ * and then the allowance is not read. `pairs` and `skills` are what the page
+ * takes: a fit with more pairs is refused by 13; no list asks for skills. A
+ * number above the main page's counts as that. A hull's list ends with
  * FITCHECK_UNKNOWN_TYPE for each item whose type the catalogue lacks. */
 uint64_t fit_list(const uint8_t *catalogue, size_t catalogue_length,
                   const uint8_t *fit, size_t fit_length,
                   const uint8_t *profile, size_t profile_length,
                   uint32_t allowance,
+                  uint32_t pairs, uint32_t skills,
                   uint8_t *out, size_t out_length);
 
 /* The skills that one result wants and the character lacks: result 0 is the
- * ship's, 1 the character's, 2 the first item's. */
+ * ship's, 1 the character's, 2 the first item's. A fit with more than `pairs`
+ * pairs, and a result that wants more than `skills` skills, is refused by 13. */
 uint64_t fit_skill(const uint8_t *catalogue, size_t catalogue_length,
                    const uint8_t *fit, size_t fit_length,
                    uint32_t result,
+                   uint32_t pairs, uint32_t skills,
                    uint8_t *out, size_t out_length);
 
 /* How many fits are clear to fly, faulted and refused. The input: u32 number
@@ -73,7 +83,7 @@ uint64_t fit_widen(const uint8_t *old, size_t old_length,
 
 /* The number of this set of calls, images and rules, which its name has too: a
  * library of another set does not link with a program that asks for this. */
-uint64_t fit_interface_4(void);
+uint64_t fit_interface_5(void);
 
 #ifdef __cplusplus
 }

@@ -4,8 +4,8 @@ use std::fmt;
 use std::ops::AddAssign;
 
 use crate::{
-    CATALOGUE_BYTES, ENTRY_BYTES, Entry, FIT_BYTES, FITS_PER_CALL, FitImage, ListOptions,
-    MOST_ENTRIES, MOST_SKILLS, Refusal, SkillOptions, Unpaired, exported,
+    CATALOGUE_BYTES, ENTRY_BYTES, Entry, FIT_BYTES, FITS_PER_CALL, FitImage, Limits, ListOptions,
+    MOST_ENTRIES, MOST_SKILLS, Passed, Refusal, SkillOptions, Unpaired, exported, limits,
 };
 
 /// How many entries the first try has room for; few fits break more rules.
@@ -30,8 +30,9 @@ const LAST_ROOM: usize = 1 << 20;
 ///
 /// # Errors
 ///
-/// The refusal that the documents' order picks, of 1 to 6, 11 and 12. The
-/// buffer grows by itself, so it is never [`Refusal::BufferLength`].
+/// The refusal that the documents' order picks, of 1 to 6, 13 for pairs
+/// ([`Refusal::PageLimit`]), 11 and 12. The buffer grows by itself, so it is
+/// never [`Refusal::BufferLength`].
 ///
 /// ```
 /// use fitcheck::{Entry, ListOptions, Refusal, Rule, Target};
@@ -83,7 +84,7 @@ pub fn list_into<'a>(
     buffer: &'a mut [u8],
 ) -> Result<&'a [[u8; ENTRY_BYTES]], Refusal> {
     let word = list_word(catalogue, fit, options, buffer);
-    written(word, buffer)
+    written(word, buffer).map_err(|refusal| told(refusal, fit, options.limits))
 }
 
 /// The skills that one result wants and the character lacks, in the order in
@@ -95,8 +96,9 @@ pub fn list_into<'a>(
 ///
 /// # Errors
 ///
-/// The refusal that document 01's order picks, of 1 to 6, 8
-/// ([`Refusal::NoSuchResult`]) and 9 ([`Refusal::WantedSkills`]).
+/// The refusal that the documents' order picks, of 1 to 6, 13 for pairs, 8
+/// ([`Refusal::NoSuchResult`]), 9 ([`Refusal::WantedSkills`]) and 13 for skills
+/// ([`Refusal::PageLimit`]).
 ///
 /// ```
 /// use fitcheck::{
@@ -128,10 +130,12 @@ pub fn skills(
     result: u32,
     options: &SkillOptions,
 ) -> Result<Vec<Entry>, Refusal> {
-    grown(FIRST_ROOM, MOST_SKILLS, |room| {
-        skill_word(catalogue, fit, result, options, room)
-    })
-    .map(|bytes| decoded(&bytes))
+    let limits = options.limits;
+    let bytes = grown(FIRST_ROOM, MOST_SKILLS, |room| {
+        skill_word(catalogue, fit, result, limits, room)
+    });
+    let told = |refusal| told_of_skills(refusal, catalogue, fit, result, limits);
+    bytes.map(|bytes| decoded(&bytes)).map_err(told)
 }
 
 /// As [`skills`], into the caller's buffer; see [`list_into`].
@@ -155,26 +159,66 @@ pub fn skills_into<'a>(
     options: &SkillOptions,
     buffer: &'a mut [u8],
 ) -> Result<&'a [[u8; ENTRY_BYTES]], Refusal> {
-    let word = skill_word(catalogue, fit, result, options, buffer);
-    written(word, buffer)
+    let limits = options.limits;
+    let word = skill_word(catalogue, fit, result, limits, buffer);
+    let told = |refusal| told_of_skills(refusal, catalogue, fit, result, limits);
+    written(word, buffer).map_err(told)
 }
 
 /// The list call with what the options say.
 fn list_word(catalogue: &[u8], fit: &[u8], options: &ListOptions<'_>, room: &mut [u8]) -> u64 {
-    let ListOptions { profile, allowance } = *options;
-    exported::list(catalogue, fit, profile, allowance, room)
+    let ListOptions {
+        profile,
+        allowance,
+        limits,
+    } = *options;
+    exported::list(catalogue, fit, profile, allowance, limits.exported(), room)
 }
 
-/// The skill call with what the options say: today they have no choice.
-fn skill_word(catalogue: &[u8], fit: &[u8], result: u32, _: &SkillOptions, room: &mut [u8]) -> u64 {
-    exported::skill(catalogue, fit, result, room)
+/// The skill call under limits.
+fn skill_word(catalogue: &[u8], fit: &[u8], result: u32, limits: Limits, room: &mut [u8]) -> u64 {
+    exported::skill(catalogue, fit, result, limits.exported(), room)
+}
+
+/// A refusal by 13 with how many pairs the fit has; any other as it is.
+fn told(refusal: Refusal, fit: &[u8], limits: Limits) -> Refusal {
+    if refusal != Refusal::PageLimit(None) {
+        return refusal;
+    }
+    let limit = limits.most_pairs();
+    let pairs = FitImage::new(fit).map_or(0, |fit| fit.items().min(fit.results()) as u32);
+    let passed = Passed::Pairs { pairs, limit };
+    Refusal::PageLimit((pairs > limit).then_some(passed))
+}
+
+/// The same of a skill call: where the pairs are not too many, the skills are.
+fn told_of_skills(
+    refusal: Refusal,
+    catalogue: &[u8],
+    fit: &[u8],
+    result: u32,
+    limits: Limits,
+) -> Refusal {
+    match told(refusal, fit, limits) {
+        Refusal::PageLimit(None) => {
+            let limit = limits.most_skills();
+            let is_refused = |most: u32| {
+                let word = skill_word(catalogue, fit, result, limits.skills(most), &mut []);
+                word >> 32 == 13
+            };
+            let wanted = limits::wanted(limit, is_refused);
+            Refusal::PageLimit(Some(Passed::Skills { wanted, limit }))
+        }
+        refusal => refusal,
+    }
 }
 
 /// The bytes of a list's entries.
 fn listed(catalogue: &[u8], fit: &[u8], options: &ListOptions<'_>) -> Result<Vec<u8>, Refusal> {
-    grown(FIRST_ROOM, MOST_ENTRIES, |room| {
+    let bytes = grown(FIRST_ROOM, MOST_ENTRIES, |room| {
         list_word(catalogue, fit, options, room)
-    })
+    });
+    bytes.map_err(|refusal| told(refusal, fit, options.limits))
 }
 
 /// How many fits are clear to fly, faulted and refused; see [`hall`].

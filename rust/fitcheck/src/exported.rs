@@ -11,7 +11,7 @@ unsafe extern "C" {
     // too.
     // It is raised here, in include/fitcheck.h for C, and in the Rattle source,
     // crates/fitcheck/src/lib.rt, at the same time.
-    #[link_name = "fit_interface_4"]
+    #[link_name = "fit_interface_5"]
     fn fit_interface() -> u64;
 
     fn fit_list(
@@ -22,6 +22,8 @@ unsafe extern "C" {
         profile: *const u8,
         profile_length: usize,
         allowance: u32,
+        pairs: u32,
+        skills: u32,
         out: *mut u8,
         out_length: usize,
     ) -> u64;
@@ -32,6 +34,8 @@ unsafe extern "C" {
         fit: *const u8,
         fit_length: usize,
         result: u32,
+        pairs: u32,
+        skills: u32,
         out: *mut u8,
         out_length: usize,
     ) -> u64;
@@ -59,8 +63,23 @@ fn linked() {
     std::hint::black_box(fit_interface as *const ());
 }
 
+/// The limits of a page, which every list and skill call brings. Any two numbers
+/// are some: the library makes the main page's of higher ones.
+#[derive(Clone, Copy)]
+pub struct Limits {
+    pub pairs: u32,
+    pub skills: u32,
+}
+
 /// The list call; returns its word.
-pub fn list(catalogue: &[u8], fit: &[u8], profile: &[u8], allowance: u32, out: &mut [u8]) -> u64 {
+pub fn list(
+    catalogue: &[u8],
+    fit: &[u8],
+    profile: &[u8],
+    allowance: u32,
+    limits: Limits,
+    out: &mut [u8],
+) -> u64 {
     linked();
     // SAFETY: each pointer comes from a slice and passes with that slice's
     // length, so all bytes that the library may read are initialised and live
@@ -78,6 +97,8 @@ pub fn list(catalogue: &[u8], fit: &[u8], profile: &[u8], allowance: u32, out: &
             profile.as_ptr(),
             profile.len(),
             allowance,
+            limits.pairs,
+            limits.skills,
             out.as_mut_ptr(),
             out.len(),
         )
@@ -85,7 +106,7 @@ pub fn list(catalogue: &[u8], fit: &[u8], profile: &[u8], allowance: u32, out: &
 }
 
 /// The skill call; returns its word.
-pub fn skill(catalogue: &[u8], fit: &[u8], result: u32, out: &mut [u8]) -> u64 {
+pub fn skill(catalogue: &[u8], fit: &[u8], result: u32, limits: Limits, out: &mut [u8]) -> u64 {
     linked();
     // SAFETY: as in `list`; `result` may be any number.
     unsafe {
@@ -95,6 +116,8 @@ pub fn skill(catalogue: &[u8], fit: &[u8], result: u32, out: &mut [u8]) -> u64 {
             fit.as_ptr(),
             fit.len(),
             result,
+            limits.pairs,
+            limits.skills,
             out.as_mut_ptr(),
             out.len(),
         )

@@ -15,7 +15,7 @@
 
 use std::fmt::{self, Display, Formatter, Write};
 
-use crate::{Entry, Refusal, Rule, Target, Unchecked, Unpaired, Verdict};
+use crate::{Entry, Passed, Refusal, Rule, Target, Unchecked, Unpaired, Verdict};
 
 /// The version of the shapes. It rises where a field goes away or means
 /// something else; fields, rules and refusals may be added without.
@@ -183,12 +183,25 @@ pub fn unpaired(unpaired: Unpaired) -> Json {
     ])
 }
 
-/// A refusal by number and sentence.
+/// A refusal by number and sentence; of a page's limit with what passes it, how
+/// many there are and how many the page takes.
 pub fn refusal(refusal: Refusal) -> Json {
-    Json::Object(vec![
+    let mut fields = vec![
         ("number", Json::Integer(refusal.number().into())),
         ("reason", Json::text(refusal.to_string())),
-    ])
+    ];
+    if let Refusal::PageLimit(Some(passed)) = refusal {
+        let (what, count, limit) = match passed {
+            Passed::Pairs { pairs, limit } => ("pairs", pairs, limit),
+            Passed::Skills { wanted, limit } => ("skills", wanted, limit),
+        };
+        fields.extend([
+            ("passed", Json::text(what)),
+            ("count", Json::Integer(count.into())),
+            ("limit", Json::Integer(limit.into())),
+        ]);
+    }
+    Json::Object(fields)
 }
 
 /// An entry: target and rule as the original writes them, and the sentence.

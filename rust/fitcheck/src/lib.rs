@@ -15,6 +15,7 @@
 //! - [`CatalogueBuilder`] and [`FitBuilder`], whose images are always well
 //!   formed: none is refused by 1 to 6;
 //! - [`Profile`], what a tournament bans and prices, for a list call;
+//! - [`Limits`], for a page that takes fewer items and skills than the main one;
 //! - [`widen`], which makes a catalogue of today's form of an old one.
 //!
 //! ```
@@ -78,6 +79,8 @@ mod image;
 #[forbid(unsafe_code)]
 pub mod json;
 #[forbid(unsafe_code)]
+mod limits;
+#[forbid(unsafe_code)]
 mod mark;
 #[forbid(unsafe_code)]
 mod missing;
@@ -112,6 +115,7 @@ pub use error::{BuildError, FitPart};
 pub use explain::{Explainer, explain};
 pub use fit::{FitBuilder, FitItem, ItemResult};
 pub use image::{CatalogueImage, FitImage};
+pub use limits::{Limits, Passed};
 pub use mark::Mark;
 pub use missing::{Missing, Unchecked};
 pub use names::{Names, NamesError};

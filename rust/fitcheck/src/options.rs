@@ -1,7 +1,9 @@
 //! What a call may be told besides its images.
 
+use crate::Limits;
+
 /// What the list call may be told besides catalogue and fit: a league's profile
-/// with its allowance. Choices that come later are fields of their own, and a
+/// with its allowance, and the limits of a page. Choices that come later are fields of their own, and a
 /// call that names none of them goes on as it does now.
 ///
 /// ```
@@ -15,15 +17,49 @@
 pub struct ListOptions<'a> {
     pub(crate) profile: &'a [u8],
     pub(crate) allowance: u32,
+    pub(crate) limits: Limits,
 }
 
 impl<'a> ListOptions<'a> {
-    /// The whole list, of no league.
+    /// The whole list, of no league, on the main page.
     pub const fn new() -> ListOptions<'a> {
         ListOptions {
             profile: &[],
             allowance: 0,
+            limits: Limits::main(),
         }
+    }
+
+    /// For a page that takes fewer pairs: a fit that has more is
+    /// [`Refusal::PageLimit`], and every other is answered or refused as on the
+    /// main page. The limit of skills is the skill call's.
+    ///
+    /// [`Refusal::PageLimit`]: crate::Refusal::PageLimit
+    ///
+    /// ```
+    /// use fitcheck::{
+    ///     CatalogueBuilder, FitBuilder, FitItem, ItemResult, Limits, ListOptions, Slot, State,
+    /// };
+    ///
+    /// let catalogue = CatalogueBuilder::new().type_info(587, 25, 6, None).build()?;
+    /// let fit = FitBuilder::new(587)
+    ///     .item(FitItem::new(34, Slot::Cargo), ItemResult::new(State::Offline))
+    ///     .item(FitItem::new(35, Slot::Cargo), ItemResult::new(State::Offline))
+    ///     .build()?;
+    /// let under = |pairs| ListOptions::new().limits(Limits::main().pairs(pairs));
+    ///
+    /// let main = fitcheck::list(&catalogue, &fit, &ListOptions::new())?;
+    /// assert_eq!(fitcheck::list(&catalogue, &fit, &under(2))?, main);
+    /// let refusal = fitcheck::list(&catalogue, &fit, &under(1)).unwrap_err();
+    /// assert_eq!(refusal.number(), 13);
+    /// assert_eq!(
+    ///     refusal.to_string(),
+    ///     "the fit has 2 items with a result, and this page takes 1",
+    /// );
+    /// # Ok::<(), Box<dyn std::error::Error>>(())
+    /// ```
+    pub const fn limits(self, limits: Limits) -> ListOptions<'a> {
+        ListOptions { limits, ..self }
     }
 
     /// Behind the list of a hull stand [`Rule::Banned`] and [`Rule::Points`]:
@@ -58,19 +94,59 @@ impl<'a> ListOptions<'a> {
     /// # Ok::<(), Box<dyn std::error::Error>>(())
     /// ```
     pub const fn league(self, profile: &'a [u8], allowance: u32) -> ListOptions<'a> {
-        ListOptions { profile, allowance }
+        ListOptions {
+            profile,
+            allowance,
+            ..self
+        }
     }
 }
 
 /// What the skill call may be told besides catalogue, fit and result; see
 /// [`ListOptions`].
-#[non_exhaustive]
 #[derive(Debug, Clone, Copy, Default)]
-pub struct SkillOptions {}
+pub struct SkillOptions {
+    pub(crate) limits: Limits,
+}
 
 impl SkillOptions {
-    /// The whole list of a result's skills.
+    /// The whole list of a result's skills, on the main page.
     pub const fn new() -> SkillOptions {
-        SkillOptions {}
+        SkillOptions {
+            limits: Limits::main(),
+        }
+    }
+
+    /// For a page that takes fewer pairs or skills: a fit with more pairs, or a
+    /// result that wants more skills, is [`Refusal::PageLimit`], and every other
+    /// is answered or refused as on the main page.
+    ///
+    /// [`Refusal::PageLimit`]: crate::Refusal::PageLimit
+    ///
+    /// ```
+    /// use fitcheck::{
+    ///     Attribute, CatalogueBuilder, FitBuilder, ItemResult, Limits, Passed, Refusal,
+    ///     SkillOptions, State,
+    /// };
+    ///
+    /// // The ship asks for skill 3329, and that for skill 3327.
+    /// let catalogue = CatalogueBuilder::new()
+    ///     .name(Attribute::RequiredSkill1, 182)
+    ///     .name(Attribute::RequiredSkill1Level, 277)
+    ///     .base(3329, 182, 3327.0)
+    ///     .build()?;
+    /// let fit = FitBuilder::new(587)
+    ///     .ship(ItemResult::new(State::Online).with(182, 3329.0).with(277, 2.0))
+    ///     .build()?;
+    /// let under = |skills| SkillOptions::new().limits(Limits::main().skills(skills));
+    ///
+    /// assert_eq!(fitcheck::skills(&catalogue, &fit, 0, &under(2))?.len(), 1);
+    /// let refused = fitcheck::skills(&catalogue, &fit, 0, &under(1));
+    /// let passed = Passed::Skills { wanted: 2, limit: 1 };
+    /// assert_eq!(refused, Err(Refusal::PageLimit(Some(passed))));
+    /// # Ok::<(), Box<dyn std::error::Error>>(())
+    /// ```
+    pub const fn limits(self, limits: Limits) -> SkillOptions {
+        SkillOptions { limits }
     }
 }

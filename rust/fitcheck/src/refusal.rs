@@ -3,6 +3,8 @@
 use std::error::Error;
 use std::fmt;
 
+use crate::Passed;
+
 /// Why a call gives no list: document 01's refusals, by their number.
 ///
 /// As text it is one sentence. There is no 7: it stood for over 4,294,967,295
@@ -45,6 +47,10 @@ pub enum Refusal {
     /// 12: the league profile's groups do not ascend, or its points are over
     /// 1,000,000 and no ban.
     ProfilePrices,
+    /// 13: the fit has more pairs, or the result wants more skills, than the page
+    /// takes. Which, and how many, is said by the calls that are made under
+    /// limits; of the number alone it cannot be told.
+    PageLimit(Option<Passed>),
     /// The library returned a word that document 01 does not have. It never
     /// does; this stands here so that nothing can panic or be misread.
     Unexpected {
@@ -67,9 +73,10 @@ impl Refusal {
         Refusal::BufferLength,
         Refusal::ProfileLength,
         Refusal::ProfilePrices,
+        Refusal::PageLimit(None),
     ];
 
-    /// The documents' number, from 1 to 12 and never 7. Of an unexpected word
+    /// The documents' number, from 1 to 13 and never 7. Of an unexpected word
     /// it is the upper half.
     pub fn number(self) -> u32 {
         match self {
@@ -84,6 +91,7 @@ impl Refusal {
             Refusal::BufferLength => 10,
             Refusal::ProfileLength => 11,
             Refusal::ProfilePrices => 12,
+            Refusal::PageLimit(_) => 13,
             Refusal::Unexpected { word } => (word >> 32) as u32,
         }
     }
@@ -159,6 +167,11 @@ impl fmt::Display for Refusal {
                 "the league profile's groups do not ascend, or it has points over 1,000,000 that \
                  are no ban"
             }
+            Refusal::PageLimit(Some(passed)) => return passed.fmt(formatter),
+            Refusal::PageLimit(None) => {
+                "the fit has more items with a result, or the result wants more skills, than this \
+                 page takes"
+            }
             Refusal::Unexpected { word } => {
                 return write!(
                     formatter,
@@ -182,7 +195,7 @@ mod tests {
         assert_eq!(Refusal::or_count(0), Ok(0));
         assert_eq!(Refusal::or_count(5_654), Ok(5_654));
         assert_eq!(Refusal::or_count(4_294_967_295), Ok(u32::MAX));
-        for number in [1, 2, 3, 4, 5, 6, 8, 9, 10, 11, 12] {
+        for number in [1, 2, 3, 4, 5, 6, 8, 9, 10, 11, 12, 13] {
             let word = number * 4_294_967_296;
             let refusal = Refusal::or_count(word).unwrap_err();
             assert_eq!(u64::from(refusal.number()), number);
@@ -194,7 +207,7 @@ mod tests {
                 "a refusal with a count"
             );
         }
-        for word in [7 * 4_294_967_296, 13 * 4_294_967_296, u64::MAX, 1 << 63] {
+        for word in [7 * 4_294_967_296, 14 * 4_294_967_296, u64::MAX, 1 << 63] {
             assert_eq!(Refusal::or_count(word), Err(Refusal::Unexpected { word }));
         }
     }
@@ -204,7 +217,7 @@ mod tests {
         let mut sentences: Vec<String> = Refusal::ALL.iter().map(Refusal::to_string).collect();
         sentences.sort();
         sentences.dedup();
-        assert_eq!(sentences.len(), 11);
+        assert_eq!(sentences.len(), 12);
         let word = 77 << 32;
         let sentence = Refusal::Unexpected { word }.to_string();
         assert!(sentence.contains("0x0000004D00000000"), "{sentence}");
@@ -214,7 +227,10 @@ mod tests {
     fn refusals_1_to_3_are_the_catalogues() {
         for refusal in Refusal::ALL {
             assert_eq!(refusal.is_of_catalogue(), refusal.number() <= 3);
-            assert_eq!(refusal.is_of_profile(), refusal.number() >= 11);
+            assert_eq!(
+                refusal.is_of_profile(),
+                [11, 12].contains(&refusal.number())
+            );
         }
     }
 }

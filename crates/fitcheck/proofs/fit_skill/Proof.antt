@@ -1,11 +1,12 @@
--- `fitcheck::fit_skill` meets its contract: refusals 1 to 6 of the images, then the walk's list.
+-- `fitcheck::fit_skill` meets its contract: refusals 1 to 6 of the images and 13 of their pairs, then the walk's list.
 use native.Mathlib.Omega.{arith}
 use Prim.Native.Nat.{ℕ, _*_, _<_}
 use mathlib.Core.Path.{_≡_, sym, ap, _∙_}
 use Rattle.words.specs.Words.{firstOf}
 use Rattle.numbers.specs.Sizes as Sizes
-use Rattle.fitcheck.specs.Calls.{imageRefusals}
-use Rattle.fitcheck.proofs.First.{first-small, numbered-images, images-sound}
+use Rattle.lists.specs.Terms.{limited, main}
+use Rattle.fitcheck.specs.Calls.{pageRefusals}
+use Rattle.fitcheck.proofs.First.{page-sound}
 use Rattle.fitcheck.proofs.Giving.{gave-same, gave-refused}
 use Rattle.fitcheck.proofs.Skills.{skill-refused, skill-past}
 use borrow.Author.Needs.{needs}
@@ -13,35 +14,34 @@ use Rattle.fitcheck.proofs.fit_skill.Statement.{statement}
 use Rattle.fitcheck.proofs.fit_skill.Tie as tie
 
 refused-requires : tie.Need-refused-requires
-refused-requires c κs =
-    let k = c .before in
-    let a = k .before .before .before .before .args in
-    let small = first-small 6 (imageRefusals (a .catalogue .now) (a .fit .now)) (numbered-images (a .catalogue .now) (a .fit .now)) in
-    omega (arith, k .image-refusal .ensures, small)
+refused-requires c κs = c .before .page-refusal .ensures .1
 
 returns : tie.Need-returns
 returns c =
     let i = c .before in
     let k = i .before in
     let a = k .before .before .before .before .args in
-    let e = k .image-refusal .ensures in
+    let t = limited (a .pairs) (a .skills) main in
+    let e = k .page-refusal .ensures .0 in
     let w = c .refused .ensures ∙ ap (λ (n : ℕ). n * Sizes.word) e in
-    let some : 0 < firstOf (imageRefusals (a .catalogue .now) (a .fit .now)) = omega (arith, e, i .if1 .taken) in
-    let g = gave-same (sym (skill-refused (a .catalogue .now) (a .fit .now) (a .result) (a .out .now) some)) (gave-refused (a .out .now) _ w) in
+    let some : 0 < firstOf (pageRefusals t (a .catalogue .now) (a .fit .now)) = omega (arith, e, i .if1 .taken) in
+    let g = gave-same (sym (skill-refused t (a .catalogue .now) (a .fit .now) (a .result) (a .out .now) some)) (gave-refused (a .out .now) _ w) in
     (g .word, g .buffer)
 
 skill-accepted-requires : tie.Need-skill-accepted-requires
 skill-accepted-requires c κs =
     let i = c .before in
     let a = i .before .before .before .before .before .args in
-    images-sound (a .catalogue .now) (a .fit .now) (omega (arith, i .before .image-refusal .ensures, i .if1 .left))
+    let t = limited (a .pairs) (a .skills) main in
+    page-sound t (a .catalogue .now) (a .fit .now) (omega (arith, i .before .page-refusal .ensures .0, i .if1 .left))
 
 returns-2 : tie.Need-returns-2
 returns-2 c =
     let i = c .before .before .before .before in
     let a = i .before .before .before .before .before .args in
-    let past : firstOf (imageRefusals (a .catalogue .now) (a .fit .now)) ≡ 0 = omega (arith, i .before .image-refusal .ensures, i .if1 .left) in
-    let g = gave-same (sym (skill-past (a .catalogue .now) (a .fit .now) (a .result) (a .out .now) past)) (c .before .before .skill-accepted .ensures) in
+    let t = limited (a .pairs) (a .skills) main in
+    let past : firstOf (pageRefusals t (a .catalogue .now) (a .fit .now)) ≡ 0 = omega (arith, i .before .page-refusal .ensures .0, i .if1 .left) in
+    let g = gave-same (sym (skill-past t (a .catalogue .now) (a .fit .now) (a .result) (a .out .now) past)) (c .before .before .skill-accepted .ensures) in
     (g .word, g .buffer)
 
 pub fit-skill-spec : {M : Type 1} → statement M

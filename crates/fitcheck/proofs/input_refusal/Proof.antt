@@ -1,23 +1,28 @@
--- `fitcheck::input_refusal` meets its contract: the images' refusals come first.
+-- `fitcheck::input_refusal` meets its contract: the refusals of the images on their page come first.
 use native.Mathlib.Omega.{arith}
 use mathlib.Core.Path.{_∙_}
-use Rattle.lists.specs.Terms.{terms}
-use Rattle.fitcheck.proofs.First.{images-first, profile-first}
+use Rattle.lists.specs.Terms.{terms, limited}
+use Rattle.fitcheck.specs.Calls.{inputRefusals}
+use Rattle.fitcheck.proofs.First.{first-small, page-first, numbered-inputs, profile-first}
 use borrow.Author.Needs.{needs}
 use Rattle.fitcheck.proofs.input_refusal.Statement.{statement}
 use Rattle.fitcheck.proofs.input_refusal.Tie as tie
 
 returns : tie.Need-returns
 returns c =
-    let k = c .before .image-refusal .ensures in
+    let k = c .before .page-refusal .ensures in
     let a = c .before .before .before .before .before .args in
-    k ∙ images-first (terms (a .profile .now) 0) (a .catalogue .now) (a .fit .now) (omega (arith, k, c .if1 .taken))
+    let t = limited (a .pairs) 0 (terms (a .profile .now) 0) in
+    (k .0 ∙ page-first t (a .catalogue .now) (a .fit .now) (omega (arith, k .0, c .if1 .taken)), k .1)
 
 returns-2 : tie.Need-returns-2
 returns-2 c =
-    let k = c .before .before .image-refusal .ensures in
+    let k = c .before .before .page-refusal .ensures in
     let a = c .before .before .before .before .before .before .args in
-    c .number .ensures ∙ profile-first (terms (a .profile .now) 0) (a .catalogue .now) (a .fit .now) (omega (arith, k, c .before .if1 .left))
+    let t = limited (a .pairs) 0 (terms (a .profile .now) 0) in
+    let is = c .number .ensures ∙ profile-first t (a .catalogue .now) (a .fit .now) (omega (arith, k .0, c .before .if1 .left)) in
+    let small = first-small 13 (inputRefusals t (a .catalogue .now) (a .fit .now)) (numbered-inputs t (a .catalogue .now) (a .fit .now)) in
+    (is, omega (arith, is, small))
 
 pub input-refusal-spec : {M : Type 1} → statement M
 input-refusal-spec =

@@ -1,4 +1,5 @@
 -- `two_fits::skills` meets its contract: the two contracts of the skill call, and the promise on what they leave.
+use Rattle.lists.specs.Terms.{limited, main}
 use Rattle.fitcheck.specs.Calls.{skillCall}
 use Rattle.promises.proofs.Comparing.{skills-kept}
 use Rattle.two_fits.specs.Kept.{SkillsKept}
@@ -13,11 +14,13 @@ returns c =
     let o = n .before .before .before .before in
     let a = o .before .before .before .before .before .before .before .args in
     let catalogue = a .catalogue .now in
+    let t = limited (a .first .pairs) (a .first .skills) main in
+    let t′ = limited (a .second .pairs) (a .second .skills) main in
     let old = a .old .now in
     let new = a .new .now in
-    let e = left-is (a .before .now) (skillCall catalogue old (a .result) (a .before .now)) (o .fit-skill .ensures) in
-    let e′ = left-is (a .after .now) (skillCall catalogue new (a .result) (a .after .now)) (n .fit-skill2 .ensures) in
-    let kept = skills-kept catalogue old new (a .before .now) (a .after .now) (a .result) in
+    let e = left-is (a .before .now) (skillCall t catalogue old (a .result) (a .before .now)) (o .fit-skill .ensures) in
+    let e′ = left-is (a .after .now) (skillCall t′ catalogue new (a .result) (a .after .now)) (n .fit-skill2 .ensures) in
+    let kept = skills-kept t t′ catalogue old new (a .before .now) (a .after .now) (a .result) in
     (e, e′, of-both (SkillsKept old new) e e′ kept)
 
 pub skills-spec : {M : Type 1} → statement M

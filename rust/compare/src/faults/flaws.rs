@@ -160,6 +160,8 @@ const NARROW: &[(Number, &[u32], &str)] = &[
     (Number::PointsUsed, &[8, 16, 24, 27], "used of Points"),
     (Number::Allowance, &[8, 16, 24, 31], "the allowance"),
     (Number::UnknownId, &[8, 16, 24], "the id of a missing type"),
+    (Number::PairLimit, &[8, 16, 31], "the pair limit"),
+    (Number::SkillLimit, &[8, 9, 16, 31], "the skill limit"),
 ];
 
 /// What may be refused too early.

@@ -6,6 +6,7 @@ mod chains;
 mod document;
 mod items;
 mod league;
+mod page;
 mod resources;
 mod slots;
 mod tables;
@@ -36,9 +37,9 @@ const TABLES: [&[Make]; 8] = [
 /// are, and how each is made.
 type Row = (fn() -> usize, fn(usize) -> Case);
 
-const MADE: [Row; 11] = [
+const MADE: [Row; 12] = [
     (
-        || plant::PLANTS.len(),
+        || plant::plants().len(),
         |number| plant::alone(&mut Rng::new(number as u64), plant::Ground::small(), number),
     ),
     (
@@ -67,6 +68,7 @@ const MADE: [Row; 11] = [
             plant::widened(plant::together(rng, plant::Ground::small(), first, second))
         },
     ),
+    (page::count, page::case),
     (|| tables::COUNT, tables::case),
     (
         || 5,

@@ -421,7 +421,7 @@ fn grown(sketch: Sketch, added: &[(i32, u8)]) -> Case {
     let growth = Growth {
         items: items.collect(),
         results: vec![Outcome::default(); added.len()],
-        lowered: Vec::new(),
+        ..Growth::default()
     };
     let asks = [Ask::GrownList, Ask::List(Room::Exact)];
     Case {

@@ -63,6 +63,7 @@ fn skills_grown(rng: &mut Rng) -> Case {
         items: vec![Item::default(); rng.below(3)],
         results: vec![Outcome::default(); rng.below(3)],
         lowered: old.skills.iter().map(|_| fall(rng)).collect(),
+        ..Growth::default()
     };
     grown("skills that are lowered", case.catalogue, old, growth)
 }

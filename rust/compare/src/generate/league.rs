@@ -11,7 +11,7 @@ use crate::rng::Rng;
 /// Gives a case a league, so that its list calls bring a profile, or none. A
 /// case in which another refusal is planted gets a good one.
 pub fn bring(rng: &mut Rng, case: &mut Case) {
-    let is_about_profiles = |plant: &Plant| matches!(plant.refusal, 11 | 12);
+    let is_about_profiles = |plant: &Plant| matches!(plant.cause.number(), 11 | 12);
     if case.fits.is_empty() || case.planted.iter().any(is_about_profiles) {
         return;
     }

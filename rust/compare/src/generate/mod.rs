@@ -5,6 +5,7 @@ pub mod growth;
 pub mod hall;
 pub mod league;
 pub mod limits;
+pub mod page;
 mod patch;
 pub mod plant;
 mod raw;
@@ -19,13 +20,14 @@ use world::{Style, World};
 /// Has a patch draw other numbers than the case that it changes.
 const PATCH: u64 = 0x0050_4154_4348;
 
-/// The generated case of a number. What a patch takes away and what its list
-/// calls bring is drawn by itself, so that the rest is the same with and
-/// without.
+/// The generated case of a number. What a patch takes away and what its calls
+/// bring beside the images is drawn by itself, so that the rest is the same with
+/// and without.
 pub fn case(seed: u64, number: u64) -> Case {
     let mut case = images(&mut Rng::for_case(seed, number));
     patch::apply(&mut Rng::for_case(seed ^ PATCH, number), &mut case);
     league::bring(&mut Rng::for_case(!seed, number), &mut case);
+    page::bring(&mut Rng::for_case(!seed, !number), &mut case);
     case
 }
 
@@ -43,7 +45,7 @@ fn images(rng: &mut Rng) -> Case {
         650..=769 => growth::growth(rng),
         770..=839 => hall::hall(rng),
         840..=889 => {
-            let way = rng.below(plant::PLANTS.len());
+            let way = rng.below(plant::plants().len());
             let ground = plant::Ground::realistic(rng);
             plant::alone(rng, ground, way)
         }

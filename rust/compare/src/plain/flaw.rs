@@ -103,6 +103,9 @@ pub enum Number {
     Allowance,
     /// The type id that rule 26 shows.
     UnknownId,
+    /// The limits of a call.
+    PairLimit,
+    SkillLimit,
 }
 
 /// Sizes that may be refused too early.

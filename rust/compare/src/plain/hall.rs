@@ -89,6 +89,9 @@ fn fits(input: &[u8], flaw: Flaw) -> Result<Vec<&[u8]>, u8> {
 
 fn judge(catalogue: &Catalogue, image: &[u8], flaw: Flaw) -> Verdict {
     let listed = Fit::open(image, flaw).and_then(|fit| {
+        if flaw.has(Fault::HallSmallPage) && fit.pairs() > 64 {
+            return Err(13);
+        }
         let context = Context::new(catalogue, &fit, flaw);
         if flaw.has(Fault::HallHangarRefused) && resource::is_hangar(&context) {
             return Err(7);

@@ -12,6 +12,7 @@ mod flaw;
 mod hall;
 mod item;
 mod league;
+mod page;
 mod resource;
 mod skill;
 mod slot;
@@ -23,9 +24,11 @@ use context::Context;
 use entry::{Entries, Target};
 use fit::Fit;
 use league::League;
+use page::{Asked, Page};
 use unknown::Place;
 
 use crate::checker::{Checker, ENTRY, Entry, Terms, refused};
+use crate::page::Limits;
 
 pub use fault::{FAULTS, Fault};
 pub use flaw::{Flaw, Measure, Number, Rows};
@@ -44,12 +47,27 @@ impl Plain {
 
 impl Checker for Plain {
     fn list(&self, catalogue: &[u8], fit: &[u8], terms: Terms, out: &mut [u8]) -> u64 {
-        let listed = opened_list(catalogue, fit, terms, out.len(), self.flaw)
-            .and_then(|(catalogue, fit, league)| list(&catalogue, &fit, &league, self.flaw));
-        answer(listed, out, self.flaw)
+        let flaw = self.flaw;
+        let page = Page::new(terms.limits, Asked::List, flaw);
+        let listed = opened_list(catalogue, fit, terms, page, out.len(), flaw).and_then(
+            |(catalogue, fit, league)| {
+                page.asks_all(&Context::new(&catalogue, &fit, flaw))?;
+                list(&catalogue, &fit, &league, flaw)
+            },
+        );
+        let listed = page.judged(listed, (catalogue, fit), out.len());
+        answer(listed.map(|entries| page.answered(entries)), out, flaw)
     }
 
-    fn skill(&self, catalogue: &[u8], fit: &[u8], result: u32, out: &mut [u8]) -> u64 {
+    fn skill(
+        &self,
+        catalogue: &[u8],
+        fit: &[u8],
+        result: u32,
+        limits: Limits,
+        out: &mut [u8],
+    ) -> u64 {
+        let page = Page::new(limits, Asked::Skill, self.flaw);
         let results = fit.get(8..12).map_or(0, |bytes| bytes::u32_at(bytes, 0));
         let too_high = u64::from(result) > u64::from(results) + 1;
         if self.flaw.has(Fault::ResultBeforeFit)
@@ -61,12 +79,14 @@ impl Checker for Plain {
         }
         let listed = opened(catalogue, fit, self.flaw).and_then(|(catalogue, fit)| {
             let result = self.flaw.number(Number::Result, result as usize);
-            match skill(&catalogue, &fit, result, self.flaw) {
+            match skill(&catalogue, &fit, result, page, self.flaw) {
                 Err(9) if self.flaw.has(Fault::RoomBeforeWalk) && out.len() < ENTRY => Err(10),
+                Err(13) if self.flaw.has(Fault::SkillsAfterRoom) && out.len() < ENTRY => Err(10),
                 listed => listed,
             }
         });
-        answer(listed, out, self.flaw)
+        let listed = page.judged(listed, (catalogue, fit), out.len());
+        answer(listed.map(|entries| page.answered(entries)), out, self.flaw)
     }
 
     fn hall(&self, catalogue: &[u8], input: &[u8]) -> u64 {
@@ -95,6 +115,7 @@ fn opened_list<'a>(
     catalogue: &'a [u8],
     fit: &'a [u8],
     terms: Terms<'a>,
+    page: Page,
     room: usize,
     flaw: Flaw,
 ) -> Result<(Catalogue<'a>, Fit<'a>, League<'a>), u8> {
@@ -108,6 +129,7 @@ fn opened_list<'a>(
     let (catalogue, fit) = opened(catalogue, fit, flaw)?;
     let is_hull = context::is_hull(&catalogue, &fit, flaw);
     let league = match League::judged(terms, flaw) {
+        _ if !page.reads_profiles() => League::none(flaw),
         Err(_) if flaw.has(Fault::ProfileOnHulls) && !is_hull => League::none(flaw),
         Err(number) if flaw.has(Fault::ProfileAfterRoom) => {
             let entries = list(&catalogue, &fit, &League::none(flaw), flaw)?;
@@ -179,8 +201,14 @@ fn shortened(
     Ok(entries.found)
 }
 
-/// The entries of one result's skills, or refusal 8 or 9.
-fn skill(catalogue: &Catalogue, fit: &Fit, result: usize, flaw: Flaw) -> Result<Vec<Entry>, u8> {
+/// The entries of one result's skills, or refusal 8, 9 or 13.
+fn skill(
+    catalogue: &Catalogue,
+    fit: &Fit,
+    result: usize,
+    page: Page,
+    flaw: Flaw,
+) -> Result<Vec<Entry>, u8> {
     let last = match () {
         () if flaw.has(Fault::ResultOneLess) => fit.results(),
         () if flaw.has(Fault::UnpairedResultRefused) => fit.pairs() + 1,
@@ -200,7 +228,8 @@ fn skill(catalogue: &Catalogue, fit: &Fit, result: usize, flaw: Flaw) -> Result<
         return Err(7);
     }
     let mut entries = Entries::new(flaw);
-    skill::report(&context, result, &mut entries)?;
+    page.asks_all(&context)?;
+    skill::report(&context, result, page, &mut entries)?;
     shortened(entries, flaw, Rows::SkillEntries, Measure::SkillEntries)
 }
 

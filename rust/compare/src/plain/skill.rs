@@ -5,6 +5,7 @@ use super::bytes::{to_i32, to_i32_wrapping, to_u8};
 use super::context::Context;
 use super::entry::{Entries, Target};
 use super::fault::Fault;
+use super::page::{Met, Page};
 
 const REQUIRED: usize = 76;
 
@@ -12,6 +13,8 @@ const REQUIRED: usize = 76;
 struct Walk {
     ids: Vec<i32>,
     levels: Vec<u8>,
+    /// How many of them the result itself demands.
+    direct: usize,
 }
 
 impl Walk {
@@ -28,8 +31,18 @@ impl Walk {
     }
 }
 
-/// What one result lacks, or refusal 9.
-pub fn report(context: &Context, result: usize, entries: &mut Entries) -> Result<(), u8> {
+/// How many skills a result wants.
+pub fn wanted(context: &Context, result: usize) -> usize {
+    wanted_skills(context, result).ids.len()
+}
+
+/// What one result lacks, or refusal 9 or 13.
+pub fn report(
+    context: &Context,
+    result: usize,
+    page: Page,
+    entries: &mut Entries,
+) -> Result<(), u8> {
     let flaw = context.flaw;
     let walk = wanted_skills(context, result);
     let target = match result {
@@ -38,8 +51,14 @@ pub fn report(context: &Context, result: usize, entries: &mut Entries) -> Result
         _ if flaw.has(Fault::SkillIndex) => Target::Pair(result),
         _ => Target::Pair(result - 2),
     };
+    let mut met = Met {
+        wanted: walk.ids.len(),
+        at_levels: walk.levels.iter().filter(|level| **level > 0).count(),
+        direct: walk.direct,
+        listed: 0,
+    };
     let mut wanted: Vec<(i32, u8)> = walk.ids.into_iter().zip(walk.levels).collect();
-    let count = wanted.len();
+    wanted.truncate(page.looked_at(met.wanted));
     if flaw.has(Fault::SkillSorted) {
         wanted.sort();
     }
@@ -57,16 +76,8 @@ pub fn report(context: &Context, result: usize, entries: &mut Entries) -> Result
         }
     }
 
-    let counted = match flaw.has(Fault::WalkCountsListed) {
-        true => entries.found.len(),
-        false => count,
-    };
-    let most = match () {
-        () if flaw.has(Fault::Walk511) => 511,
-        () if flaw.has(Fault::Walk513) => 513,
-        () => 512,
-    };
-    if counted > most { Err(9) } else { Ok(()) }
+    met.listed = entries.found.len();
+    page.walked(context.fit, result, &met)
 }
 
 fn wanted_skills(context: &Context, result: usize) -> Walk {
@@ -85,12 +96,13 @@ fn wanted_skills(context: &Context, result: usize) -> Walk {
     let mut walk = Walk {
         ids: Vec::new(),
         levels: Vec::new(),
+        direct: 0,
     };
     demands(context, &pairs, &mut walk, |id| context.value(result, id));
-    let direct = walk.ids.len();
+    walk.direct = walk.ids.len();
     let mut next = 0;
     while next < walk.ids.len() {
-        if flaw.has(Fault::WalkDirect) || (next >= direct && flaw.has(Fault::WalkTwoSteps)) {
+        if flaw.has(Fault::WalkDirect) || (next >= walk.direct && flaw.has(Fault::WalkTwoSteps)) {
             break;
         }
         let skill = walk.ids[next];

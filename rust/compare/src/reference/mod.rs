@@ -4,13 +4,15 @@
 //! run by the crate `original`, which is compiled as published. What the
 //! original cannot say or hold is plain code: the total of drones over 32 bits
 //! in `drones`, base values finer than an f32 in `walk`, the widening of old
-//! catalogues in `widen`, the league's rules in `league`, rule 26 in `unknown`.
+//! catalogues in `widen`, the league's rules in `league`, rule 26 in `unknown`,
+//! a page's limits in `page`.
 
 mod catalogue;
 mod drones;
 mod encode;
 mod fit;
 pub mod league;
+pub mod page;
 mod unknown;
 mod walk;
 mod widen;
@@ -21,6 +23,7 @@ use std::cmp::Ordering;
 use original::{Rule, Run, Target, Violation};
 
 use crate::checker::{Checker, ENTRY, Entry, Terms, refused};
+use crate::page::Limits;
 
 pub use catalogue::{Catalogue, LIMIT};
 pub use encode::entry;
@@ -39,16 +42,24 @@ impl Checker for Original {
     fn list(&self, catalogue: &[u8], fit: &[u8], terms: Terms, out: &mut [u8]) -> u64 {
         let listed = Catalogue::decode(catalogue).and_then(|catalogue| {
             let fit = Fit::decode(fit)?;
+            page::pairs(&fit, terms.limits)?;
             let league = League::decode(terms)?;
             Ok(list(&catalogue, &fit, &league))
         });
         written(listed, out)
     }
 
-    fn skill(&self, catalogue: &[u8], fit: &[u8], result: u32, out: &mut [u8]) -> u64 {
+    fn skill(
+        &self,
+        catalogue: &[u8],
+        fit: &[u8],
+        result: u32,
+        limits: Limits,
+        out: &mut [u8],
+    ) -> u64 {
         let listed = Catalogue::decode(catalogue).and_then(|catalogue| {
             let fit = Fit::decode(fit)?;
-            skill(&catalogue, &fit, result)
+            skill(&catalogue, &fit, result, limits)
         });
         written(listed, out)
     }
@@ -158,12 +169,16 @@ pub fn original_list(catalogue: &Catalogue, fit: &Fit) -> Listed {
     }
 }
 
-/// What one result lacks, or refusal 8 or 9.
-pub fn skill(catalogue: &Catalogue, fit: &Fit, result: u32) -> Result<Listed, Refusal> {
+/// What one result lacks, or refusal 8, 9 or 13.
+pub fn skill(
+    catalogue: &Catalogue,
+    fit: &Fit,
+    result: u32,
+    limits: Limits,
+) -> Result<Listed, Refusal> {
+    page::pairs(fit, limits)?;
     let outcome = fit.result(result).ok_or(8)?;
-    if fit.wanted_skills(catalogue, outcome).len() > 512 {
-        return Err(9);
-    }
+    page::skills(fit.wanted_skills(catalogue, outcome).len(), limits)?;
     let target = match result {
         0 | 1 => Target::Ship,
         _ => Target::Item {

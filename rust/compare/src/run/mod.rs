@@ -1,5 +1,6 @@
 //! Runs one case: the original's answer and the checker's, held together.
 
+mod page;
 mod shown;
 
 use std::cell::{Cell, OnceCell, RefCell};
@@ -11,6 +12,7 @@ use crate::checker::{Checker, ENTRY, Entry, Terms, in_words, refused};
 use crate::grown;
 use crate::guard::{Fill, Guarded, Held};
 use crate::model::{Fit, hall_image};
+use crate::page::Limits;
 use crate::profile::League;
 use crate::reference::{self, Fate, LIMIT, Listed, Refusal};
 use crate::tally::{Call, Hangar, Point, Tally, Zeros};
@@ -38,7 +40,7 @@ struct Subject {
     listed: OnceCell<Listed>,
     /// The list without rule 26.
     before: OnceCell<Listed>,
-    skills: RefCell<BTreeMap<u32, Result<Listed, Refusal>>>,
+    skills: RefCell<BTreeMap<(u32, Limits), Result<Listed, Refusal>>>,
 }
 
 impl Subject {
@@ -74,6 +76,7 @@ impl Brought {
         let terms = Terms {
             profile: &image,
             allowance,
+            ..Terms::default()
         };
         let league = reference::League::decode(terms);
         Brought {
@@ -87,10 +90,11 @@ impl Brought {
         !self.held.image.is_empty()
     }
 
-    fn terms(&self, fill: Fill) -> Terms<'_> {
+    fn terms(&self, limits: Limits, fill: Fill) -> Terms<'_> {
         Terms {
             profile: self.held.copy(fill).bytes(),
             allowance: self.allowance,
+            limits,
         }
     }
 }
@@ -186,7 +190,7 @@ impl<'a> Stage<'a> {
 
     /// What a call must give, and the length of the buffer that it is lent.
     fn expected(&self, source: &Source, subject: &Subject, call: Lists) -> (Expected, usize) {
-        let listed = self.listed(source, subject, call.result);
+        let listed = self.listed(source, subject, call.result, call.limits);
         let length = match &listed {
             Ok(listed) => call.room.length(ENTRY * listed.entries.len()),
             // A refusal has to leave something untouched.
@@ -216,16 +220,21 @@ impl<'a> Stage<'a> {
 
     /// The list and skill calls of an ask, with the catalogue and fit of each.
     fn lists(&self, ask: Ask) -> Vec<(&Source, &Subject, Lists)> {
-        let call = |result, room| Lists { result, room };
+        let limits = self.case.limits;
+        let call = |result, room| Lists {
+            result,
+            room,
+            limits,
+        };
         let own = |result, room| vec![(&self.source, self.fit(), call(result, room))];
         let both = |result| {
+            let new = Lists {
+                limits: self.case.growth.limits,
+                ..call(result, Room::Longer(24))
+            };
             vec![
                 (&self.source, self.fit(), call(result, Room::Exact)),
-                (
-                    &self.source,
-                    self.grown_fit(),
-                    call(result, Room::Longer(24)),
-                ),
+                (&self.source, self.grown_fit(), new),
             ]
         };
         let wide = |result| {
@@ -269,16 +278,19 @@ impl<'a> Stage<'a> {
         let (Ok(catalogue), Ok(fit)) = (&source.catalogue, &subject.decoded) else {
             return;
         };
-        if call.result.is_none() {
+        tally.page(catalogue, fit, call, expected.word);
+        if call.result.is_none() && expected.word != refused(13) {
             tally.brought(catalogue, fit, &self.brought.league);
         }
         if let Some(result) = call.result {
-            tally.walk(catalogue, fit, result);
+            if expected.word != refused(13) {
+                tally.walk(catalogue, fit, result);
+            }
         } else if expected.word == refused(10) {
             if fit.hangar(catalogue).is_some() {
                 tally.meet(Point::Hangar(Hangar::NoRoom));
             }
-            if let Ok(listed) = self.listed(source, subject, None) {
+            if let Ok(listed) = self.listed(source, subject, None, call.limits) {
                 tally.no_room(&listed, length);
             }
         }
@@ -291,7 +303,7 @@ impl<'a> Stage<'a> {
                         tally.unknown(catalogue, fit, league, &expected.listed);
                     }
                     if self.brought.has_profile() && fit.is_hull(catalogue) {
-                        tally.league(&expected.listed);
+                        tally.league(call.limits, &expected.listed);
                     }
                 }
                 Some(result) => tally.skill(catalogue, fit, result, &expected.listed),
@@ -357,7 +369,7 @@ impl<'a> Stage<'a> {
             return;
         };
         let answered = self
-            .listed(source, fit, result)
+            .listed(source, fit, result, self.case.limits)
             .is_ok_and(|listed| !listed.entries.is_empty());
         if answered {
             let call = if result.is_some() {
@@ -371,8 +383,11 @@ impl<'a> Stage<'a> {
 
     /// The lists of both fits, where both are answered.
     fn both_lists(&self, result: Option<u32>) -> Option<(Vec<Entry>, Vec<Entry>)> {
-        let old = self.listed(&self.source, self.fit(), result).ok()?;
-        let new = self.listed(&self.source, self.grown_fit(), result).ok()?;
+        let (old, new) = (self.case.limits, self.case.growth.limits);
+        let old = self.listed(&self.source, self.fit(), result, old).ok()?;
+        let new = self
+            .listed(&self.source, self.grown_fit(), result, new)
+            .ok()?;
         Some((old.entries, new.entries))
     }
 
@@ -410,18 +425,13 @@ impl<'a> Stage<'a> {
         let (expected, length) = self.expected(source, subject, call);
         self.planted(expected.word)?;
         for fill in [Fill::First, Fill::Second] {
-            let catalogue = source.held.copy(fill).bytes();
-            let fit = subject.held.copy(fill).bytes();
-            let terms = self.brought.terms(fill);
             let mut out = Guarded::buffer(length, fill);
-            let word = caught(|| match call.result {
-                None => checker.list(catalogue, fit, terms, out.bytes_mut()),
-                Some(result) => checker.skill(catalogue, fit, result, out.bytes_mut()),
-            })?;
+            let word = self.called((source, subject, call), checker, fill, out.bytes_mut())?;
             source.held.unharmed(fill, "catalogue")?;
             subject.held.unharmed(fill, "fit")?;
             self.brought.held.unharmed(fill, "profile")?;
             compare(&expected, word, &out)?;
+            self.as_on_the_main_page((source, subject, call), checker, (word, &out))?;
             zeros.note(&expected.listed, out.bytes());
             if call.result.is_none() && word >> 32 == 0 {
                 let written = &out.bytes()[..ENTRY * word as usize];
@@ -444,6 +454,23 @@ impl<'a> Stage<'a> {
         };
         let before = || reference::list_before(catalogue, fit, league);
         without_unknown(subject.before.get_or_init(before), written)
+    }
+
+    /// The word of a call on one of the copies, or that the checker panicked.
+    fn called(
+        &self,
+        (source, subject, call): (&Source, &Subject, Lists),
+        checker: &dyn Checker,
+        fill: Fill,
+        out: &mut [u8],
+    ) -> Result<u64, String> {
+        let catalogue = source.held.copy(fill).bytes();
+        let fit = subject.held.copy(fill).bytes();
+        let terms = self.brought.terms(call.limits, fill);
+        caught(|| match call.result {
+            None => checker.list(catalogue, fit, terms, out),
+            Some(result) => checker.skill(catalogue, fit, result, call.limits, out),
+        })
     }
 
     fn hold_hall(&self, checker: &dyn Checker) -> Result<(), String> {
@@ -513,11 +540,13 @@ impl<'a> Stage<'a> {
         source: &Source,
         subject: &Subject,
         result: Option<u32>,
+        limits: Limits,
     ) -> Result<Listed, Refusal> {
         let catalogue = source.catalogue.as_ref().map_err(|refusal| *refusal)?;
         let fit = subject.decoded.as_ref().map_err(|refusal| *refusal)?;
         match result {
             None => {
+                reference::page::pairs(fit, limits)?;
                 let league = self.brought.league.as_ref().map_err(|refusal| *refusal)?;
                 let listed = || reference::list(catalogue, fit, league);
                 Ok(subject.listed.get_or_init(listed).clone())
@@ -525,8 +554,8 @@ impl<'a> Stage<'a> {
             Some(result) => subject
                 .skills
                 .borrow_mut()
-                .entry(result)
-                .or_insert_with(|| reference::skill(catalogue, fit, result))
+                .entry((result, limits))
+                .or_insert_with(|| reference::skill(catalogue, fit, result, limits))
                 .clone(),
         }
     }

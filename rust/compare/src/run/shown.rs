@@ -122,14 +122,9 @@ impl Stage<'_> {
         checker: &dyn Checker,
     ) -> Shown {
         let (expected, length) = self.expected(source, subject, call);
-        let catalogue = source.held.copy(Fill::First).bytes();
-        let fit = subject.held.copy(Fill::First).bytes();
         let mut out = vec![0; length];
-        let terms = self.brought.terms(Fill::First);
-        let Ok(word) = caught(|| match call.result {
-            None => checker.list(catalogue, fit, terms, &mut out),
-            Some(result) => checker.skill(catalogue, fit, result, &mut out),
-        }) else {
+        let called = self.called((source, subject, call), checker, Fill::First, &mut out);
+        let Ok(word) = called else {
             return Shown::Panic;
         };
         match ((expected.word >> 32) as u8, (word >> 32) as u8) {

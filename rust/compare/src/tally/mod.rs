@@ -3,6 +3,7 @@
 mod edge;
 mod league;
 mod look;
+mod page;
 mod point;
 pub mod size;
 mod unknown;
@@ -14,10 +15,12 @@ use std::collections::BTreeMap;
 use crate::case::{Ask, Case, Lists, Room};
 use crate::checker::{ENTRY, Entry};
 use crate::grown;
+use crate::page::Limits;
 use crate::reference::{self, Catalogue, Fate, Fit, League, Listed, More, Refusal};
 
 pub use edge::{Hangar, Shape, Spot};
 pub use league::LeagueEdge;
+pub use page::{PageEdge, pairs_beside, skills_beside};
 pub use point::{Beside, Call, Point, RoomKind};
 pub use unknown::UnknownEdge;
 pub use widened::{Class, Fine, WidenRoom};
@@ -85,7 +88,7 @@ impl Tally {
             self.meet(Point::Planted(*plant));
         }
         if let [second, first] = case.planted[..] {
-            self.meet(Point::Pair(first.refusal, second.refusal));
+            self.meet(Point::Pair(first.cause, second.cause));
         }
         if (16_777_212..=16_777_220).contains(&catalogue_length) {
             self.meet(Point::CatalogueLength(catalogue_length as u32));
@@ -143,9 +146,15 @@ impl Tally {
         league::brought(self, catalogue, fit, league);
     }
 
+    /// A list or skill call whose images are not refused, by its limits.
+    pub fn page(&mut self, catalogue: &Catalogue, fit: &Fit, call: Lists, word: u64) {
+        page::called(self, catalogue, fit, call, word);
+    }
+
     /// An answered list call with a profile, on a hull.
-    pub fn league(&mut self, listed: &Listed) {
+    pub fn league(&mut self, limits: Limits, listed: &Listed) {
         league::listed(self, listed);
+        page::league(self, limits, listed);
     }
 
     /// The inputs and the list of an answered list call, as far as types are
@@ -248,7 +257,7 @@ impl Tally {
     /// The refusals that a widening deserves, the one that it must give first.
     pub fn widen_pair(&mut self, case: &Case) {
         if let [second, first] = case.planted[..] {
-            self.meet(Point::WidenPair(first.refusal, second.refusal));
+            self.meet(Point::WidenPair(first.cause, second.cause));
         }
     }
 
@@ -288,6 +297,7 @@ impl Tally {
         }
         league::grown(self, old, new);
         unknown::grown(self, old, new);
+        page::grown(self, case, call);
         let shapes = [
             (
                 growth.items.is_empty() && growth.results.is_empty(),

@@ -4,13 +4,14 @@ use std::fmt;
 
 use super::edge::{CapitalEdge, Edge, Hangar, Shape, Spot};
 use super::league::LeagueEdge;
+use super::page::PageEdge;
 use super::size::{
     AMOUNTS, Block, Counting, HELD, Holder, IdOf, LARGEST_HALL, LIST_BUFFERS, LONGEST_LIST, Part,
     Place, RESULTS, Region, SKILL_BUFFERS, UNREAD,
 };
 use super::unknown::UnknownEdge;
 use super::widened::{Class, Fine, WidenRoom};
-use crate::case::{Lists, Plant, Room};
+use crate::case::{Cause, Lists, Plant, Room};
 use crate::generate::plant;
 use crate::names::NAMES;
 use crate::numbers::Width;
@@ -30,7 +31,7 @@ pub enum Point {
     State(u8),
     Refusal(Call, u8),
     Planted(Plant),
-    Pair(u8, u8),
+    Pair(Cause, Cause),
     Room(Call, RoomKind),
     HallFits(u32),
     HallFit(Fate),
@@ -76,7 +77,7 @@ pub enum Point {
     /// A base value of a class that is widened.
     Widened(Class),
     /// A refusal by the widening where another is deserved too.
-    WidenPair(u8, u8),
+    WidenPair(Cause, Cause),
     /// So many bytes lent for so many of the old and the new form.
     WidenRoom(WidenRoom),
     /// A widened catalogue of more than 16,777,216 bytes.
@@ -89,6 +90,8 @@ pub enum Point {
     League(LeagueEdge),
     /// Types that the catalogue lacks, and present ones that look alike.
     Unknown(UnknownEdge),
+    /// What the limits of a call are beside its fit.
+    Page(PageEdge),
 }
 
 #[derive(Clone, Copy, Debug, PartialEq, Eq, PartialOrd, Ord)]
@@ -181,17 +184,14 @@ pub fn required() -> Vec<Point> {
     points.extend((0..12).map(Point::Kind));
     points.extend([0, 1, 2, 3, 4, 5, 6, 8, 9].map(Point::HighestIndex));
     points.extend((0..4).map(Point::State));
-    let of_lists = [1, 2, 3, 4, 5, 6, 11, 12, 10];
+    let of_lists = [1, 2, 3, 4, 5, 6, 13, 11, 12, 10];
     points.extend(of_lists.map(|refusal| Point::Refusal(Call::List, refusal)));
-    points.extend([1, 2, 3, 4, 5, 6, 8, 9, 10].map(|refusal| Point::Refusal(Call::Skill, refusal)));
+    let of_skills = [1, 2, 3, 4, 5, 6, 13, 8, 9, 10];
+    points.extend(of_skills.map(|refusal| Point::Refusal(Call::Skill, refusal)));
     points.extend([1, 2, 3, 4].map(|refusal| Point::Refusal(Call::Hall, refusal)));
     points.extend([1, 2, 3, 10].map(|refusal| Point::Refusal(Call::Widen, refusal)));
-    points.extend(plant::PLANTS.iter().map(|(refusal, how, _)| {
-        Point::Planted(Plant {
-            refusal: *refusal,
-            how,
-        })
-    }));
+    let plants = plant::plants().into_iter();
+    points.extend(plants.map(|(cause, how, _)| Point::Planted(Plant { cause, how })));
     points.extend(plant::pairs().into_iter().map(|(a, b)| Point::Pair(a, b)));
     for call in [Call::List, Call::Skill, Call::Widen] {
         let rooms = [
@@ -239,6 +239,7 @@ pub fn required() -> Vec<Point> {
     points.extend(Fine::ALL.map(Point::Fine));
     points.extend(LeagueEdge::all().into_iter().map(Point::League));
     points.extend(UnknownEdge::all().into_iter().map(Point::Unknown));
+    points.extend(PageEdge::all().into_iter().map(Point::Page));
     points
 }
 
@@ -303,7 +304,7 @@ impl fmt::Display for Point {
             Point::HighestIndex(kind) => write!(out, "highest index of {}", name(&KINDS, kind)),
             Point::State(state) => write!(out, "state {}", name(&STATES, state)),
             Point::Refusal(call, refusal) => write!(out, "refusal {refusal} by the {call}"),
-            Point::Planted(plant) => write!(out, "refusal {}: {}", plant.refusal, plant.how),
+            Point::Planted(plant) => write!(out, "refusal {}: {}", plant.cause, plant.how),
             Point::Pair(a, b) => write!(out, "refusal {a} where {b} is deserved too"),
             Point::Room(Call::Widen, room) => write!(out, "widening, {}", room.words()),
             Point::Room(call, room) => write!(out, "{call} with entries, {}", room.words()),
@@ -344,6 +345,7 @@ impl fmt::Display for Point {
             Point::Under(call) => write!(out, "{call} under a widened catalogue"),
             Point::League(edge) => out.write_str(&edge.words()),
             Point::Unknown(edge) => out.write_str(&edge.words()),
+            Point::Page(edge) => out.write_str(&edge.words()),
             Point::Fine(fine) => write!(out, "base value finer than an f32: {}", fine.words()),
             size => size.fmt_size(out),
         }

@@ -8,6 +8,7 @@ use crate::case::{Ask, Case, Room};
 use crate::checker::{Checker, ENTRY, Terms, in_words, refused};
 use crate::model::{Catalogue, Damage, Fit, Name, Outcome, hall_image};
 use crate::names::{MARKS, NAMES};
+use crate::page::Limits;
 use crate::profile::{BANNED, League};
 use crate::reference::{Original, widen};
 use crate::verdict::hall_in_words;
@@ -32,6 +33,7 @@ pub fn case(case: &Case) -> String {
     }
     damage(&mut text, "hall input", &case.frame);
     league(&mut text, &case.league);
+    limits(&mut text, "limits", case.limits);
     let growth = &case.growth;
     if case
         .asks
@@ -50,9 +52,10 @@ pub fn case(case: &Case) -> String {
             ..Fit::default()
         };
         things(&mut text, &more, names);
+        limits(&mut text, "limits for the grown fit", growth.limits);
     }
     for planted in &case.planted {
-        text += &format!("planted: refusal {} by {}\n", planted.refusal, planted.how);
+        text += &format!("planted: refusal {} by {}\n", planted.cause, planted.how);
     }
     for one in &case.asks {
         text += &format!("call: {}\n", ask(*one));
@@ -67,6 +70,7 @@ pub fn answers(case: &Case) -> String {
     let terms = Terms {
         profile: &case.league.image(),
         allowance: case.league.allowance,
+        limits: case.limits,
     };
     let mut text = String::new();
     let mut asked = Vec::new();
@@ -101,7 +105,7 @@ pub fn answers(case: &Case) -> String {
         let mut out = vec![0; ENTRY * 8_192];
         let word = match result {
             None => Original.list(&catalogue, &fit, terms, &mut out),
-            Some(result) => Original.skill(&catalogue, &fit, result, &mut out),
+            Some(result) => Original.skill(&catalogue, &fit, result, case.limits, &mut out),
         };
         text += &format!("{what}: the original makes it {}\n", in_words(word));
         let count = if word >> 32 == 0 { word as usize } else { 0 };
@@ -255,6 +259,14 @@ fn league(text: &mut String, league: &League) {
         points => format!("group {} costs {points}", price.group),
     });
     damage(text, "profile", &profile.damage);
+}
+
+/// What calls take, where it is not what the main page takes.
+fn limits(text: &mut String, own: &str, limits: Limits) {
+    let Limits { pairs, skills } = limits;
+    if limits != Limits::MAIN {
+        *text += &format!("{own}: {pairs} pairs, {skills} skills\n");
+    }
 }
 
 /// Items and results, side by side.

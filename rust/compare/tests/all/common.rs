@@ -3,6 +3,7 @@
 //! Expected values in these tests are worked out from documents 01 and 02.
 
 use compare::checker::{Checker, Terms, refused};
+use compare::page::Limits;
 use compare::plain::Plain;
 use compare::rattle;
 use compare::reference::Original;
@@ -92,8 +93,21 @@ pub fn assert_list_with(catalogue: &[u8], fit: &[u8], terms: Terms, expected: &G
 
 /// Asserts what every checker's skill call gives on raw images.
 pub fn assert_skill_of(catalogue: &[u8], fit: &[u8], result: u32, expected: &Given) {
+    assert_skill_with(catalogue, fit, result, Limits::MAIN, expected);
+}
+
+/// The same under limits of a page.
+pub fn assert_skill_with(
+    catalogue: &[u8],
+    fit: &[u8],
+    result: u32,
+    limits: Limits,
+    expected: &Given,
+) {
     for (name, checker) in checkers() {
-        let got = given(name, |out| checker.skill(catalogue, fit, result, out));
+        let got = given(name, |out| {
+            checker.skill(catalogue, fit, result, limits, out)
+        });
         assert_eq!(got, *expected, "{name}");
     }
 }

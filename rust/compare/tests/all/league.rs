@@ -23,6 +23,7 @@ fn assert_league(sketch: Sketch, league: &League, expected: &[Vec<u8>]) {
     let terms = Terms {
         profile: &image,
         allowance: league.allowance,
+        ..Terms::default()
     };
     let expected = Given::Entries(expected.to_vec());
     assert_list_with(
@@ -39,6 +40,7 @@ fn assert_profile(profile: &[u8], refusal: Option<u8>) {
     let terms = Terms {
         profile,
         allowance: 0,
+        ..Terms::default()
     };
     let expected = refusal.map_or(Given::Entries(Vec::new()), Given::Refusal);
     assert_list_with(
@@ -196,6 +198,7 @@ fn without_a_profile_the_allowance_is_not_read() {
             let terms = Terms {
                 profile: &[],
                 allowance,
+                ..Terms::default()
             };
             for (name, checker) in checkers() {
                 let mut out = vec![0; 135_696];

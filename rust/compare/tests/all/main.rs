@@ -8,6 +8,7 @@ mod faults;
 mod hall;
 mod league;
 mod original;
+mod page;
 mod recorded;
 mod refusals;
 mod unknown;

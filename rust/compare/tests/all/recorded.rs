@@ -1,11 +1,13 @@
 //! The recorded answers: they are what `record` writes, every checker gives
-//! them, and they hold every rule, every refusal and every call.
+//! them, and they hold every rule, every refusal of the main page and every
+//! call.
 
 use std::collections::BTreeSet;
 
 use crate::common::checkers;
 use compare::case::REFUSALS;
 use compare::checker::Terms;
+use compare::page::Limits;
 use compare::record::{self, HALL, LIST, MOST, Record, WIDEN};
 
 const FILE: &[u8] = include_bytes!("../../recorded.bin");
@@ -36,6 +38,7 @@ fn terms(record: &Record) -> Terms<'_> {
     Terms {
         profile: &record.profile,
         allowance: record.allowance,
+        ..Terms::default()
     }
 }
 
@@ -48,7 +51,10 @@ fn every_checker_gives_the_recorded_answers() {
                 LIST => checker.list(&record.catalogue, &record.fit, terms(record), &mut out),
                 HALL => checker.hall(&record.catalogue, &record.fit),
                 WIDEN => checker.widen(&record.catalogue, &mut out),
-                result => checker.skill(&record.catalogue, &record.fit, result, &mut out),
+                result => {
+                    let (catalogue, fit) = (&record.catalogue, &record.fit);
+                    checker.skill(catalogue, fit, result, Limits::MAIN, &mut out)
+                }
             };
             assert_eq!(word, record.word, "{name}, record {number}");
             let (written, rest) = out.split_at(record.written.len());
@@ -80,7 +86,9 @@ fn every_rule_refusal_and_call_is_recorded() {
         }
     }
     assert_eq!(rules, (1..=21).chain(24..=26).collect());
-    let given = REFUSALS.map(u64::from).into_iter();
+    // The main page gives no 13.
+    let given = REFUSALS.into_iter().filter(|number| *number != 13);
+    let given = given.map(u64::from);
     assert_eq!(refusals, given.chain([0]).collect());
     for call in ["list", "skill", "hall", "widen"] {
         assert!(calls.contains(&(call, true)), "{call} answered");

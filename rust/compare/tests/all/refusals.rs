@@ -5,6 +5,7 @@ use crate::common::*;
 use compare::checker::{Terms, refused};
 use compare::model::{Base, Catalogue, Effect, Fit, Item, Link, Name, Outcome, Skill, Type};
 use compare::names::*;
+use compare::page::Limits;
 use compare::sketch::*;
 
 fn a_type(id: i32) -> Type {
@@ -393,7 +394,8 @@ fn an_empty_list_needs_no_buffer() {
             0,
             "{name}"
         );
-        assert_eq!(checker.skill(&catalogue, &fit, 0, &mut []), 0, "{name}");
+        let word = checker.skill(&catalogue, &fit, 0, Limits::MAIN, &mut []);
+        assert_eq!(word, 0, "{name}");
     }
 }
 
@@ -439,7 +441,8 @@ fn ids_are_judged_before_fields_and_fields_before_the_result_number() {
 fn counting_comes_before_the_buffer() {
     let chain = chain(513).finish();
     for (name, checker) in checkers() {
-        let word = checker.skill(&chain.catalogue.image(), &chain.fit.image(), 0, &mut []);
+        let (catalogue, fit) = (chain.catalogue.image(), chain.fit.image());
+        let word = checker.skill(&catalogue, &fit, 0, Limits::MAIN, &mut []);
         assert_eq!(word, refused(9), "{name}");
     }
 }

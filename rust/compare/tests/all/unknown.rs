@@ -156,6 +156,7 @@ fn rule_26_stands_behind_bans_and_points() {
     let terms = Terms {
         profile: &profile,
         allowance: league.allowance,
+        ..Terms::default()
     };
     let banned = entry(1, 24, 0, 0, [0; 4]);
     let points = entry(0, 25, 0, 0, [4, 3, 0, 0]);
@@ -225,6 +226,7 @@ fn list(checker: &dyn Checker, case: &Case, fit: &Fit) -> Option<Vec<Vec<u8>>> {
     let terms = Terms {
         profile: &profile,
         allowance: case.league.allowance,
+        ..Terms::default()
     };
     let mut out = vec![0; 135_696];
     let word = checker.list(&case.catalogue.image(), &fit.image(), terms, &mut out);
@@ -273,6 +275,7 @@ fn without_rule_26_the_list_given_before_remains() {
             let terms = Terms {
                 profile: &profile,
                 allowance: case.league.allowance,
+                ..Terms::default()
             };
             let league = reference::League::decode(terms).unwrap();
             let original = reference::original_list(&catalogue, &read);

@@ -2,6 +2,7 @@
 
 use compare::case::REFUSALS;
 use compare::checker::{Checker, ENTRY, Terms};
+use compare::page::Limits;
 
 use crate::common::checkers;
 use crate::page::{behind, bytes, hex, table};
@@ -59,25 +60,39 @@ impl Images {
     }
 }
 
+/// The limits behind `under`, or the main page's, and the call before it.
+fn limited(call: &str) -> (&str, Limits) {
+    let Some((call, limits)) = call.split_once(" under ") else {
+        return (call, Limits::MAIN);
+    };
+    let (pairs, skills) = limits.split_once(", ").expect("pairs and skills");
+    let limits = Limits::of(pairs.parse().unwrap(), skills.parse().unwrap());
+    (call, limits)
+}
+
 /// A call as the page names it, `list`, `league 90` with the profile and this
 /// allowance, `skill 2`, `hall` or `widen`, on a buffer.
 fn called(checker: &dyn Checker, call: &str, images: &Images, out: &mut [u8]) -> u64 {
+    let (call, limits) = limited(call);
+    let terms = Terms {
+        limits,
+        ..Terms::default()
+    };
     match call.split_once(' ') {
-        None if call == "list" => {
-            checker.list(&images.catalogue, &images.fit, Terms::default(), out)
-        }
+        None if call == "list" => checker.list(&images.catalogue, &images.fit, terms, out),
         None if call == "hall" => checker.hall(&images.catalogue, &images.hall),
         None if call == "widen" => checker.widen(&images.old, out),
         Some(("league", allowance)) => {
             let terms = Terms {
                 profile: &images.profile,
                 allowance: allowance.parse().unwrap(),
+                limits,
             };
             checker.list(&images.catalogue, &images.fit, terms, out)
         }
         Some(("skill", result)) => {
             let result = result.parse().unwrap();
-            checker.skill(&images.catalogue, &images.fit, result, out)
+            checker.skill(&images.catalogue, &images.fit, result, limits, out)
         }
         _ => panic!("no call `{call}`"),
     }

@@ -441,6 +441,76 @@ fn a_refused_walk_is_said_beside_the_list() {
     assert_eq!(character.get("refusal").get("number").number(), 9.0);
 }
 
+/// A page that takes too few items refuses the fit; one that takes too few
+/// skills says so of each result that wants more. Else nothing changes.
+#[test]
+fn a_smaller_page_says_what_it_does_not_take() {
+    let mut catalogue = whole(&[
+        (Attribute::RequiredSkill1, 182),
+        (Attribute::RequiredSkill1Level, 277),
+    ]);
+    catalogue.type_info(587, 25, 6, None).base(7, 182, 8.0);
+    let wants = |skill: f64| ItemResult::default().with(182, skill).with(277, 3.0);
+    let fit = FitBuilder::new(587)
+        .ship(wants(8.0))
+        .character(wants(7.0))
+        .item(FitItem::new(34, Slot::Cargo), ItemResult::default())
+        .item(FitItem::new(35, Slot::Cargo), ItemResult::default())
+        .item_without_result(FitItem::new(36, Slot::Cargo))
+        .build()
+        .unwrap();
+    let folder = folder("smaller");
+    let catalogue = put(&folder, "types.bin", &catalogue.build().unwrap());
+    let fit = put(&folder, "two.fit", &fit);
+    let under = |limits: &[&str]| fitcheck(&[&["explain", &catalogue, &fit], limits].concat());
+
+    let main = under(&[]);
+    for limits in [
+        &["--pairs", "2"][..],
+        &["--skills", "2"],
+        &["--pairs", "4294967295", "--skills", "513"],
+    ] {
+        let ran = under(limits);
+        assert_eq!(
+            (ran.status, &ran.out),
+            (main.status, &main.out),
+            "{limits:?}"
+        );
+    }
+
+    let said = format!(
+        "fitcheck: {fit}: refused by 13: the fit has 2 items with a result, and this page takes 1\n"
+    );
+    let ran = under(&["--pairs", "1"]);
+    assert_eq!((ran.status, ran.err.as_str()), (1, said.as_str()));
+    assert_eq!(ran.out, "");
+    let ran = under(&["--pairs", "1", "--json"]);
+    let value = Value::parse(&ran.out);
+    let refusal = value.get("refusal");
+    assert_eq!(refusal.get("passed").text(), "pairs");
+    assert_eq!(refusal.get("count").number(), 2.0);
+    assert_eq!(refusal.get("limit").number(), 1.0);
+
+    let ran = under(&["--skills", "1"]);
+    let said = "  the character: refused by 13: the result wants 2 skills, and this page takes 1\n";
+    assert!(ran.out.ends_with(said), "{}", ran.out);
+    assert!(
+        ran.out
+            .contains("skills: lacking for 1 of 4 results, 1 refused\n")
+    );
+    let ran = under(&["--skills", "0", "--json"]);
+    let value = Value::parse(&ran.out);
+    let skills = value.get("skills").list();
+    for (result, wanted) in [(0, 1.0), (1, 2.0)] {
+        let refusal = skills[result].get("refusal");
+        assert_eq!(refusal.get("number").number(), 13.0);
+        assert_eq!(refusal.get("passed").text(), "skills");
+        assert_eq!(refusal.get("count").number(), wanted);
+        assert_eq!(refusal.get("limit").number(), 0.0);
+    }
+    assert_eq!(skills[2].get("entries").list().len(), 0);
+}
+
 #[test]
 fn refused_images_are_named_and_have_status_1() {
     let folder = folder("refused");

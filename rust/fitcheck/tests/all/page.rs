@@ -90,7 +90,7 @@ fn the_command_prints_what_the_page_shows() {
         assert_eq!(String::from_utf8(both).unwrap(), printed, "{command}");
         run += 1;
     }
-    assert!(run >= 13, "the page has {run} runs of the command");
+    assert!(run >= 16, "the page has {run} runs of the command");
 }
 
 #[test]
@@ -238,6 +238,8 @@ fn the_objects_in_json_have_the_fields_that_the_page_lists() {
     let refused = shown(&["explain", "types.bin", "fits/cut.fit"]);
     assert_eq!(refused.names(), row("a refused image"));
     assert_eq!(refused.get("refusal").names(), row("`refusal`"));
+    let passed = shown(&["explain", "types.bin", "fits/two.fit", "--pairs", "4"]);
+    assert_eq!(passed.get("refusal").names(), row("`refusal` by 13"));
 
     fs::write(at.join("empty.bin"), [0; 20]).unwrap();
     let bare = shown(&["hall", "empty.bin", "fits"]);

@@ -64,6 +64,7 @@ fn what_the_calls_write_is_known() {
     let terms = Terms {
         profile: &profile,
         allowance: league.allowance,
+        ..Terms::default()
     };
     let mut seen = [0; 27];
     for case in numbers(300) {

@@ -22,6 +22,7 @@ fn a_list_with_a_profile_is_the_references() {
         let terms = Terms {
             profile: &profile,
             allowance,
+            ..Terms::default()
         };
         let expected = Catalogue::decode(&catalogue).and_then(|catalogue| {
             let (fit, league) = (Fit::decode(&fit)?, League::decode(terms)?);
@@ -61,6 +62,7 @@ fn profiles_are_read_as_the_reference_reads_them() {
         let terms = Terms {
             profile: &image,
             allowance: 0,
+            ..Terms::default()
         };
         match (Profile::from_bytes(&image), League::decode(terms)) {
             (Ok(profile), Ok(league)) => {

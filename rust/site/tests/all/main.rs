@@ -11,5 +11,6 @@ mod hall;
 mod league;
 mod mapping;
 mod original;
+mod page;
 mod threads;
 mod widen;

@@ -3,6 +3,7 @@
 //! `Rule` and `Target` have the original's names, fields and order, so an
 //! entry and a violation print alike.
 
+use compare::page::Limits;
 use compare::reference::{self, Catalogue, Fit};
 use fitcheck::{Entry, ListOptions, Refusal, Rule, SkillOptions};
 use original::{Info, Run, Target, Violation};
@@ -136,7 +137,7 @@ fn skills_are_the_originals() {
             for result in 0..fit.calculation.items.len().min(4) as u32 + 2 {
                 let skills =
                     fitcheck::skills(&catalogue_image, image, result, &SkillOptions::new());
-                if let Err(refusal) = reference::skill(&catalogue, &fit, result) {
+                if let Err(refusal) = reference::skill(&catalogue, &fit, result, Limits::MAIN) {
                     assert_eq!(number(skills), u32::from(refusal), "case {case}");
                     continue;
                 }

@@ -2,6 +2,7 @@
 //! what is listed under them, beside the original on the old ones.
 
 use compare::model::Catalogue;
+use compare::page::Limits;
 use compare::reference;
 use fitcheck::{ListOptions, Refusal, SkillOptions};
 
@@ -49,7 +50,7 @@ fn a_widened_catalogue_is_document_02s_and_lists_what_the_old_one_did() {
             let ours = bytes(fitcheck::list(&new, &image, &ListOptions::new()));
             assert_eq!(ours, Ok(before.entries), "case {case}");
             for result in 0..3 {
-                let original = reference::skill(&decoded, &fit, result);
+                let original = reference::skill(&decoded, &fit, result, Limits::MAIN);
                 let original = original.map(|list| list.entries).map_err(u32::from);
                 let ours = fitcheck::skills(&new, &image, result, &SkillOptions::new());
                 assert_eq!(bytes(ours), original, "case {case}, result {result}");

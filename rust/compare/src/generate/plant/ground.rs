@@ -6,6 +6,7 @@ use super::table::an_item;
 use crate::case::Room;
 use crate::model::{Base, Catalogue, Fit, Outcome, Skill};
 use crate::names::{CAPACITY, MAX_ACTIVE_DRONES, REQUIRED, RIG_SIZE};
+use crate::page::Limits;
 use crate::profile::{League, Profile};
 use crate::rng::Rng;
 use crate::sketch::*;
@@ -15,6 +16,7 @@ pub struct Ground {
     pub catalogue: Catalogue,
     pub fit: Fit,
     pub league: League,
+    pub limits: Limits,
     pub result: u32,
     pub room: Room,
 }
@@ -38,6 +40,7 @@ impl Ground {
             catalogue: sketch.catalogue,
             fit: sketch.fit,
             league: League::default(),
+            limits: Limits::MAIN,
             result: 0,
             room: Room::Longer(48),
         }
@@ -72,6 +75,7 @@ impl Ground {
             catalogue: world.catalogue,
             fit,
             league: League::default(),
+            limits: Limits::MAIN,
             result: 0,
             room: Room::Longer(24 * 700),
         }

@@ -2,21 +2,35 @@
 //! together with another.
 
 mod ground;
+mod page;
 mod table;
 
-use crate::case::{Ask, Case, Plant, REFUSALS};
+use crate::case::{Ask, CAUSES, Case, Cause, Plant};
 use crate::rng::Rng;
 
 pub use ground::Ground;
-pub use table::PLANTS;
 
-use table::Dig;
+use table::{Dig, PLANTS};
+
+/// Every plant: why the call is refused, how that is deserved, and the change
+/// that does it.
+pub fn plants() -> Vec<Row> {
+    let numbered = PLANTS.iter();
+    let numbered = numbered.map(|(number, how, dig)| (Cause::Number(*number), *how, *dig));
+    let pairs = page::PAIRS.iter();
+    let pairs = pairs.map(|(how, dig)| (Cause::Pairs, *how, *dig));
+    let skills = page::SKILLS.iter();
+    let skills = skills.map(|(how, dig)| (Cause::Skills, *how, *dig));
+    numbered.chain(pairs).chain(skills).collect()
+}
+
+type Row = (Cause, &'static str, Dig);
 
 /// The pairs of refusals that can meet in one call, the first to be given.
-pub fn pairs() -> Vec<(u8, u8)> {
+pub fn pairs() -> Vec<(Cause, Cause)> {
     let mut found = Vec::new();
-    for (place, first) in REFUSALS.into_iter().enumerate() {
-        let behind = REFUSALS[place + 1..].iter();
+    for (place, first) in CAUSES.into_iter().enumerate() {
+        let behind = CAUSES[place + 1..].iter();
         let met = behind.filter(|second| can_meet(first, **second));
         found.extend(met.map(|second| (first, *second)));
     }
@@ -24,25 +38,29 @@ pub fn pairs() -> Vec<(u8, u8)> {
 }
 
 /// A result that is not there wants no skills and lists nothing; the skill
-/// call takes no profile.
-fn can_meet(first: u8, second: u8) -> bool {
-    !matches!((first, second), (8, 9 | 10) | (11 | 12, 8 | 9))
+/// call takes no profile, and the list call asks for no skills.
+fn can_meet(first: Cause, second: Cause) -> bool {
+    use Cause::{Number, Skills};
+    !matches!(
+        (first, second),
+        (Number(8), Number(9 | 10) | Skills) | (Number(11 | 12), Number(8 | 9) | Skills)
+    )
 }
 
-/// Whether a widening can be refused by a number.
-pub fn can_widen(refusal: u8) -> bool {
-    matches!(refusal, 1..=3 | 10)
+/// Whether a widening can be refused for a cause.
+pub fn can_widen(cause: Cause) -> bool {
+    matches!(cause, Cause::Number(1..=3 | 10))
 }
 
 /// The plants that a widening can meet.
 pub fn widening() -> Vec<usize> {
-    let plants = PLANTS.iter().enumerate();
+    let plants = plants().into_iter().enumerate();
     let plants = plants.filter(|(_, plant)| can_widen(plant.0));
     plants.map(|(number, _)| number).collect()
 }
 
 /// The pairs of refusals that can meet in one widening.
-pub fn widening_pairs() -> Vec<(u8, u8)> {
+pub fn widening_pairs() -> Vec<(Cause, Cause)> {
     let mut pairs = pairs();
     pairs.retain(|(first, second)| can_widen(*first) && can_widen(*second));
     pairs
@@ -60,27 +78,29 @@ pub fn widened(mut case: Case) -> Case {
 
 /// One plant alone.
 pub fn alone(rng: &mut Rng, ground: Ground, number: usize) -> Case {
-    planted(rng, ground, &[PLANTS[number]])
+    planted(rng, ground, &[plants()[number]])
 }
 
 /// A plant of each of two refusals.
-pub fn together(rng: &mut Rng, ground: Ground, first: u8, second: u8) -> Case {
-    let mut one = |refusal: u8| {
-        let ways: Vec<_> = PLANTS.iter().filter(|row| row.0 == refusal).collect();
-        *ways[rng.below(ways.len())]
+pub fn together(rng: &mut Rng, ground: Ground, first: Cause, second: Cause) -> Case {
+    let mut one = |cause: Cause| {
+        let mut ways = plants();
+        ways.retain(|row| row.0 == cause);
+        ways[rng.below(ways.len())]
     };
     let both = [one(second), one(first)];
     planted(rng, ground, &both)
 }
 
 /// The later refusal is planted first, so that the earlier one surely stands.
-fn planted(rng: &mut Rng, mut ground: Ground, plants: &[(u8, &'static str, Dig)]) -> Case {
+fn planted(rng: &mut Rng, mut ground: Ground, plants: &[Row]) -> Case {
     for (_, _, dig) in plants {
         dig(&mut ground, rng);
     }
-    let has = |refusal: u8| plants.iter().any(|plant| plant.0 == refusal);
-    let takes_a_profile = has(11) || has(12);
-    let ask = if has(8) || has(9) || (!takes_a_profile && rng.chance(400)) {
+    let has = |cause: Cause| plants.iter().any(|plant| plant.0 == cause);
+    let takes_a_profile = has(Cause::Number(11)) || has(Cause::Number(12));
+    let takes_a_result = has(Cause::Number(8)) || has(Cause::Number(9)) || has(Cause::Skills);
+    let ask = if takes_a_result || (!takes_a_profile && rng.chance(400)) {
         Ask::Skill(ground.result, ground.room)
     } else {
         Ask::List(ground.room)
@@ -90,13 +110,11 @@ fn planted(rng: &mut Rng, mut ground: Ground, plants: &[(u8, &'static str, Dig)]
         catalogue: ground.catalogue,
         fits: vec![ground.fit],
         league: ground.league,
+        limits: ground.limits,
         asks: vec![ask],
         planted: plants
             .iter()
-            .map(|(refusal, how, _)| Plant {
-                refusal: *refusal,
-                how,
-            })
+            .map(|(cause, how, _)| Plant { cause: *cause, how })
             .collect(),
         ..Case::default()
     }
@@ -107,10 +125,10 @@ mod tests {
     use super::*;
 
     #[test]
-    fn every_refusal_has_a_plant_and_49_pairs_can_meet() {
-        for refusal in REFUSALS {
-            assert!(PLANTS.iter().any(|plant| plant.0 == refusal));
+    fn every_refusal_has_a_plant_and_69_pairs_can_meet() {
+        for cause in CAUSES {
+            assert!(plants().iter().any(|plant| plant.0 == cause));
         }
-        assert_eq!(pairs().len(), 49);
+        assert_eq!(pairs().len(), 69);
     }
 }

@@ -3,10 +3,13 @@
 use std::ffi::OsString;
 use std::path::PathBuf;
 
+use fitcheck::Limits;
+
 use crate::files::Source;
 
 pub const USAGE: &str = "\
-Usage: fitcheck explain CATALOGUE FIT [--names FILE] [--profile FILE --allowance N] [--json]
+Usage: fitcheck explain CATALOGUE FIT [--names FILE] [--profile FILE --allowance N]
+                        [--pairs N] [--skills N] [--json]
        fitcheck hall CATALOGUE FOLDER [--json]
        fitcheck pack FIT.txt [--types FILE] [--out FOLDER]
        fitcheck profile WORDS NEW [--names FILE]
@@ -16,7 +19,8 @@ Usage: fitcheck explain CATALOGUE FIT [--names FILE] [--profile FILE --allowance
 pub const HELP: &str = "\
 Says which fitting rules of EVE Online a fit breaks.
 
-Usage: fitcheck explain CATALOGUE FIT [--names FILE] [--profile FILE --allowance N] [--json]
+Usage: fitcheck explain CATALOGUE FIT [--names FILE] [--profile FILE --allowance N]
+                        [--pairs N] [--skills N] [--json]
        fitcheck hall CATALOGUE FOLDER [--json]
        fitcheck pack FIT.txt [--types FILE] [--out FOLDER]
        fitcheck profile WORDS NEW [--names FILE]
@@ -49,6 +53,11 @@ that lacks names or effects leaves rules unchecked: which, a warning says.
               and lines that begin with # are passed over.
 --profile FILE  The image of a league's profile: what it bans and what it prices.
 --allowance N   How many points the league allows, with --profile.
+--pairs N     A page that takes so many items with a result; a fit that has
+              more is refused by 13. Else the main page, which takes 256.
+--skills N    A page that takes so many wanted skills of a result; one that
+              wants more is refused by 13, in its place among the skills. Else
+              the main page, which takes 512.
 --types FILE  The catalogue in words; else types.txt beside FIT.txt or one
               folder above it.
 --out FOLDER  Where the images go; else beside FIT.txt.
@@ -84,6 +93,8 @@ pub struct Explain {
     pub names: Option<PathBuf>,
     /// A league's profile and what it allows.
     pub league: Option<(PathBuf, u32)>,
+    /// How much the page takes.
+    pub limits: Limits,
     pub json: bool,
 }
 
@@ -127,12 +138,14 @@ struct Words {
 }
 
 /// Options that have a value, and what it is.
-const VALUED: [(&str, &str); 5] = [
+const VALUED: [(&str, &str); 7] = [
     ("--names", "file"),
     ("--types", "file"),
     ("--out", "folder"),
     ("--profile", "file"),
     ("--allowance", "number"),
+    ("--pairs", "number"),
+    ("--skills", "number"),
 ];
 
 impl Words {
@@ -250,6 +263,7 @@ fn explain(
         fit,
         names: words.value("--names"),
         league: league(words)?,
+        limits: limits(words)?,
         json: std::mem::take(&mut words.json),
     }))
 }
@@ -263,14 +277,31 @@ fn league(words: &mut Words) -> Result<Option<(PathBuf, u32)>, String> {
         (Some(_), None) => Err("--profile wants --allowance beside it".to_string()),
         (None, Some(_)) => Err("--allowance wants --profile beside it".to_string()),
         (Some(profile), Some(allowance)) => {
-            let number = allowance.to_str().and_then(|word| word.parse().ok());
-            let number = number.ok_or_else(|| {
-                let shown = allowance.display();
-                format!("--allowance {shown} is no whole number up to {}", u32::MAX)
-            })?;
+            let number = number("--allowance", allowance)?;
             Ok(Some((profile, number)))
         }
     }
+}
+
+/// The main page's limits, but for those that are named.
+fn limits(words: &mut Words) -> Result<Limits, String> {
+    let mut limits = Limits::main();
+    if let Some(most) = words.value("--pairs") {
+        limits = limits.pairs(number("--pairs", most)?);
+    }
+    if let Some(most) = words.value("--skills") {
+        limits = limits.skills(number("--skills", most)?);
+    }
+    Ok(limits)
+}
+
+/// The number that is an option's value.
+fn number(option: &str, value: PathBuf) -> Result<u32, String> {
+    let number = value.to_str().and_then(|word| word.parse().ok());
+    number.ok_or_else(|| {
+        let shown = value.display();
+        format!("{option} {shown} is no whole number up to {}", u32::MAX)
+    })
 }
 
 /// A path, or `-` for standard input where it does not stand behind `--`.
@@ -300,6 +331,7 @@ mod tests {
             fit: file("f"),
             names: Some("n".into()),
             league: None,
+            limits: Limits::main(),
             json: true,
         });
         for line in [
@@ -326,6 +358,7 @@ mod tests {
             fit: file("f"),
             names: None,
             league: Some(("p".into(), 120)),
+            limits: Limits::main(),
             json: false,
         });
         for line in [
@@ -348,12 +381,36 @@ mod tests {
     }
 
     #[test]
+    fn a_limit_that_is_not_named_is_the_main_pages() {
+        let under = |limits: Limits| {
+            Command::Explain(Explain {
+                catalogue: file("c"),
+                fit: file("f"),
+                names: None,
+                league: None,
+                limits,
+                json: false,
+            })
+        };
+        let main = Limits::main();
+        for (line, limits) in [
+            ("explain c f --pairs 64", main.pairs(64)),
+            ("explain --skills=0 c f", main.skills(0)),
+            ("explain c f --skills 5 --pairs 7", main.pairs(7).skills(5)),
+            ("explain c f --pairs 4294967295 --skills 513", main),
+        ] {
+            assert_eq!(parsed(line), Ok(under(limits)), "{line}");
+        }
+    }
+
+    #[test]
     fn a_dash_is_standard_input() {
         let piped = Command::Explain(Explain {
             catalogue: file("c"),
             fit: Source::StandardInput,
             names: None,
             league: None,
+            limits: Limits::main(),
             json: false,
         });
         assert_eq!(parsed("explain c -"), Ok(piped));
@@ -398,6 +455,18 @@ mod tests {
             ),
             ("explain c f --allowance", "--allowance wants a number"),
             ("hall c f --profile p", "hall takes no --profile"),
+            (
+                "explain c f --pairs -1",
+                "--pairs -1 is no whole number up to 4294967295",
+            ),
+            (
+                "explain c f --skills 4294967296",
+                "--skills 4294967296 is no whole number up to 4294967295",
+            ),
+            ("explain c f --pairs", "--pairs wants a number"),
+            ("explain c f --skills 1 --skills 1", "--skills stands twice"),
+            ("hall c f --pairs 64", "hall takes no --pairs"),
+            ("hall c f --skills 64", "hall takes no --skills"),
             ("profile w", "profile wants a NEW"),
             ("pack f --out=", "--out wants a folder"),
             ("explain c f --jsn", "there is no option --jsn"),

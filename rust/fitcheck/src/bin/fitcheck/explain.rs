@@ -13,14 +13,15 @@ pub fn run(asked: &Explain, out: &mut impl Write) -> Result<u8, Trouble> {
     let catalogue = files::catalogue(&asked.catalogue)?;
     let fit = files::fit(&asked.fit)?;
 
-    let mut options = ListOptions::new();
+    let mut options = ListOptions::new().limits(asked.limits);
     let profile;
     if let Some((path, allowance)) = &asked.league {
         profile = files::profile(path)?;
         options = options.league(&profile, *allowance);
     }
 
-    let made = Report::new(&catalogue, &fit, &options, &SkillOptions::new());
+    let of_skills = SkillOptions::new().limits(asked.limits);
+    let made = Report::new(&catalogue, &fit, &options, &of_skills);
     let report = match made {
         Ok(report) => report,
         Err(refusal) => return refused(out, &blamed(asked, refusal), refusal, asked.json),
