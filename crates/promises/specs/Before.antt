@@ -1,5 +1,5 @@
--- The list call as it was: before drones were totalled without loss, when refusal 7 stood in front of 10; and before there were leagues,
--- when it gave the Rust's list, with the types that are missing behind it.
+-- The list call in other forms: as it was before drones were totalled without loss, when refusal 7 stood in front of 10, today's list and all;
+-- and one that knows no leagues, which gives the Rust's list with the types that are missing behind it.
 use Prim.Native.Nat.{ℕ}
 use mathlib.Core.Bool.{Bool, true, false, _&&_}
 use mathlib.Core.List.{List, _∷_, _++_}
@@ -30,7 +30,7 @@ listBefore t catalogue fit buffer =
     let es = wholeList t c f in
     answer (inputRefusals t catalogue fit ++ (7, tooManyDrones c f) ∷ bufferRefusals buffer es) es
 
--- with no profile to bring
+-- a call that brings no profile
 unfoldable pub rustCall : (catalogue fit buffer : List ℕ) → Answer
 rustCall catalogue fit buffer =
     let c = catalogueOf catalogue in

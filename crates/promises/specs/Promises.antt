@@ -78,8 +78,8 @@ ListAsBefore = (t : Terms) (catalogue fit buffer : List ℕ)
     → (refusal (outcome buffer (listBefore t catalogue fit buffer)) ≡ 7 → ⊥)
     → listOutcome t catalogue fit buffer ≡ outcome buffer (listBefore t catalogue fit buffer)
 
--- P2. Without a profile, whatever the allowance, a list call that 13 does not refuse leaves what it left before there were leagues, the word
--- and every byte: the Rust's list with the missing types behind it, or the number that refused it.
+-- P2. Without a profile, whatever the allowance, a list call that 13 does not refuse leaves what one that knows no leagues would, the word and
+-- every byte: the Rust's list with the missing types behind it, or the number that refuses it.
 abbrev pub NoProfile : Type 0
 NoProfile = (t : Terms) (catalogue fit buffer : List ℕ) → t .profile ≡ []
     → (refusal (listOutcome t catalogue fit buffer) ≡ 13 → ⊥)

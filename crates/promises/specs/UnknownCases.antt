@@ -10,7 +10,7 @@ use Rattle.entry.specs.declared.Rule.the-variants.{WrongSlot, NotAModule, NotAD
 use Rattle.entry.specs.declared.Rule.the-variants.{NotASkill, Banned, Points, UnknownType}
 use Rattle.entry.specs.Entries.{onShip, onItem}
 use Rattle.lists.specs.Terms.{terms}
-use Rattle.promises.specs.Cases.{typed, ship, gun, ore, unknown, known, result, Thing, stack, one, fit}
+use Rattle.promises.specs.Cases.{typed, ship, structure, gun, ore, unknown, known, base, result, Thing, stack, one, fit}
 use Rattle.promises.specs.Cases.{Fitted, InLeague, ListCall, HallCall, Number, Entries, Returns, Case}
 use Rattle.promises.specs.CallCases.{words, small}
 use Rattle.promises.specs.LeagueCases.{profile, ban}
@@ -31,6 +31,16 @@ plain links = record {
   types = typed 0 0 0 ∷ typed 1 25 6 ∷ [];
   links = links;
   bases = [];
+}
+
+-- a missing type with a base value, marked as a turret
+abbrev based : Catalogue
+based = record {
+  names = [];
+  effects = known [] .effects;
+  types = typed 1 25 6 ∷ [];
+  links = record { type = unknown; effect = pos 207 } ∷ [];
+  bases = base 99 0 1 ∷ [];
 }
 
 -- a mode, skills, and things of which the last has no result
@@ -103,6 +113,11 @@ UNKNOWNS =
     ∷ (Fitted (known []) (fit gun [] (one unknown 11 0 [] ∷ [])), Entries (onShip NotAHull ∷ []))
     -- type 0, where the catalogue has none
     ∷ lists (one (pos 0) 11 0 [] ∷ []) (onItem 0 (UnknownType (pos 0)) ∷ [])
+    -- on a structure and in a container, as on a ship
+    ∷ (Fitted (known []) (fit structure [] (one unknown 11 0 [] ∷ [])), Entries (onItem 0 (UnknownType unknown) ∷ []))
+    ∷ (Fitted (known []) (fit (pos 3) [] (one unknown 11 0 [] ∷ [])), Entries (onItem 0 (UnknownType unknown) ∷ []))
+    -- base values under its id and a turret's mark do not make it known
+    ∷ (Fitted based (fit ship [] (one unknown 11 0 [] ∷ [])), Entries (onItem 0 (UnknownType unknown) ∷ []))
     ∷ []
 
 -- ship 1 with one of a type in its hold

@@ -50,7 +50,8 @@ extern "C" {
  * and then the allowance is not read. `pairs` and `skills` are what the page
  * takes: a fit with more pairs is refused by 13; no list asks for skills. A
  * number above the main page's counts as that. A hull's list ends with
- * FITCHECK_UNKNOWN_TYPE for each item whose type the catalogue lacks. */
+ * FITCHECK_UNKNOWN_TYPE for each item with a result whose type the catalogue
+ * lacks. */
 uint64_t fit_list(const uint8_t *catalogue, size_t catalogue_length,
                   const uint8_t *fit, size_t fit_length,
                   const uint8_t *profile, size_t profile_length,

@@ -16,8 +16,8 @@ const LAST_ROOM: usize = 1 << 20;
 
 /// Every rule that the fit breaks, in the order of the original's `validate`;
 /// behind them what a league has to say, where the options bring one, and then
-/// [`Rule::UnknownType`](crate::Rule::UnknownType) for each item whose type the
-/// catalogue lacks. With an
+/// [`Rule::UnknownType`](crate::Rule::UnknownType) for each item with a result
+/// whose type the catalogue lacks. With an
 /// empty list the fit is clear to fly where it has as many results as
 /// items: rules look at pairs, and [`FitImage::unpaired`] says what is left.
 ///
