@@ -3,7 +3,7 @@ use Prim.Native.Nat.{ℕ, zero, suc, _*_, _%_, _^_, _≤_}
 use native.Mathlib.Omega.{arith}
 use mathlib.Core.Path.{_≡_, refl, ap, _∙_}
 use mathlib.Core.Bool.{Bool, true, false}
-use mathlib.Core.List.{List, [], _∷_}
+use mathlib.Core.List.{List, [], _∷_, _++_}
 use lib.ListN.{length}
 use borrow.Author.Tests.{ltb-false}
 use Rattle.words.specs.Words.{firstOf}
@@ -12,9 +12,9 @@ use Rattle.catalogue.specs.Catalogue.{catalogueOf}
 use Rattle.fit.specs.Fit.{fitOf}
 use Rattle.entry.specs.declared.Entry.{Entry}
 use Rattle.lists.specs.Terms.{Terms}
-use Rattle.lists.specs.Lists.{wholeList}
-use Rattle.fitcheck.specs.Calls.{Answer, Refused, Listed, answerBy, answer, tooShort, inputRefusals, bufferRefusals, listCall, returned}
-use Rattle.fitcheck.proofs.Giving.{answer-true, answer-false, list-refused, list-past}
+use Rattle.lists.specs.Lists.{listFor}
+use Rattle.fitcheck.specs.Calls.{Answer, Refused, Listed, answerBy, answer, noReader, tooShort, inputRefusals, bufferRefusals, listCall, returned}
+use Rattle.fitcheck.proofs.Giving.{answer-true, answer-false, inputs-refused, inputs-past, list-nobody, list-read}
 
 -- what the word counts
 abbrev counted : Answer → ℕ
@@ -38,12 +38,22 @@ module _ (buffer : List ℕ) (es : List Entry) where
   lent-room true e = refused-room Refusals.tooShort (answer-true Refusals.tooShort [] es (omega arith) e)
   lent-room false e = let z = ap counted (answer-false Refusals.tooShort [] es e) in omega (arith, z, listed-room e)
 
-pub list-room : (t : Terms) (catalogue fit buffer : List ℕ) → 24 * counted (listCall t catalogue fit buffer) ≤ length buffer
-list-room t catalogue fit buffer = go (firstOf (inputRefusals t catalogue fit)) refl
-  where
-    go : (k : ℕ) → firstOf (inputRefusals t catalogue fit) ≡ k → 24 * counted (listCall t catalogue fit buffer) ≤ length buffer
-    go zero e =
-        let es = wholeList t (catalogueOf catalogue) (fitOf fit) in
-        let z = ap counted (list-past t catalogue fit buffer e) in
-        omega (arith, z, lent-room buffer es (tooShort buffer es) refl)
-    go (suc k) e = refused-room buffer [] (suc k) (list-refused t catalogue fit buffer (omega (arith, e)) ∙ ap Refused e)
+module _ (t : Terms) (catalogue fit buffer : List ℕ) where
+  abbrev entries : List Entry
+  entries = listFor t (catalogueOf catalogue) (fitOf fit)
+
+  by-inputs : (k : ℕ) → firstOf (inputRefusals t catalogue fit) ≡ k
+      → 24 * counted (answer (inputRefusals t catalogue fit ++ bufferRefusals buffer entries) entries) ≤ length buffer
+  by-inputs zero e =
+      let z = ap counted (inputs-past t catalogue fit buffer entries e) in
+      omega (arith, z, lent-room buffer entries (tooShort buffer entries) refl)
+  by-inputs (suc k) e = refused-room buffer [] (suc k) (inputs-refused t catalogue fit buffer entries (omega (arith, e)) ∙ ap Refused e)
+
+  by-reader : (b : Bool) → noReader t ≡ b → 24 * counted (listCall t catalogue fit buffer) ≤ length buffer
+  by-reader true e = refused-room buffer [] Refusals.noReader (list-nobody t catalogue fit buffer e)
+  by-reader false e =
+      let z = ap counted (list-read t catalogue fit buffer e) in
+      omega (arith, z, by-inputs (firstOf (inputRefusals t catalogue fit)) refl)
+
+  pub list-room : 24 * counted (listCall t catalogue fit buffer) ≤ length buffer
+  list-room = by-reader (noReader t) refl

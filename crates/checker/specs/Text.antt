@@ -39,7 +39,7 @@ closing (suc n) count = refused (suc n)
 unfoldable pub textOf : ℕ → List ℕ → List ℕ
 textOf word buffer = lines buffer (word % 2 ^ 32) ++ closing (word / 2 ^ 32) (word % 2 ^ 32)
 
--- the main page's list call with no profile and 65,520 bytes lent, printed
+-- the officer's list call on the main page with no profile and 65,520 bytes lent, printed
 unfoldable pub checked : (catalogue fit : List ℕ) → List ℕ
 checked catalogue fit =
     let buffer = replicate {A = ℕ} 65520 0 in

@@ -1,4 +1,5 @@
 // A list call's answer as text: specs/Text.antt.
+use numbers::readers;
 use numbers::sizes;
 ghost use mathlib.Core.Path.{_≡_};
 ghost use Prim.Native.Nat.{_+_, _*_, _/_, _%_, _<_, _≤_, _^_};
@@ -109,6 +110,7 @@ pub fn checked(catalogue: &[u8], fit: &[u8], text: &mut [u8]) -> usize
     let mut buffer = [0u8; 65520];
     let none = [0u8; 0];
     let word = fitcheck::fit_list(
+        readers::OFFICER,
         catalogue,
         fit,
         &none,

@@ -55,6 +55,15 @@ first-past limit (x ∷ l) m a e = go (x .1) e (first-past limit l m (a .2))
     go true e f = absurd (omega (arith, e, a .0))
     go false e f = f e
 
+-- lists whose first numbers are the same, two and two
+pub first-join : (limit : ℕ) (l l′ m m′ : List (ℕ × Bool)) → Numbered limit l → Numbered limit l′ → firstOf l ≡ firstOf l′ → firstOf m ≡ firstOf m′
+    → firstOf (l ++ m) ≡ firstOf (l′ ++ m′)
+first-join limit l l′ m m′ n n′ e d = go (firstOf l) refl
+  where
+    go : (k : ℕ) → firstOf l ≡ k → firstOf (l ++ m) ≡ firstOf (l′ ++ m′)
+    go zero q = first-past limit l m n q ∙ d ∙ sym (first-past limit l′ m′ n′ (sym e ∙ q))
+    go (suc k) q = first-kept l m (omega (arith, q)) ∙ e ∙ sym (first-kept l′ m′ (omega (arith, q, e)))
+
 -- ---- of both images
 pub numbered-catalogue : (catalogue : List ℕ) → Numbered 6 (catalogueRefusals catalogue)
 unfolding catalogueRefusals

@@ -15,8 +15,9 @@ use Rattle.entry.specs.declared.Entry.{Entry}
 use Rattle.entry.specs.Wrote.{Wrote}
 use Rattle.entry.proofs.Wrote.{wrote-count, wrote-written, wrote-none, wrote-same}
 use Rattle.lists.specs.Terms.{Terms}
-use Rattle.lists.specs.Lists.{wholeList}
-use Rattle.fitcheck.specs.Calls.{Answer, Refused, answerBy, answer, tooShort, inputRefusals, listCall, returned, buffered}
+use Rattle.lists.specs.Lists.{listFor}
+use Rattle.fitcheck.specs.Calls.{Answer, Refused, answerBy, answer, tooShort, noReader, inputRefusals, bufferRefusals, listCall}
+use Rattle.fitcheck.specs.Calls.{returned, buffered}
 use Rattle.fitcheck.specs.Gave.{Gave, lent}
 use Rattle.fitcheck.proofs.First.{Numbered, first-kept, first-past, numbered-inputs}
 
@@ -76,13 +77,23 @@ module _ {b : List ℕ} (es : List Entry) where
       nil [] q = refl
       nil (x ∷ l) q = absurd (omega arith)
 
--- ---- the list call, by the refusals of all that it brings
-module _ (t : Terms) (catalogue fit buffer : List ℕ) where
-  pub list-refused : 0 < firstOf (inputRefusals t catalogue fit) → listCall t catalogue fit buffer ≡ Refused (firstOf (inputRefusals t catalogue fit))
-  unfolding listCall
-  list-refused h = answer-kept (inputRefusals t catalogue fit) _ _ h
+-- ---- the list call of a reader that there is, by the refusals of all that it brings
+module _ (t : Terms) (catalogue fit buffer : List ℕ) (es : List Entry) where
+  pub inputs-refused : 0 < firstOf (inputRefusals t catalogue fit)
+      → answer (inputRefusals t catalogue fit ++ bufferRefusals buffer es) es ≡ Refused (firstOf (inputRefusals t catalogue fit))
+  inputs-refused h = answer-kept (inputRefusals t catalogue fit) _ _ h
 
-  pub list-past : firstOf (inputRefusals t catalogue fit) ≡ 0
-      → listCall t catalogue fit buffer ≡ lent buffer (wholeList t (catalogueOf catalogue) (fitOf fit))
+  pub inputs-past : firstOf (inputRefusals t catalogue fit) ≡ 0 → answer (inputRefusals t catalogue fit ++ bufferRefusals buffer es) es ≡ lent buffer es
+  inputs-past e = answer-past (inputRefusals t catalogue fit) _ _ 13 (numbered-inputs t catalogue fit) e
+
+-- ---- the list call, by its reader
+module _ (t : Terms) (catalogue fit buffer : List ℕ) where
+  pub list-nobody : noReader t ≡ true → listCall t catalogue fit buffer ≡ Refused Refusals.noReader
   unfolding listCall
-  list-past e = answer-past (inputRefusals t catalogue fit) _ _ 13 (numbered-inputs t catalogue fit) e
+  list-nobody e = answer-true Refusals.noReader _ _ (omega arith) e
+
+  pub list-read : noReader t ≡ false
+      → (let es = listFor t (catalogueOf catalogue) (fitOf fit) in
+      listCall t catalogue fit buffer ≡ answer (inputRefusals t catalogue fit ++ bufferRefusals buffer es) es)
+  unfolding listCall
+  list-read e = answer-false Refusals.noReader _ _ e

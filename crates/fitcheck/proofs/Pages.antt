@@ -14,8 +14,8 @@ use Rattle.fit.specs.Sound as Fit
 use Rattle.context.specs.Context.{Pair, pairs}
 use Rattle.context.specs.Gathered.{pairCount, pairAt, pairsOf}
 use Rattle.context.proofs.Pairs.{pairs-table}
-use Rattle.lists.specs.Terms.{Terms, limited}
-use Rattle.lists.specs.Lists.{leagueWith, wholeWith, wholeList}
+use Rattle.lists.specs.Terms.{Terms, limited, readBy}
+use Rattle.lists.specs.Lists.{leagueWith, wholeWith, wholeList, forReader, listFor}
 use Rattle.fitcheck.specs.Calls.{overPairs}
 
 pub pairs-length : (catalogue fit : List ℕ) → length (pairs (catalogueOf catalogue) (fitOf fit)) ≡ pairCount fit
@@ -31,6 +31,11 @@ module _ (t : Terms) (catalogue fit : List ℕ) where
   pub pairs-within : Fit.Sound fit → pairCount fit ≤ t .pairs → overPairs t (catalogueOf catalogue) (fitOf fit) ≡ false
   pairs-within sound h = le-ltb _ (length (pairs (catalogueOf catalogue) (fitOf fit))) (omega (arith, h, pairs-length catalogue fit, sound .sized .items))
 
-pub limits-unread : (t : Terms) (pairs skills : ℕ) (c : Catalogue) (f : Fit) → wholeList t c f ≡ wholeList (limited pairs skills t) c f
+-- no list reads a limit, and the whole list no reader
+pub whole-unread : (t : Terms) (reader pairs skills : ℕ) (c : Catalogue) (f : Fit) → wholeList t c f ≡ wholeList (readBy reader (limited pairs skills t)) c f
 unfolding wholeList wholeWith leagueWith
-limits-unread t pairs skills c f = refl
+whole-unread t reader pairs skills c f = refl
+
+pub limits-unread : (t : Terms) (pairs skills : ℕ) (c : Catalogue) (f : Fit) → listFor t c f ≡ listFor (limited pairs skills t) c f
+unfolding listFor
+limits-unread t pairs skills c f = ap (forReader (t .reader)) (whole-unread t (t .reader) pairs skills c f)

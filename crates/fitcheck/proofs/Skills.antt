@@ -2,24 +2,27 @@
 use Prim.Native.Nat.{ℕ, _+_, _≤_, _<_}
 use native.Mathlib.Omega.{arith}
 use mathlib.Core.Path.{_≡_, sym, _∙_}
-use mathlib.Core.Bool.{true, false}
-use mathlib.Core.List.{List}
+use mathlib.Core.Bool.{Bool, true, false}
+use mathlib.Core.List.{List, _++_}
 use lib.ListN.{length}
 use borrow.Author.Tests.{lt-ltb, le-ltb}
 use Rattle.words.specs.Words.{firstOf}
 use Rattle.numbers.specs.Sizes as Sizes
+use Rattle.numbers.specs.Refusals as Refusals
 use Rattle.catalogue.specs.Catalogue.{catalogueOf}
 use Rattle.fit.specs.Fit.{fitOf, resultCount}
 use Rattle.fit.proofs.Decoded.{results-length}
+use Rattle.entry.specs.declared.Entry.{Entry}
 use Rattle.skill.specs.Skill.{skillList}
 use Rattle.skill.specs.Held.{HoldsWanted}
 use Rattle.skill.specs.declared.Walk.{Walk}
 use Rattle.skill.proofs.Reports.{too-many}
 use Rattle.skill.proofs.Limits.{over-limit}
 use Rattle.lists.specs.Terms.{Terms, skillLimit}
-use Rattle.fitcheck.specs.Calls.{Refused, answer, noResult, tooManySkills, overSkills, pageRefusals, skillRefusals, skillCall}
+use Rattle.fitcheck.specs.Calls.{Refused, answer, noReader, isGuest, noResult, tooManySkills, overSkills}
+use Rattle.fitcheck.specs.Calls.{pageRefusals, skillRefusals, skillCall}
 use Rattle.fitcheck.proofs.First.{numbered-page}
-use Rattle.fitcheck.proofs.Giving.{answer-kept, answer-past}
+use Rattle.fitcheck.proofs.Giving.{answer-kept, answer-past, answer-true, answer-false}
 
 -- ---- refusal 8
 module _ (fit : List ℕ) (result : ℕ) where
@@ -47,15 +50,31 @@ module _ (catalogue fit : List ℕ) (result : ℕ) (w : Walk) (v : HoldsWanted c
     within-page l =
         sym (over-limit (skillLimit t) catalogue fit result w v held h (omega arith)) ∙ le-ltb (skillLimit t) (w .len) (omega (arith, l, held))
 
--- ---- the call
+-- ---- the call of a pilot or an officer
 module _ (t : Terms) (catalogue fit : List ℕ) (result : ℕ) (buffer : List ℕ) where
-  pub skill-refused : 0 < firstOf (pageRefusals t catalogue fit)
-      → skillCall t catalogue fit result buffer ≡ Refused (firstOf (pageRefusals t catalogue fit))
-  unfolding skillCall
-  skill-refused h = answer-kept (pageRefusals t catalogue fit) _ _ h
+  abbrev entries : List Entry
+  entries = skillList (catalogueOf catalogue) (fitOf fit) result
 
-  pub skill-past : firstOf (pageRefusals t catalogue fit) ≡ 0
-      → skillCall t catalogue fit result buffer
-      ≡ answer (skillRefusals t (catalogueOf catalogue) (fitOf fit) result buffer) (skillList (catalogueOf catalogue) (fitOf fit) result)
+  abbrev own : List (ℕ × Bool)
+  own = skillRefusals t (catalogueOf catalogue) (fitOf fit) result buffer
+
+  pub page-refused : 0 < firstOf (pageRefusals t catalogue fit)
+      → answer (pageRefusals t catalogue fit ++ own) entries ≡ Refused (firstOf (pageRefusals t catalogue fit))
+  page-refused h = answer-kept (pageRefusals t catalogue fit) _ _ h
+
+  pub page-past : firstOf (pageRefusals t catalogue fit) ≡ 0 → answer (pageRefusals t catalogue fit ++ own) entries ≡ answer own entries
+  page-past e = answer-past (pageRefusals t catalogue fit) _ _ 13 (numbered-page t catalogue fit) e
+
+  -- ---- the call, by its reader
+  pub skill-nobody : noReader t ≡ true → skillCall t catalogue fit result buffer ≡ Refused Refusals.noReader
   unfolding skillCall
-  skill-past e = answer-past (pageRefusals t catalogue fit) _ _ 13 (numbered-page t catalogue fit) e
+  skill-nobody e = answer-true Refusals.noReader _ _ (omega arith) e
+
+  module _ (somebody : noReader t ≡ false) where
+    pub skill-guest : isGuest t ≡ true → skillCall t catalogue fit result buffer ≡ Refused Refusals.notForGuests
+    unfolding skillCall
+    skill-guest e = answer-false Refusals.noReader _ _ somebody ∙ answer-true Refusals.notForGuests _ _ (omega arith) e
+
+    pub skill-read : isGuest t ≡ false → skillCall t catalogue fit result buffer ≡ answer (pageRefusals t catalogue fit ++ own) entries
+    unfolding skillCall
+    skill-read e = answer-false Refusals.noReader _ _ somebody ∙ answer-false Refusals.notForGuests _ _ e

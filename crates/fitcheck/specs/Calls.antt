@@ -3,11 +3,12 @@
 use Prim.Native.Nat.{ℕ, zero, suc, _+_, _*_}
 use mathlib.Core.Bool.{Bool, false}
 use mathlib.Core.List.{List, [], _∷_, _++_}
-use lib.Dec.{ltb}
+use lib.Dec.{eqb, ltb}
 use lib.ListN.{length}
 use Rattle.words.specs.Words.{given, firstOf}
 use Rattle.numbers.specs.Sizes as Sizes
 use Rattle.numbers.specs.Refusals as Refusals
+use Rattle.numbers.specs.Readers as Readers
 use Rattle.catalogue.specs.Catalogue.{Catalogue, catalogueOf}
 use Rattle.catalogue.specs.Refusals.{catalogueRefusals}
 use Rattle.fit.specs.Fit.{Fit, fitOf, resultAt}
@@ -18,7 +19,7 @@ use Rattle.profile.specs.Profile.{profileRefusals}
 use Rattle.context.specs.Context.{pairs}
 use Rattle.skill.specs.Skill.{tooMany, skillList}
 use Rattle.lists.specs.Terms.{Terms, pairLimit, skillLimit}
-use Rattle.lists.specs.Lists.{wholeList}
+use Rattle.lists.specs.Lists.{listFor}
 
 pub data Answer : Type 0 where
   Refused : ℕ → Answer
@@ -31,6 +32,14 @@ answerBy (suc n) es = Refused (suc n)
 
 unfoldable pub answer : List (ℕ × Bool) → List Entry → Answer
 answer refusals es = answerBy (firstOf refusals) es
+
+-- 19: the reader's number is nobody's
+abbrev pub noReader : Terms → Bool
+noReader t = ltb Readers.officer (t .reader)
+
+-- 20: a guest's call
+abbrev pub isGuest : Terms → Bool
+isGuest t = eqb (t .reader) Readers.guest
 
 -- 8: the result number is over R + 1
 abbrev pub noResult : Fit → ℕ → Bool
@@ -79,15 +88,19 @@ skillRefusals t c f result buffer =
 -- ---- the calls
 unfoldable pub listCall : Terms → (catalogue fit buffer : List ℕ) → Answer
 listCall t catalogue fit buffer =
-    let es = wholeList t (catalogueOf catalogue) (fitOf fit) in
-    answer (inputRefusals t catalogue fit ++ bufferRefusals buffer es) es
+    let es = listFor t (catalogueOf catalogue) (fitOf fit) in
+    answer ((Refusals.noReader, noReader t) ∷ (inputRefusals t catalogue fit ++ bufferRefusals buffer es)) es
 
--- it reads the limits of its terms alone
+-- it reads the reader and the limits of its terms alone
 unfoldable pub skillCall : Terms → (catalogue fit : List ℕ) (result : ℕ) (buffer : List ℕ) → Answer
 skillCall t catalogue fit result buffer =
     let c = catalogueOf catalogue in
     let f = fitOf fit in
-    answer (pageRefusals t catalogue fit ++ skillRefusals t c f result buffer) (skillList c f result)
+    answer
+    ((Refusals.noReader, noReader t)
+    ∷ (Refusals.notForGuests, isGuest t)
+    ∷ (pageRefusals t catalogue fit ++ skillRefusals t c f result buffer))
+    (skillList c f result)
 
 -- the buffer afterwards: a refusal writes nothing, a list its own entries from byte 0
 unfoldable pub buffered : List ℕ → Answer → List ℕ

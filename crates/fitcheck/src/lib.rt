@@ -1,10 +1,13 @@
 // The calls, exported on numbers and byte slices: document 01, "Refusals in their order" and "Hall number"; document 02.
 mod hall;
 
+use lists::Asked;
+use numbers::readers;
 use numbers::refusals;
 use numbers::sizes;
 use skill::Walk;
 ghost use mathlib.Core.Path.{_≡_};
+ghost use mathlib.Core.List.{_++_};
 ghost use Prim.Native.Nat.{_+_, _*_, _<_, _≤_};
 ghost use Rattle.words.specs.Words.{firstOf};
 ghost use Rattle.numbers.specs.Sizes as Sizes;
@@ -17,9 +20,9 @@ ghost use Rattle.context.specs.Gathered.{Gathered};
 ghost use Rattle.profile.specs.Sound as Profile;
 ghost use Rattle.skill.specs.Skill.{reported, skillList};
 ghost use Rattle.skill.specs.Held.{walkOf};
-ghost use Rattle.lists.specs.Terms.{terms, limited, main};
-ghost use Rattle.lists.specs.Lists.{wholeList};
-ghost use Rattle.fitcheck.specs.Calls.{answer, imageRefusals, pageRefusals, inputRefusals, skillRefusals};
+ghost use Rattle.lists.specs.Terms.{terms, limited, readBy, main};
+ghost use Rattle.lists.specs.Lists.{listFor};
+ghost use Rattle.fitcheck.specs.Calls.{answer, imageRefusals, pageRefusals, inputRefusals, bufferRefusals, skillRefusals};
 ghost use Rattle.fitcheck.specs.Calls.{listCall, skillCall, returned, buffered};
 ghost use Rattle.fitcheck.specs.Gave.{Gave, lent};
 ghost use Rattle.fitcheck.specs.Hall.{hallCall, hallReturned};
@@ -87,56 +90,74 @@ fn input_refusal(catalogue: &[u8], fit: &[u8], pairs: u32, profile: &[u8]) -> u6
 
 // The list for a buffer that may be too short: it is counted first, and an empty list is not run again.
 fn counted_list(
+    asked: Asked,
     catalogue: &[u8],
     fit: &[u8],
     profile: &[u8],
-    allowance: u32,
     facts: &[u32; 2054],
     hints: &mut [u32],
     out: &mut [u8],
 ) -> u64
     requires { ⌜ Gathered (now catalogue) (now fit) (now facts) × Profile.Sound (now profile) ⌝ }
     ensures { λ r.
-        let t = terms (now (profile .entry)) allowance in
-        let es = wholeList t (catalogueOf (now (catalogue .entry))) (fitOf (now (fit .entry))) in
+        let t = readBy (asked .reader) (terms (now (profile .entry)) (asked .allowance)) in
+        let es = listFor t (catalogueOf (now (catalogue .entry))) (fitOf (now (fit .entry))) in
         ⌜ Gave (now (out .entry)) (now (out .exit)) r (lent (now (out .entry)) es) ⌝ }
 {
     let mut none = [0u8; 0];
-    let count = lists::write(catalogue, fit, profile, allowance, facts, hints, &mut none);
+    let count = lists::write(asked, catalogue, fit, profile, facts, hints, &mut none);
     if count == 0 {
         return 0;
     }
     if out.len() / sizes::ENTRY_SIZE < count {
         return refused(refusals::TOO_SHORT);
     }
-    lists::write(catalogue, fit, profile, allowance, facts, hints, out) as u64
+    lists::write(asked, catalogue, fit, profile, facts, hints, out) as u64
 }
 
 // The list call on images and a profile that are accepted.
-fn list_accepted(
-    catalogue: &[u8],
-    fit: &[u8],
-    profile: &[u8],
-    allowance: u32,
-    out: &mut [u8],
-) -> u64
+fn list_accepted(asked: Asked, catalogue: &[u8], fit: &[u8], profile: &[u8], out: &mut [u8]) -> u64
     requires { ⌜ Catalogue.Sound (now catalogue) × Fit.Sound (now fit) × Profile.Sound (now profile) ⌝ }
     ensures { λ r.
-        let t = terms (now (profile .entry)) allowance in
-        let es = wholeList t (catalogueOf (now (catalogue .entry))) (fitOf (now (fit .entry))) in
+        let t = readBy (asked .reader) (terms (now (profile .entry)) (asked .allowance)) in
+        let es = listFor t (catalogueOf (now (catalogue .entry))) (fitOf (now (fit .entry))) in
         ⌜ Gave (now (out .entry)) (now (out .exit)) r (lent (now (out .entry)) es) ⌝ }
 {
     let mut hints = [0u32; context::LIST_HINTS];
     let facts = context::gather(catalogue, fit, &mut hints);
     if out.len() < ANY_LIST {
-        return counted_list(catalogue, fit, profile, allowance, &facts, &mut hints, out);
+        return counted_list(asked, catalogue, fit, profile, &facts, &mut hints, out);
     }
-    lists::write(catalogue, fit, profile, allowance, &facts, &mut hints, out) as u64
+    lists::write(asked, catalogue, fit, profile, &facts, &mut hints, out) as u64
 }
 
-// The list call: every rule that a fit breaks, those of a league with it. A list wants no skills, and the limit of skills is not read.
+// The list call of a reader that there is.
+fn read_list(
+    asked: Asked,
+    catalogue: &[u8],
+    fit: &[u8],
+    profile: &[u8],
+    pairs: u32,
+    out: &mut [u8],
+) -> u64
+    ensures { λ r.
+        let t = readBy (asked .reader) (limited pairs 0 (terms (now (profile .entry)) (asked .allowance))) in
+        let es = listFor t (catalogueOf (now (catalogue .entry))) (fitOf (now (fit .entry))) in
+        let refusals = inputRefusals t (now (catalogue .entry)) (now (fit .entry)) ++ bufferRefusals (now (out .entry)) es in
+        ⌜ Gave (now (out .entry)) (now (out .exit)) r (answer refusals es) ⌝ }
+{
+    let first = input_refusal(catalogue, fit, pairs, profile);
+    if 0 < first {
+        return refused(first);
+    }
+    list_accepted(asked, catalogue, fit, profile, out)
+}
+
+// The list call: every rule that a fit breaks, those of a league with it; a guest is not told of skills. A list wants none, and the limit
+// of skills is not read.
 #[no_mangle]
 pub extern "C" fn fit_list(
+    reader: u32,
     catalogue: &[u8],
     fit: &[u8],
     profile: &[u8],
@@ -146,15 +167,15 @@ pub extern "C" fn fit_list(
     out: &mut [u8],
 ) -> u64
     ensures { λ r.
-        let t = limited pairs skills (terms (now (profile .entry)) allowance) in
+        let t = readBy reader (limited pairs skills (terms (now (profile .entry)) allowance)) in
         let call = listCall t (now (catalogue .entry)) (now (fit .entry)) (now (out .entry)) in
         ⌜ (r ≡ returned call) × (now (out .exit) ≡ buffered (now (out .entry)) call) ⌝ }
 {
-    let first = input_refusal(catalogue, fit, pairs, profile);
-    if 0 < first {
-        return refused(first);
+    if readers::OFFICER < reader {
+        return refused(refusals::NO_READER);
     }
-    list_accepted(catalogue, fit, profile, allowance, out)
+    let asked = Asked { reader, allowance };
+    read_list(asked, catalogue, fit, profile, pairs, out)
 }
 
 // The skill list of a walk.
@@ -200,9 +221,8 @@ fn skill_accepted(catalogue: &[u8], fit: &[u8], result: u32, skills: u32, out: &
     skill_list(fit, result, walk, out)
 }
 
-// The skill call: the skills that a result wants and that are trained lower.
-#[no_mangle]
-pub extern "C" fn fit_skill(
+// The skill call of a pilot or an officer.
+fn read_skills(
     catalogue: &[u8],
     fit: &[u8],
     result: u32,
@@ -212,14 +232,41 @@ pub extern "C" fn fit_skill(
 ) -> u64
     ensures { λ r.
         let t = limited pairs skills main in
-        let call = skillCall t (now (catalogue .entry)) (now (fit .entry)) result (now (out .entry)) in
-        ⌜ (r ≡ returned call) × (now (out .exit) ≡ buffered (now (out .entry)) call) ⌝ }
+        let c = catalogueOf (now (catalogue .entry)) in
+        let f = fitOf (now (fit .entry)) in
+        let refusals = pageRefusals t (now (catalogue .entry)) (now (fit .entry)) ++ skillRefusals t c f result (now (out .entry)) in
+        ⌜ Gave (now (out .entry)) (now (out .exit)) r (answer refusals (skillList c f result)) ⌝ }
 {
     let refusal = page_refusal(catalogue, fit, pairs);
     if 0 < refusal {
         return refused(refusal);
     }
     skill_accepted(catalogue, fit, result, skills, out)
+}
+
+// The skill call: the skills that a result wants and that are trained lower. They are not for guests.
+#[no_mangle]
+pub extern "C" fn fit_skill(
+    reader: u32,
+    catalogue: &[u8],
+    fit: &[u8],
+    result: u32,
+    pairs: u32,
+    skills: u32,
+    out: &mut [u8],
+) -> u64
+    ensures { λ r.
+        let t = readBy reader (limited pairs skills main) in
+        let call = skillCall t (now (catalogue .entry)) (now (fit .entry)) result (now (out .entry)) in
+        ⌜ (r ≡ returned call) × (now (out .exit) ≡ buffered (now (out .entry)) call) ⌝ }
+{
+    if readers::OFFICER < reader {
+        return refused(refusals::NO_READER);
+    }
+    if reader == readers::GUEST {
+        return refused(refusals::NOT_FOR_GUESTS);
+    }
+    read_skills(catalogue, fit, result, pairs, skills, out)
 }
 
 // The hall call: how many of up to 64 fits are clear, faulted and refused. The catalogue is checked once for all of them.
@@ -258,8 +305,8 @@ pub extern "C" fn fit_widen(old: &[u8], out: &mut [u8]) -> u64
 
 // The number of this set of calls and images, in the symbol's name: a caller written for another set does not link.
 #[no_mangle]
-pub extern "C" fn fit_interface_5() -> u64
-    ensures { λ r. ⌜ r ≡ 5 ⌝ }
+pub extern "C" fn fit_interface_6() -> u64
+    ensures { λ r. ⌜ r ≡ 6 ⌝ }
 {
-    5
+    6
 }

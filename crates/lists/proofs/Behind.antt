@@ -16,19 +16,34 @@ use Rattle.validate.specs.Kind.{isHull}
 use Rattle.validate.specs.Validate.{listOf}
 use Rattle.lists.specs.Terms.{Terms, terms}
 use Rattle.lists.specs.Unknown.{unknownTypes}
-use Rattle.lists.specs.Lists.{onHull, leagueOf, leagueWith, wholeWith, leagueList, wholeList}
+use Rattle.lists.specs.Lists.{onHull, leagueOf, leagueWith, wholeWith, leagueList, wholeList, forReader, listFor}
+use Rattle.lists.proofs.Guests.{for-behind}
 
 module _ (catalogue fit : List ℕ) (t : Terms) where
-  pub on-hull : isHull (catalogueOf catalogue) (fitOf fit .frame .ship) ≡ true
+  whole-on-hull : isHull (catalogueOf catalogue) (fitOf fit .frame .ship) ≡ true
       → listOf (catalogueOf catalogue) (fitOf fit) ++ leagueOf t (pairsOf catalogue fit) ++ unknownTypes (catalogueOf catalogue) (pairsOf catalogue fit)
       ≡ wholeList t (catalogueOf catalogue) (fitOf fit)
   unfolding wholeList wholeWith leagueWith onHull listOf pairsOf
-  on-hull e = rw e
+  whole-on-hull e = rw e
 
-  pub no-hull : isHull (catalogueOf catalogue) (fitOf fit .frame .ship) ≡ false
+  whole-off-hull : isHull (catalogueOf catalogue) (fitOf fit .frame .ship) ≡ false
       → listOf (catalogueOf catalogue) (fitOf fit) ≡ wholeList t (catalogueOf catalogue) (fitOf fit)
   unfolding wholeList wholeWith leagueWith onHull listOf
-  no-hull e = rw e (sym (append-nil _ ∙ append-nil _))
+  whole-off-hull e = rw e (sym (append-nil _ ∙ append-nil _))
+
+  pub on-hull : isHull (catalogueOf catalogue) (fitOf fit .frame .ship) ≡ true
+      → forReader (t .reader) (listOf (catalogueOf catalogue) (fitOf fit))
+      ++ leagueOf t (pairsOf catalogue fit) ++ unknownTypes (catalogueOf catalogue) (pairsOf catalogue fit)
+      ≡ listFor t (catalogueOf catalogue) (fitOf fit)
+  unfolding listFor
+  on-hull e =
+      sym (for-behind (t .reader) t (catalogueOf catalogue) (listOf (catalogueOf catalogue) (fitOf fit)) (pairsOf catalogue fit))
+      ∙ ap (forReader (t .reader)) (whole-on-hull e)
+
+  pub no-hull : isHull (catalogueOf catalogue) (fitOf fit .frame .ship) ≡ false
+      → forReader (t .reader) (listOf (catalogueOf catalogue) (fitOf fit)) ≡ listFor t (catalogueOf catalogue) (fitOf fit)
+  unfolding listFor
+  no-hull e = ap (forReader (t .reader)) (whole-off-hull e)
 
 no-league : (allowance : ℕ) (ps : List Pair) → leagueOf (terms [] allowance) ps ≡ []
 unfolding pricesOf tableFrom u32At

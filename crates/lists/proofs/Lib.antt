@@ -1,3 +1,5 @@
 -- Laws of the whole list.
 pub mod Unknowns
+pub mod Numbers
+pub mod Guests
 pub mod Behind

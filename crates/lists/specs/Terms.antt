@@ -2,6 +2,7 @@
 use Prim.Native.Nat.{ℕ, min}
 use mathlib.Core.List.{List, []}
 use Rattle.numbers.specs.Sizes as Sizes
+use Rattle.numbers.specs.Readers as Readers
 
 pub record Terms : Type 0 where
   -- a league profile's bytes, and the points that it allows; no bytes: no profile, and the allowance is not read
@@ -10,16 +11,23 @@ pub record Terms : Type 0 where
   -- how many pairs the page takes, and how many wanted skills of one result
   pub pairs : ℕ
   pub skills : ℕ
+  -- for whom: 0 a guest, 1 a pilot, 2 an officer
+  pub reader : ℕ
 
--- on the main page
+-- an officer's, on the main page
 abbrev pub terms : (profile : List ℕ) → (allowance : ℕ) → Terms
-terms profile allowance = record { profile = profile; allowance = allowance; pairs = Sizes.mostPairs; skills = Sizes.mostWanted }
+terms profile allowance =
+    record { profile = profile; allowance = allowance; pairs = Sizes.mostPairs; skills = Sizes.mostWanted; reader = Readers.officer }
 
 -- on a page with limits of its own
 abbrev pub limited : (pairs skills : ℕ) → Terms → Terms
-limited pairs skills t = record { profile = t .profile; allowance = t .allowance; pairs = pairs; skills = skills }
+limited pairs skills t = record { profile = t .profile; allowance = t .allowance; pairs = pairs; skills = skills; reader = t .reader }
 
--- no profile, on the main page: the hall, `check`, and every other call
+-- for a reader
+abbrev pub readBy : (reader : ℕ) → Terms → Terms
+readBy reader t = record { profile = t .profile; allowance = t .allowance; pairs = t .pairs; skills = t .skills; reader = reader }
+
+-- no profile, on the main page, an officer's: the hall, `check`, and every other call
 abbrev pub main : Terms
 main = terms [] 0
 

@@ -2,6 +2,7 @@
 use entry::Entry;
 use entry::Rule;
 use entry::Target;
+use numbers::readers;
 use numbers::sizes;
 ghost use mathlib.Core.Path.{_≡_};
 ghost use Prim.Native.Nat.{_+_, _≤_, _<_};
@@ -11,9 +12,11 @@ ghost use Rattle.catalogue.specs.Catalogue.{catalogueOf};
 ghost use Rattle.fit.specs.Fit.{fitOf};
 ghost use Rattle.entry.specs.Wrote.{Wrote, Room};
 ghost use Rattle.context.specs.Gathered.{pairCount, pairAt, pairsOf, Gathered};
-ghost use Rattle.lists.specs.Terms.{terms};
+ghost use Rattle.validate.specs.Validate as Rust;
+ghost use Rattle.validate.specs.Validate.{listOf};
+ghost use Rattle.lists.specs.Terms.{terms, readBy};
 ghost use Rattle.lists.specs.Unknown.{unknownTypeAt, unknownTypes};
-ghost use Rattle.lists.specs.Lists.{wholeList, mostEntries};
+ghost use Rattle.lists.specs.Lists.{forReader, listFor, mostEntries};
 
 // No list has more entries: the Rust's, a ban for each pair, the points, a missing type for each pair.
 pub const MOST_ENTRIES: usize = validate::MOST_ENTRIES + sizes::MOST_PAIRS + 1 + sizes::MOST_PAIRS;
@@ -68,26 +71,53 @@ fn unknown_types(
     m
 }
 
-// Every rule that a fit breaks, under a league's profile and allowance. `hints` are those of `catalogue::type_of`.
+// What a list call asks for: whose list it is, and the points that a league allows.
+pub struct Asked {
+    pub reader: u32,
+    pub allowance: u32,
+}
+
+// The Rust's list, as a reader gets it. For a guest no listed skill is looked up.
+fn rust_list(
+    reader: u32,
+    catalogue: &[u8],
+    fit: &[u8],
+    facts: &[u32; 2054],
+    hints: &mut [u32],
+    out: &mut [u8],
+) -> usize
+    requires { ⌜ Gathered (now catalogue) (now fit) (now facts) ⌝ }
+    ensures { λ r.
+        let es = forReader reader (listOf (catalogueOf (now (catalogue .entry))) (fitOf (now (fit .entry)))) in
+        ⌜ Wrote (now (out .entry)) 0 (now (out .exit)) r es × (r ≤ Rust.mostEntries) ⌝ }
+{
+    if reader == readers::GUEST {
+        return validate::without_skills(catalogue, fit, facts, out);
+    }
+    validate::validate(catalogue, fit, facts, hints, out)
+}
+
+// Every rule that a fit breaks and that its reader is told of, under a league's profile and allowance. `hints` are those of
+// `catalogue::type_of`.
 pub fn write(
+    asked: Asked,
     catalogue: &[u8],
     fit: &[u8],
     profile: &[u8],
-    allowance: u32,
     facts: &[u32; 2054],
     hints: &mut [u32],
     out: &mut [u8],
 ) -> usize
     requires { ⌜ Gathered (now catalogue) (now fit) (now facts) × Profile.Sound (now profile) ⌝ }
     ensures { λ r.
-        let t = terms (now (profile .entry)) allowance in
-        let es = wholeList t (catalogueOf (now (catalogue .entry))) (fitOf (now (fit .entry))) in
+        let t = readBy (asked .reader) (terms (now (profile .entry)) (asked .allowance)) in
+        let es = listFor t (catalogueOf (now (catalogue .entry))) (fitOf (now (fit .entry))) in
         ⌜ Wrote (now (out .entry)) 0 (now (out .exit)) r es × (r ≤ mostEntries) ⌝ }
 {
-    let n = validate::validate(catalogue, fit, facts, hints, out);
+    let n = rust_list(asked.reader, catalogue, fit, facts, hints, out);
     if !validate::is_hull(catalogue, fit, facts) {
         return n;
     }
-    let m = league::validate(profile, allowance, catalogue, fit, facts, out, n);
+    let m = league::validate(profile, asked.allowance, catalogue, fit, facts, out, n);
     unknown_types(catalogue, fit, facts, out, m)
 }

@@ -7,4 +7,5 @@ pub mod Limits
 pub mod Categories
 pub mod Groups
 pub mod Sizes
+pub mod Readers
 pub mod Refusals

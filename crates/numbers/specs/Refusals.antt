@@ -47,6 +47,14 @@ badPrices = 12
 abbrev pub overLimit : ℕ
 overLimit = 13
 
+-- a reader's number that is nobody's
+abbrev pub noReader : ℕ
+noReader = 19
+
+-- a guest's skill call
+abbrev pub notForGuests : ℕ
+notForGuests = 20
+
 -- no number is higher
 abbrev pub highest : ℕ
-highest = overLimit
+highest = notForGuests

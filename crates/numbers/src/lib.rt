@@ -4,6 +4,7 @@ pub mod groups;
 pub mod limits;
 pub mod marks;
 pub mod names;
+pub mod readers;
 pub mod refusals;
 pub mod resources;
 pub mod sizes;

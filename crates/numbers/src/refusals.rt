@@ -22,3 +22,7 @@ pub const BAD_PROFILE: u64 = 11;
 pub const BAD_PRICES: u64 = 12;
 
 pub const OVER_LIMIT: u64 = 13;
+
+pub const NO_READER: u64 = 19;
+
+pub const NOT_FOR_GUESTS: u64 = 20;

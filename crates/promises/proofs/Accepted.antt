@@ -12,7 +12,7 @@ use Rattle.context.specs.Context.{pairs}
 use Rattle.entry.specs.declared.Entry.{Entry}
 use Rattle.skill.specs.Skill.{tooMany, skillList}
 use Rattle.lists.specs.Terms.{Terms}
-use Rattle.lists.specs.Lists.{wholeList}
+use Rattle.lists.specs.Lists.{listFor}
 use Rattle.fitcheck.specs.Calls.{tooShort}
 use Rattle.promises.specs.Answers.{Conditions, catalogueConditions, fitConditions, pageConditions, profileConditions}
 use Rattle.promises.specs.Answers.{inputConditions, listConditions, skillConditions, None}
@@ -44,11 +44,11 @@ room-for buffer es h = nltb→le (length buffer) (24 * length es) (h .0)
 
 module _ (t : Terms) (catalogue fit buffer : List ℕ) where
   abbrev entries : List Entry
-  entries = wholeList t (catalogueOf catalogue) (fitOf fit)
+  entries = listFor t (catalogueOf catalogue) (fitOf fit)
 
   module _ (h : None (listConditions t catalogue fit buffer)) where
     abbrev parts : None (inputConditions t catalogue fit) × None ((10, tooShort buffer entries) ∷ [])
-    parts = none-parts (inputConditions t catalogue fit) ((10, tooShort buffer entries) ∷ []) h
+    parts = none-parts (inputConditions t catalogue fit) ((10, tooShort buffer entries) ∷ []) (h .1)
 
     pub list-accepted : Accepted t catalogue fit
     list-accepted = accepted t catalogue fit (parts .0)
@@ -72,7 +72,7 @@ module _ (t : Terms) (catalogue fit : List ℕ) (result : ℕ) (buffer : List �
 
   module _ (h : None (skillConditions t catalogue fit result buffer)) where
     abbrev asked-for : None own
-    asked-for = none-parts (pageConditions t catalogue fit) own h .1
+    asked-for = none-parts (pageConditions t catalogue fit) own (h .1 .1) .1
 
     pub asked : Asked catalogue fit result
     asked = record { inside = nltb→le (length (fitOf fit .results) + 1) result (asked-for .0); few = asked-for .1 .0 }

@@ -4,7 +4,7 @@ use native.Mathlib.Omega.{arith}
 use mathlib.Core.Path.{_≡_}
 use mathlib.Core.Bool.{false}
 use mathlib.Core.List.{List, [], _∷_, _++_}
-use lib.Dec.{ltb, ltb→lt}
+use lib.Dec.{eqb, ltb, ltb→lt}
 use lib.ListN.{length}
 use Rattle.words.specs.Words.{given}
 use Rattle.catalogue.specs.Catalogue.{catalogueOf}
@@ -14,7 +14,7 @@ use Rattle.fit.specs.Refusals.{fitRefusals}
 use Rattle.profile.specs.Profile.{profileRefusals}
 use Rattle.skill.specs.Skill.{tooMany, skillList}
 use Rattle.lists.specs.Terms.{Terms}
-use Rattle.lists.specs.Lists.{wholeList}
+use Rattle.lists.specs.Lists.{listFor}
 use Rattle.fitcheck.specs.Calls.{tooShort, listCall, skillCall}
 use Rattle.promises.specs.Answers.{outcome, refusal, Conditions, pageConditions, inputConditions, listConditions, skillConditions, Answers}
 use Rattle.promises.proofs.Conditions.{none-parts, last-first}
@@ -23,10 +23,10 @@ use Rattle.promises.proofs.Answering.{answers}
 use Rattle.promises.proofs.Lengths.{list-short, skills-short}
 
 pub list-answers : (t : Terms) (catalogue fit buffer : List ℕ)
-    → Answers (listConditions t catalogue fit buffer) (wholeList t (catalogueOf catalogue) (fitOf fit)) buffer (outcome buffer (listCall t catalogue fit buffer))
+    → Answers (listConditions t catalogue fit buffer) (listFor t (catalogueOf catalogue) (fitOf fit)) buffer (outcome buffer (listCall t catalogue fit buffer))
 unfolding listCall catalogueRefusals fitRefusals profileRefusals
 list-answers t catalogue fit buffer =
-    let es = wholeList t (catalogueOf catalogue) (fitOf fit) in
+    let es = listFor t (catalogueOf catalogue) (fitOf fit) in
     answers (listConditions t catalogue fit buffer) (omega arith) es buffer
     (λ h. let k = list-short fit (sized (list-accepted t catalogue fit buffer h)) t (catalogueOf catalogue) in omega arith)
     (λ h. list-fits t catalogue fit buffer h)
@@ -46,11 +46,11 @@ pub list-room : (t : Terms) (catalogue fit buffer : List ℕ) → 135696 ≤ len
     → refusal (outcome buffer (listCall t catalogue fit buffer)) ≡ 10 → ⊥
 unfolding tooShort
 list-room t catalogue fit buffer room h =
-    let es = wholeList t (catalogueOf catalogue) (fitOf fit) in
+    let es = listFor t (catalogueOf catalogue) (fitOf fit) in
     let k =
-    last-first 10 (inputConditions t catalogue fit) (tooShort buffer es) (omega arith)
+    last-first 10 ((19, ltb 2 (t .reader)) ∷ inputConditions t catalogue fit) (tooShort buffer es) (omega arith)
     (list-answers t catalogue fit buffer .refused 10 (omega arith) .0 h) in
-    let s = list-short fit (sized (accepted t catalogue fit (k .0))) t (catalogueOf catalogue) in
+    let s = list-short fit (sized (accepted t catalogue fit (k .0 .1))) t (catalogueOf catalogue) in
     let l = ltb→lt (length buffer) (24 * length es) (k .1) in
     omega arith
 
@@ -64,7 +64,7 @@ skill-room t catalogue fit result buffer room h =
     let page = pageConditions t catalogue fit in
     let own : Conditions = (8, ltb (length (fitOf fit .results) + 1) result) ∷ (9, many) ∷ (13, over) ∷ [] in
     let k =
-    last-first 10 (page ++ own) (tooShort buffer es) (omega arith) (skill-answers t catalogue fit result buffer .refused 10 (omega arith) .0 h) in
-    let s = skills-short (catalogueOf catalogue) (fitOf fit) result (none-parts page own (k .0) .1 .1 .0) in
+    last-first 10 ((19, ltb 2 (t .reader)) ∷ (20, eqb (t .reader) 0) ∷ (page ++ own)) (tooShort buffer es) (omega arith) (skill-answers t catalogue fit result buffer .refused 10 (omega arith) .0 h) in
+    let s = skills-short (catalogueOf catalogue) (fitOf fit) result (none-parts page own (k .0 .1 .1) .1 .1 .0) in
     let l = ltb→lt (length buffer) (24 * length es) (k .1) in
     omega arith

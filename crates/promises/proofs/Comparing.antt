@@ -22,9 +22,9 @@ use Rattle.promises.specs.Answers.{Outcome, outcome, refusal, Conditions
 use Rattle.promises.specs.Compare.{Bytes, Grown, AddedVolumes, Alike, Stays, Kept}
 use Rattle.promises.proofs.Placed.{place, place-rising, place-inside, place-keeps, placed-bind, placed-each, placed-when}
 use Rattle.promises.proofs.Rises.{Rises, covers-stays}
-use Rattle.promises.proofs.Growth.{Within, begins, whole-grows}
-use Rattle.promises.proofs.All.{All, all-at, all-mem, all-drop, all-table}
-use Rattle.promises.proofs.Sounds.{AllSound, whole-sound, skills-sound}
+use Rattle.promises.proofs.Growth.{Within, begins, list-grows}
+use Rattle.words.proofs.All.{All, all-at, all-mem, all-drop, all-table}
+use Rattle.promises.proofs.Sounds.{AllSound, list-sound, skills-sound}
 use Rattle.promises.proofs.Lengths.{pairs-short}
 use Rattle.promises.proofs.Accepted.{sized, list-accepted, asked}
 use Rattle.promises.proofs.Answering.{elem-of}
@@ -72,9 +72,9 @@ list-kept t t′ catalogue old new before before′ alike bytes g v h h′ =
     let small = all-mem (all-drop (length (fitOf old .items)) (quantities new bytes)) in
     let sound = list-accepted t catalogue old before (A .answered .0 h) in
     let sound′ = list-accepted t′ catalogue new before′ (A′ .answered .0 h′) in
-    kept A A′ h h′ (whole-grows c (fitOf old) (fitOf new) g v small alike)
-    (whole-sound t c old (sound .ofProfile) (pairs-short old (sized sound) c))
-    (whole-sound t′ c new (sound′ .ofProfile) (pairs-short new (sized sound′) c))
+    kept A A′ h h′ (list-grows c (fitOf old) (fitOf new) g v small alike)
+    (list-sound t c old (sound .ofProfile) (pairs-short old (sized sound) c))
+    (list-sound t′ c new (sound′ .ofProfile) (pairs-short new (sized sound′) c))
 
 -- ---- the skill call
 untrained : (is : List Id) (t : Id) → trained is [] t ≡ 0

@@ -12,7 +12,7 @@ use Rattle.floats.specs.Floats.{f64At}
 use Rattle.promises.specs.Answers.{Outcome, count, entryAt}
 use Rattle.promises.specs.Compare.{blank, Stays, Kept}
 use Rattle.promises.proofs.Placed.{and-both, and-left, and-right, or-left, or-right}
-use Rattle.promises.proofs.All.{All, nil, cons}
+use Rattle.words.proofs.All.{All, nil, cons}
 
 -- ---- tests
 -- b, where the numbers are equal

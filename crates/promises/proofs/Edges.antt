@@ -10,8 +10,9 @@ use Rattle.promises.specs.WidenCases.{VALUES, WIDENED}
 use Rattle.promises.specs.LeagueCases.{PROFILES, LEAGUE, PROFILED}
 use Rattle.promises.specs.UnknownCases.{UNKNOWNS, CARRIED}
 use Rattle.promises.specs.PageCases.{PAIRS, PAGES}
+use Rattle.promises.specs.ReaderCases.{TOLD, READERS}
 use Rattle.promises.specs.Edges.{STARRED, SKILLS, PARTS, EDGES, Agree}
-use Rattle.promises.proofs.All.{All, nil, cons}
+use Rattle.words.proofs.All.{All, nil, cons}
 use Rattle.promises.proofs.Opened.{opened}
 use Rattle.promises.proofs.Large.{agree-large, agree-limits}
 
@@ -136,6 +137,14 @@ agree-pages : Agree PAGES
 unfolding opened
 agree-pages = refl
 
+agree-told : Agree TOLD
+unfolding opened
+agree-told = refl
+
+agree-readers : Agree READERS
+unfolding opened
+agree-readers = refl
+
 join : (a b : List Case) → Agree a → Agree b → Agree (a ++ b)
 join a b p q = map-append (λ (x : Case). outcomeOf (x .0)) a b ∙ ap₂ _++_ p q ∙ sym (map-append (λ (x : Case). x .1) a b)
 
@@ -153,4 +162,5 @@ edges =
     (cons agree-drones (cons agree-numbers (cons agree-buffers (cons agree-firsts (cons agree-large (cons agree-zeros
     (cons agree-values (cons agree-widened (cons agree-profiles (cons agree-league (cons agree-profiled
     (cons agree-unknowns (cons agree-carried
-    (cons agree-pairs (cons agree-limits (cons agree-pages nil))))))))))))))))))))))))))))))))
+    (cons agree-pairs (cons agree-limits (cons agree-pages
+    (cons agree-told (cons agree-readers nil))))))))))))))))))))))))))))))))))

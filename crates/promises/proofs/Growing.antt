@@ -12,9 +12,9 @@ use Rattle.floats.specs.Floats.{isVolume}
 use Rattle.catalogue.specs.Catalogue.{catalogueOf}
 use Rattle.fit.specs.Fit.{Item, Result, Fit, fitOf}
 use Rattle.promises.specs.Compare.{Bytes, Grown, volumeAllowed, addedItems}
-use Rattle.promises.specs.GrownCase.{grownBy, CATALOGUE, OLD, NEW, Example}
+use Rattle.promises.specs.GrownCase.{grownBy, CATALOGUE, OLD, NEW, Example, GuestExample}
 use Rattle.promises.proofs.Placed.{and-left, and-right}
-use Rattle.promises.proofs.All.{All, nil, cons, all-mem}
+use Rattle.words.proofs.All.{All, nil, cons, all-mem}
 use Rattle.promises.proofs.Opened.{opened}
 
 -- ---- any fit
@@ -84,4 +84,21 @@ example = record {
   new-wider = refl;
   old-narrow-skills = refl;
   new-wider-skills = refl;
+}
+
+pub guest-example : GuestExample
+unfolding opened
+guest-example = record {
+  retrained-fit = refl;
+  longer = refl;
+  apart = record { frame = refl; items = refl; results = refl };
+  old-fine = (tt, (tt, (tt, tt)));
+  retrained-fine = (tt, (tt, (tt, tt)));
+  guests-old = refl;
+  guests-retrained = refl;
+  officers-retrained = refl;
+  pilots-old = refl;
+  guests-new = refl;
+  guests-skills = refl;
+  pilots-skills = refl;
 }

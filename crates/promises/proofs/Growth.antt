@@ -3,7 +3,7 @@
 use Prim.Native.Nat.{ℕ, suc, _+_, _^_, _≤_, _<_}
 use native.Mathlib.Omega.{arith}
 use mathlib.Core.Path.{_≡_, refl, sym, ap, ap₂, _∙_, subst}
-use mathlib.Core.Bool.{Bool, true, false, _||_, cond}
+use mathlib.Core.Bool.{Bool, true, false, not, _||_, cond}
 use mathlib.Core.List.{List, [], _∷_, _++_, List·Memᴰ, List·Memᴰ·head, List·Memᴰ·tail, List·Memᴰ·not-nil}
 use mathlib.Core.Option.{Option, none, some}
 use lib.Dec.{T, eqb, eqb→eq}
@@ -34,11 +34,11 @@ use Rattle.profile.specs.Profile.{Price, pricesOf}
 use Rattle.league.specs.League.{banned, cost, points, overAllowance, league}
 use Rattle.lists.specs.Terms.{Terms}
 use Rattle.lists.specs.Unknown.{unknownTypes}
-use Rattle.lists.specs.Lists.{onHull, leagueOf, leagueWith, wholeWith, wholeList}
+use Rattle.lists.specs.Lists.{onHull, leagueOf, leagueWith, wholeWith, wholeList, forGuests, forReader, listFor}
 use Rattle.promises.specs.Compare.{Grown, volumeAllowed, AddedVolumes, addedItems, Alike}
 use Rattle.promises.proofs.Placed.{Into, into-append, only-into, count-into, sum-into, any-into, Placed, placed-join, placed-refl}
-use Rattle.promises.proofs.Placed.{placed-when, placed-unless, placed-bind, placed-each, placed-into, and-mono, ltb-mono}
-use Rattle.promises.proofs.Rises.{Rises, Covers}
+use Rattle.promises.proofs.Placed.{placed-when, placed-unless, placed-bind, placed-each, placed-into, placed-only, and-mono, ltb-mono}
+use Rattle.promises.proofs.Rises.{Rises, Covers, covers-number}
 
 abbrev pub Within : List Entry → List Entry → Type 0
 Within = Placed Covers
@@ -260,9 +260,24 @@ module _ (c : Catalogue) (old new : Fit) (g : Grown old new) (v : AddedVolumes c
         subst (λ (x : Float). T (isVolume x)) (sym (h .3)) (allowed-volume c (h .0 .type) (v (h .0) (h .1) (sym (h .2) ∙ eqb→eq _ _ t))),
       )
 
-  pub whole-grows : {t t′ : Terms} → Alike t t′ → Within (wholeList t c old) (wholeList t′ c new)
+  whole-grows : {t t′ : Terms} → Alike t t′ → Within (wholeList t c old) (wholeList t′ c new)
   unfolding wholeList
   whole-grows {t} {t′} alike =
       let e : wholeList t′ c new ≡ wholeWith t′ c (old .frame) (old .skills) (pairs c old ++ added) =
       ap (λ (k : Frame). wholeWith t′ c k (new .skills) (pairs c new)) (g .frame) ∙ ap₂ (wholeWith t′ c (old .frame)) (g .skills) new-pairs in
       subst (Within (wholeList t c old)) (sym e) (wholeWith-grows (pairs c old) added volumes alike c (old .frame) (old .skills))
+
+  -- a guest is not told of the same ones, old and new
+  reader-grows : (reader : ℕ) {es fs : List Entry} → Within es fs → Within (forReader reader es) (forReader reader fs)
+  unfolding forReader
+  reader-grows reader {es} {fs} p = go (eqb reader 0)
+    where
+      go : (guest : Bool) → Within (cond guest (only forGuests es) es) (cond guest (only forGuests fs) fs)
+      go true = placed-only forGuests (λ a b k. ap (λ (n : ℕ). not (eqb n 21)) (covers-number a b k)) p
+      go false = p
+
+  pub list-grows : {t t′ : Terms} → Alike t t′ → Within (listFor t c old) (listFor t′ c new)
+  unfolding listFor
+  list-grows {t} {t′} alike =
+      subst (λ (n : ℕ). Within (forReader (t .reader) (wholeList t c old)) (forReader n (wholeList t′ c new))) (alike .reader)
+      (reader-grows (t .reader) (whole-grows alike))

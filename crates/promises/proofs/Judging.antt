@@ -21,7 +21,7 @@ use Rattle.profile.specs.Profile.{pricesOf, badProfile, badPrices}
 use Rattle.entry.specs.declared.Entry.{Entry}
 use Rattle.context.specs.Context.{pairs}
 use Rattle.lists.specs.Terms.{main}
-use Rattle.lists.specs.Lists.{wholeList}
+use Rattle.lists.specs.Lists.{wholeList, forReader, listFor}
 use Rattle.fitcheck.specs.Calls.{listCall, tooShort}
 use Rattle.fitcheck.specs.Hall.{fitCount, lengthAt, fitStart, fits, badInput, fitRefused, isClear, isFaulted, HallAnswer, hallBy, hallCall, hallReturned}
 use Rattle.promises.specs.Answers.{Outcome, outcome, refusal, count, Conditions, catalogueConditions, profileConditions, listConditions}
@@ -172,7 +172,7 @@ module _ (catalogue fit buffer : List ℕ) (fine : None (catalogueConditions cat
   cat = catalogueOf catalogue
 
   abbrev es : List Entry
-  es = wholeList main cat (fitOf fit)
+  es = listFor main cat (fitOf fit)
 
   -- nothing listed, as many results as items
   abbrev whole : Bool
@@ -201,16 +201,21 @@ module _ (catalogue fit buffer : List ℕ) (fine : None (catalogueConditions cat
   long-enough : 24 * length es ≤ length buffer → None ownConditions → None (listConditions main catalogue fit buffer)
   unfolding fitRefusals tooShort
   long-enough h n =
-      let enough : None ((10, tooShort buffer es) ∷ []) = (subst (λ (b : Bool). T (not b)) (sym (le-ltb (length buffer) (24 * length es) h)) tt, tt) in
-      none-join (catalogueConditions catalogue) (ownConditions ++ behind) fine
-      (none-join ownConditions behind n (none-join brought ((10, tooShort buffer es) ∷ []) (none-brought n) enough))
+      let enough : None ((10, tooShort buffer es) ∷ []) = (subst (λ (b : Bool). T (not b)) (sym (le-ltb (length buffer) (24 * length es) h)) tt, tt) in (
+        tt,
+        none-join (catalogueConditions catalogue) (ownConditions ++ behind) fine
+            (none-join ownConditions behind n (none-join brought ((10, tooShort buffer es) ∷ []) (none-brought n) enough)),
+      )
 
   too-short : length buffer < 24 * length es → None ownConditions → First 10 (listConditions main catalogue fit buffer)
   unfolding fitRefusals tooShort
   too-short h n =
       let short : First 10 ((10, tooShort buffer es) ∷ []) = inl (refl, lt→ltb (length buffer) (24 * length es) h) in
-      behind-first 10 (catalogueConditions catalogue) (ownConditions ++ behind) fine
-      (behind-first 10 ownConditions behind n (behind-first 10 brought ((10, tooShort buffer es) ∷ []) (none-brought n) short))
+      inr (
+        tt,
+        behind-first 10 (catalogueConditions catalogue) (ownConditions ++ behind) fine
+            (behind-first 10 ownConditions behind n (behind-first 10 brought ((10, tooShort buffer es) ∷ []) (none-brought n) short)),
+      )
 
   abbrev o : Outcome
   o = outcome buffer (listCall main catalogue fit buffer)
@@ -233,7 +238,7 @@ module _ (catalogue fit buffer : List ℕ) (fine : None (catalogueConditions cat
       go (no h) = inr (A .refused 10 (omega arith) .1 (too-short (omega arith) n))
 
   passed : None ownConditions → fitRefused fit ≡ false → Judged catalogue fit buffer o
-  unfolding isClear isFaulted
+  unfolding isClear isFaulted listFor forReader
   passed n r = record { clear = (to-clear, from-clear); turned-away = (λ t. absurd (subst T r t), away); faulted = λ b. (to-faulted b, from-faulted b) }
     where
       clear-is : isClear cat fit ≡ whole
@@ -287,7 +292,7 @@ module _ (catalogue fit buffer : List ℕ) (fine : None (catalogueConditions cat
               elim (h .1) [ inl p ↦ omega arith | inr q ↦ q (omega arith) ]
 
   turned : (k : ℕ) → First k ownConditions → fitRefused fit ≡ true → Judged catalogue fit buffer o
-  unfolding isClear isFaulted fitRefusals
+  unfolding isClear isFaulted fitRefusals listFor forReader
   turned k f r = record {
     clear = (λ t. absurd (subst T clear-is t), λ h. absurd (let a = h .0 in let b = among .0 in let e = is in omega arith));
     turned-away = (λ _. (let b = among .0 in let e = is in omega arith, let b = among .1 in let e = is in omega arith), λ _. subst T (sym r) tt);
@@ -306,7 +311,7 @@ module _ (catalogue fit buffer : List ℕ) (fine : None (catalogueConditions cat
       is : refusal o ≡ k
       is =
           A .refused k (let b = among .0 in omega arith) .1
-          (behind-first k (catalogueConditions catalogue) (ownConditions ++ behind) fine (prefix-first k ownConditions behind f))
+          (inr (tt, behind-first k (catalogueConditions catalogue) (ownConditions ++ behind) fine (prefix-first k ownConditions behind f)))
 
   pub judged : Judged catalogue fit buffer o
   unfolding fitRefused fitRefusal fitRefusals

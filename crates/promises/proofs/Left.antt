@@ -43,3 +43,16 @@ only-map f t s h (x ∷ l) = ap (λ (b : Bool). cond b (f x ∷ only t (map f l)
     go : (b : Bool) → only t (map f l) ≡ map f (only s l) → cond b (f x ∷ only t (map f l)) (only t (map f l)) ≡ map f (cond b (x ∷ only s l) (only s l))
     go true e = ap (λ r. f x ∷ r) e
     go false e = e
+
+-- two filters, one after the other, in either order
+pub only-swap : {A : Type 0} (s t : A → Bool) (l : List A) → only s (only t l) ≡ only t (only s l)
+unfolding only
+only-swap s t [] = refl
+only-swap s t (x ∷ l) = go (s x) (t x) refl refl (only-swap s t l)
+  where
+    go : (a b : Bool) → s x ≡ a → t x ≡ b → only s (only t l) ≡ only t (only s l)
+        → only s (cond b (x ∷ only t l) (only t l)) ≡ only t (cond a (x ∷ only s l) (only s l))
+    go true true p q e = rw (p, q) (ap (λ r. x ∷ r) e)
+    go true false p q e = rw q e
+    go false true p q e = rw p e
+    go false false p q e = e

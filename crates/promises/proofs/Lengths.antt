@@ -7,7 +7,7 @@ use mathlib.Core.List.{List, [], _∷_, _++_}
 use mathlib.Core.Option.{Option, none, some}
 use lib.Dec.{T, eqb, ltb, nltb→le}
 use lib.ListN.{length, length-append}
-use Rattle.words.specs.Words.{_>>=_, each, when, whenAny, whenAbove, unless, sumOf, given}
+use Rattle.words.specs.Words.{_>>=_, each, when, whenAny, whenAbove, unless, only, countOf, sumOf, given}
 use Rattle.words.proofs.Lengths
 use Rattle.words.proofs.Tables.{length-table}
 use Rattle.image.specs.Bytes.{i32At}
@@ -27,7 +27,7 @@ use Rattle.validate.specs.Validate.{hullRules, listWith}
 use Rattle.league.specs.League.{bannedAt, banned, overAllowance, league}
 use Rattle.lists.specs.Terms.{Terms}
 use Rattle.lists.specs.Unknown.{unknownTypeAt, unknownTypes}
-use Rattle.lists.specs.Lists.{onHull, leagueOf, leagueWith, wholeWith, wholeList}
+use Rattle.lists.specs.Lists.{onHull, leagueOf, leagueWith, wholeWith, wholeList, forGuests, forReader, listFor}
 use Rattle.skill.specs.Skill.{tooMany, walkWithin, entryOf, skillList}
 
 -- ---- a list of at most n elements
@@ -168,6 +168,16 @@ wholeWith-few t c k ids ps =
     (few-cond (isHull c (k .ship)) last (record { most = zero-le })) in
     few-more (omega arith) h
 
+-- of what passes a test
+pub count-le : {A : Type 0} (t : A → Bool) (l : List A) → countOf t l ≤ length l
+unfolding countOf only
+count-le t [] = zero-le
+count-le t (x ∷ l) = go (t x) (count-le t l)
+  where
+    go : (b : Bool) → length (only t l) ≤ length l → length (cond b (x ∷ only t l) (only t l)) ≤ suc (length l)
+    go true h = suc-le-suc h
+    go false h = omega arith
+
 first-two : (a b c d e f : Bool) → T (not (a || b || c || d || e || f)) → T (not a) × T (not b)
 first-two true b c d e f h = absurd h
 first-two false true c d e f h = absurd h
@@ -191,14 +201,26 @@ module _ (b : List ℕ) (fine : T (not (badSize b))) where
       let m = sizes .1 in
       omega arith
 
-  pub list-short : (t : Terms) (c : Catalogue) → length (wholeList t c (fitOf b)) ≤ 5654
+  whole-short : (t : Terms) (c : Catalogue) → length (wholeList t c (fitOf b)) ≤ 5654
   unfolding wholeList fitOf
-  list-short t c =
+  whole-short t c =
       let h = wholeWith-few t c (fitOf b .frame) (fitOf b .skills) (pairs c (fitOf b)) .most in
       let e = length-table 0 (skillCount b) λ i. i32At b (skillsAt b + 4 * i) in
       let p = pairs-short c in
       let m = sizes .0 in
       omega arith
+
+  -- a reader gets no more
+  pub list-short : (t : Terms) (c : Catalogue) → length (listFor t c (fitOf b)) ≤ 5654
+  unfolding listFor forReader
+  list-short t c = go (eqb (t .reader) 0)
+    where
+      go : (guest : Bool) → length (cond guest (only forGuests (wholeList t c (fitOf b))) (wholeList t c (fitOf b))) ≤ 5654
+      go true =
+          let l : length (only forGuests (wholeList t c (fitOf b))) ≤ length (wholeList t c (fitOf b)) = unfold countOf in count-le forGuests (wholeList t c (fitOf b)) in
+          let h = whole-short t c in
+          omega arith
+      go false = whole-short t c
 
 -- ---- the skill list: an entry for each wanted skill
 skills-few : (c : Catalogue) (f : Fit) (n : ℕ) → T (not (given (resultAt f n) false (tooMany 512 c))) → Few 512 (skillList c f n)

@@ -3,10 +3,9 @@ pub mod Placed
 pub mod Entries
 pub mod Rises
 pub mod Growth
-pub mod All
 pub mod Conditions
-pub mod Sounds
 pub mod Lengths
+pub mod Sounds
 pub mod Accepted
 pub mod Answering
 pub mod Calls
@@ -21,9 +20,9 @@ pub mod Large
 pub mod Seven
 pub mod Pages
 pub mod Leagues
-pub mod Numbers
 pub mod Left
 pub mod Unknowns
+pub mod Readers
 pub mod Widening
 pub mod Edges
 pub mod Deciding

@@ -27,7 +27,7 @@ use Rattle.validate.specs.Validate.{hullRules, listWith, listOf}
 use Rattle.profile.specs.Profile as Profile
 use Rattle.league.specs.League.{bannedAt, banned, cost, points, overAllowance, league}
 use Rattle.lists.specs.Unknown.{unknownTypeAt, unknownTypes}
-use Rattle.lists.specs.Lists.{onHull, leagueWith, wholeWith, leagueList, wholeList}
+use Rattle.lists.specs.Lists.{onHull, leagueWith, wholeWith, leagueList, wholeList, forReader, listFor}
 use Rattle.skill.specs.Skill.{required, demandOf, demands, ofResult, ofSkill, note, noted, skillAt, met, walkWithin, tooMany, entryOf, skillList}
 use Rattle.fitcheck.specs.Calls.{answerBy, answer, tooShort, listCall, skillCall, buffered, returned}
 use Rattle.fitcheck.specs.Hall.{fitStart, fits, badInput, fitRefused, isClear, isFaulted, hallBy, hallCall, hallReturned}
@@ -112,7 +112,7 @@ unfolding Profile.pricesOf Profile.badProfile Profile.badPrices Profile.profileR
 open-league = tt
 
 open-lists : Unit {0}
-unfolding open-league bannedAt banned cost points overAllowance league unknownTypeAt unknownTypes onHull leagueWith wholeWith leagueList wholeList
+unfolding open-league bannedAt banned cost points overAllowance league unknownTypeAt unknownTypes onHull leagueWith wholeWith leagueList wholeList forReader listFor
 open-lists = tt
 
 open-rules : Unit {0}

@@ -3,6 +3,7 @@
 use Prim.Native.Nat.{ℕ, zero, suc, _≤_, _<_, zero-le, suc-le-suc}
 use native.Mathlib.Nat.{le-trans, le-of-suc-le-suc, not-suc-le-zero}
 use native.Mathlib.Omega.{arith}
+use mathlib.Core.Path.{_≡_, sym, subst}
 use mathlib.Core.Bool.{Bool, true, false, _&&_, _||_, cond}
 use mathlib.Core.List.{List, [], _∷_, _++_}
 use mathlib.Core.Option.{Option, none, some}
@@ -174,3 +175,22 @@ and-mono false b b′ f h = h
 
 pub ltb-mono : (a b b′ : ℕ) → b ≤ b′ → T (ltb a b) → T (ltb a b′)
 ltb-mono a b b′ h t = lt→ltb a b′ (le-trans (ltb→lt a b t) h)
+
+-- a filter that cannot tell an old element from the one that keeps it keeps places
+module _ {A : Type 0} {K : A → A → Type 0} (t : A → Bool) (alike : (a b : A) → K a b → t a ≡ t b) where
+  pub placed-only : {old new : List A} → Placed K old new → Placed K (only t old) (only t new)
+  unfolding only
+  placed-only done = done
+  placed-only (skip {b} {old} {new} p) = go (t b) (placed-only p)
+    where
+      go : (c : Bool) → Placed K (only t old) (only t new) → Placed K (only t old) (cond c (b ∷ only t new) (only t new))
+      go true h = skip h
+      go false h = h
+  placed-only (keep {a} {b} {old} {new} k p) = go (t a) (t b) (alike a b k) (placed-only p)
+    where
+      go : (c d : Bool) → c ≡ d → Placed K (only t old) (only t new)
+          → Placed K (cond c (a ∷ only t old) (only t old)) (cond d (b ∷ only t new) (only t new))
+      go true true e h = keep k h
+      go true false e h = absurd (subst T e tt)
+      go false true e h = absurd (subst T (sym e) tt)
+      go false false e h = h

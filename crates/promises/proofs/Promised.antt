@@ -1,20 +1,21 @@
 -- The promises, all of them. Each is proved in a file of its own.
 use mathlib.Core.Path.{_≡_, refl}
 use Rattle.words.specs.Words.{each, tableFrom}
-use Rattle.lists.specs.Terms.{Terms, main}
+use Rattle.lists.specs.Terms.{Terms, readBy, main}
 use Rattle.promises.specs.Answers.{refusal}
 use Rattle.promises.specs.Compare.{Alike, Kept}
-use Rattle.promises.specs.GrownCase.{CATALOGUE, OLD, NEW, BANNING, PRICING, NARROW, WIDER, ROOM}
+use Rattle.promises.specs.GrownCase.{CATALOGUE, OLD, NEW, RETRAINED, BANNING, PRICING, NARROW, WIDER, ROOM}
 use Rattle.promises.specs.Promises.{listOutcome, skillOutcome, Names, Promises}
 use Rattle.promises.proofs.Calls.{list-answers, skill-answers, list-room, skill-room}
 use Rattle.promises.proofs.Comparing.{list-kept, skills-kept}
-use Rattle.promises.proofs.Growing.{any-growth, example}
+use Rattle.promises.proofs.Growing.{any-growth, example, guest-example}
 use Rattle.promises.proofs.Keeping.{tables}
 use Rattle.promises.proofs.Wanting.{more-wanted, skill-lists}
 use Rattle.promises.proofs.Judging.{hall-answers, judged}
 use Rattle.promises.proofs.Opened.{opened}
 use Rattle.promises.proofs.Seven.{no-seven, list-as-before, drones-exact}
 use Rattle.promises.proofs.Leagues.{no-profile}
+use Rattle.promises.proofs.Readers.{guest-blind, guest-skills, guest-list, full-list}
 use Rattle.promises.proofs.Unknowns.{unknowns, unknowns-left}
 use Rattle.promises.proofs.Pages.{small-page, small-page-skills, main-page}
 use Rattle.promises.proofs.Widening.{widen-answers, widen-decodes, widen-stands}
@@ -38,6 +39,11 @@ promised = record {
   small-page = small-page;
   small-page-skills = small-page-skills;
   main-page = main-page;
+  guest-blind = guest-blind;
+  guest-skills = guest-skills;
+  guest-list = guest-list;
+  full-list = full-list;
+  guest-example = guest-example;
   drones-exact = drones-exact;
   list-kept = list-kept;
   skill-kept = skills-kept;
@@ -62,19 +68,30 @@ applies t t′ alike = promised .list-kept t t′ CATALOGUE OLD NEW ROOM ROOM al
 
 list-applies : Kept (listOutcome main CATALOGUE OLD ROOM) (listOutcome main CATALOGUE NEW ROOM)
 unfolding opened
-list-applies = applies main main (record { profile = refl; allowance = refl }) refl refl
+list-applies = applies main main (record { profile = refl; allowance = refl; reader = refl }) refl refl
 
 bans-apply : Kept (listOutcome BANNING CATALOGUE OLD ROOM) (listOutcome BANNING CATALOGUE NEW ROOM)
 unfolding opened
-bans-apply = applies BANNING BANNING (record { profile = refl; allowance = refl }) refl refl
+bans-apply = applies BANNING BANNING (record { profile = refl; allowance = refl; reader = refl }) refl refl
 
 points-apply : Kept (listOutcome PRICING CATALOGUE OLD ROOM) (listOutcome PRICING CATALOGUE NEW ROOM)
 unfolding opened
-points-apply = applies PRICING PRICING (record { profile = refl; allowance = refl }) refl refl
+points-apply = applies PRICING PRICING (record { profile = refl; allowance = refl; reader = refl }) refl refl
 
 pages-apply : Kept (listOutcome NARROW CATALOGUE OLD ROOM) (listOutcome WIDER CATALOGUE NEW ROOM)
 unfolding opened
-pages-apply = applies NARROW WIDER (record { profile = refl; allowance = refl }) refl refl
+pages-apply = applies NARROW WIDER (record { profile = refl; allowance = refl; reader = refl }) refl refl
+
+-- and of a guest
+guests-apply : Kept (listOutcome (readBy 0 PRICING) CATALOGUE OLD ROOM) (listOutcome (readBy 0 PRICING) CATALOGUE NEW ROOM)
+unfolding opened
+guests-apply = applies (readBy 0 PRICING) (readBy 0 PRICING) (record { profile = refl; allowance = refl; reader = refl }) refl refl
+
+-- P14 as it is promised, of two images
+blind-applies : listOutcome (readBy 0 PRICING) CATALOGUE OLD ROOM ≡ listOutcome (readBy 0 PRICING) CATALOGUE RETRAINED ROOM
+blind-applies =
+    let e = guest-example in
+    promised .guest-blind (readBy 0 PRICING) CATALOGUE OLD RETRAINED ROOM refl (e .old-fine) (e .retrained-fine) (e .apart)
 
 skill-applies : Kept (skillOutcome NARROW CATALOGUE OLD 2 ROOM) (skillOutcome WIDER CATALOGUE NEW 2 ROOM)
 unfolding opened

@@ -19,7 +19,7 @@ use Rattle.entry.specs.declared.Rule.{Rule}
 use Rattle.entry.specs.declared.Rule.the-variants.{Resource, Slots, WrongSlot, NotAModule, NotADrone, NotAFighter, NotAnImplant, SlotTaken}
 use Rattle.entry.specs.declared.Rule.the-variants.{WrongSlotIndex, SubsystemTaken, Skill, RigSize, ShipRestricted, CapitalItem}
 use Rattle.entry.specs.declared.Rule.the-variants.{StructureItem, ShipItem, MaxGroup, MaxType, NotAHull, NotAMode, NotASkill, Banned, Points, UnknownType}
-use Rattle.entry.specs.Entries.{fields, entryBytes}
+use Rattle.entry.specs.Entries.{fields, number, entryBytes}
 use Rattle.promises.specs.Compare.{varies, blank, Stays}
 
 pub data Rises : Rule → Rule → Type 0 where
@@ -195,3 +195,17 @@ module _ (t : Target) where
 pub covers-stays : (a b : Entry) → Covers a b → Sound (a .rule) → Sound (b .rule) → Stays (entryBytes a) (entryBytes b)
 covers-stays a b h s s′ =
     subst (λ (t : Target). Stays (entryBytes a) (entryBytes (record { target = t; rule = b .rule }))) (h .target) (stays (a .target) (h .rule) s s′)
+
+-- the number of a rule does not rise
+rises-number : {a b : Rule} → Rises a b → fields a .0 ≡ fields b .0
+unfolding fields
+rises-number Rises.same = refl
+rises-number (Rises.resource h) = refl
+rises-number (Rises.slots h) = refl
+rises-number (Rises.skill h) = refl
+rises-number (Rises.maxGroup h) = refl
+rises-number (Rises.maxType h) = refl
+rises-number (Rises.points h) = refl
+
+pub covers-number : (a b : Entry) → Covers a b → number a ≡ number b
+covers-number a b h = rises-number (h .rule)

@@ -5,7 +5,7 @@ use native.Mathlib.Omega.{arith}
 use mathlib.Core.Path.{_≡_, sym, ap}
 use mathlib.Core.Bool.{Bool, true, false, not, cond}
 use mathlib.Core.List.{List, [], _∷_, _++_}
-use lib.Dec.{T}
+use lib.Dec.{T, ltb}
 use lib.ListN.{length}
 use lib.Ieee.{binary64, ofInt}
 use lib.Ieee.Back.{round-whole}
@@ -18,14 +18,14 @@ use Rattle.fit.specs.Refusals.{badSize}
 use Rattle.context.specs.Context.{Pair, pairsFrom, pairs}
 use Rattle.resource.specs.Resource.{isLaunched, launched}
 use Rattle.lists.specs.Terms.{Terms}
-use Rattle.lists.specs.Lists.{wholeList}
+use Rattle.lists.specs.Lists.{listFor}
 use Rattle.fitcheck.specs.Calls.{answerBy, answer, inputRefusals, bufferRefusals, listCall, skillCall}
 use Rattle.fitcheck.specs.Hall.{hallCall, hallReturned}
-use Rattle.promises.specs.Answers.{outcome, refusal, listConditions, skillConditions}
+use Rattle.promises.specs.Answers.{outcome, refusal, Conditions, listConditions, skillConditions}
 use Rattle.promises.specs.Before.{tooManyDrones, listBefore}
 use Rattle.promises.specs.Compare.{Bytes}
 use Rattle.promises.specs.Halls.{hallConditions}
-use Rattle.promises.proofs.All.{All, nil, cons}
+use Rattle.words.proofs.All.{All, nil, cons}
 use Rattle.promises.proofs.Conditions.{never-first, left-out}
 use Rattle.promises.proofs.Lengths.{pairs-short}
 use Rattle.promises.proofs.Answering.{given-first}
@@ -50,8 +50,8 @@ unfolding listBefore listCall answer
 list-as-before t catalogue fit buffer h =
     let c = catalogueOf catalogue in
     let f = fitOf fit in
-    let es = wholeList t c f in
-    let l = inputRefusals t catalogue fit in
+    let es = listFor t c f in
+    let l : Conditions = (19, ltb 2 (t .reader)) ∷ inputRefusals t catalogue fit in
     let m = bufferRefusals buffer es in
     let e = left-out 7 (tooManyDrones c f) l m (λ q. h (given-first 6 buffer es (firstOf (l ++ (7, tooManyDrones c f) ∷ m)) q)) in
     ap (λ (k : ℕ). outcome buffer (answerBy k es)) (sym e)

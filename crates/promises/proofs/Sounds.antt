@@ -8,7 +8,7 @@ use mathlib.Core.Logic.{inl, inr}
 use borrow.Author.Tests.{eq-eqb}
 use mathlib.Core.List.{List, [], _∷_, foldl}
 use mathlib.Core.Option.{Option, none, some}
-use lib.Dec.{T, ltb→lt}
+use lib.Dec.{T, eqb, ltb→lt}
 use lib.ListN.{length}
 use lib.Ieee.{Float, binary64, fits}
 use lib.Ieee.Fits.{ofInt-fits}
@@ -39,25 +39,17 @@ use Rattle.profile.proofs.Prices.{points-fair}
 use Rattle.league.specs.League.{priceOf, bannedAt, banned, cost, points, overAllowance, league}
 use Rattle.lists.specs.Terms.{Terms}
 use Rattle.lists.specs.Unknown.{unknownTypeAt, unknownTypes}
-use Rattle.lists.specs.Lists.{onHull, leagueWith, wholeWith, wholeList}
+use Rattle.lists.specs.Lists.{onHull, leagueWith, wholeWith, wholeList, forGuests, forReader, listFor}
 use Rattle.skill.specs.Skill.{Demand, required, demandOf, demands, ofResult, ofSkill, note, noted, met, walkWithin, entryOf, skillList}
 use Rattle.promises.specs.Answers.{profileConditions, None}
 use Rattle.promises.proofs.Conditions.{none-is}
-use Rattle.promises.proofs.All.{All, nil, cons, all-join, all-table, all-when, all-unless, all-cond, all-bind, all-each, all-each-of, all-find}
+use Rattle.words.proofs.All.{All, nil, cons, all-join, all-table, all-when, all-unless, all-cond, all-bind, all-each, all-each-of, all-find}
 use Rattle.promises.proofs.Rises.{Sound}
+use Rattle.promises.proofs.Lengths.{count-le}
 
 -- ---- the entries of the list
 abbrev pub AllSound : List Entry → Type 0
 AllSound = All λ e. Sound (e .rule)
-
-count-le : {A : Type 0} (t : A → Bool) (l : List A) → countOf t l ≤ length l
-unfolding countOf only
-count-le t [] = zero-le
-count-le t (x ∷ l) = go (t x) (count-le t l)
-  where
-    go : (b : Bool) → length (only t l) ≤ length l → length (cond b (x ∷ only t l) (only t l)) ≤ suc (length l)
-    go true h = suc-le-suc h
-    go false h = omega arith
 
 any-sound : {A : Type 0} (b : Bool) (t : A → Bool) (l : List A) (e : Entry) → Sound (e .rule) → AllSound (whenAny b t l e)
 unfolding whenAny
@@ -198,7 +190,7 @@ league-sound profile s allowance ps few =
     all-join (all-each ps λ p. all-when _ _ (λ _. tt)) (above-sound _ _ _ _ (omega arith))
 
 -- ---- the whole list of an image
-pub whole-sound : (t : Terms) (c : Catalogue) (b : List ℕ) → None (profileConditions (t .profile)) → length (pairs c (fitOf b)) ≤ 256
+whole-sound : (t : Terms) (c : Catalogue) (b : List ℕ) → None (profileConditions (t .profile)) → length (pairs c (fitOf b)) ≤ 256
     → AllSound (wholeList t c (fitOf b))
 unfolding wholeList wholeWith leagueWith onHull unknownTypes unknownTypeAt fitOf
 whole-sound t c b fine few =
@@ -208,6 +200,22 @@ whole-sound t c b fine few =
     (all-join (listWith-sound c _ _ _ (omega arith) (result-fits b 0))
     (all-cond hull (league-sound (t .profile) profile (t .allowance) _ few) nil))
     (all-cond hull (all-each _ λ p. all-when _ _ (λ _. tt)) nil)
+
+module _ {P : Entry → Type 0} (t : Entry → Bool) where
+  all-only : {l : List Entry} → All P l → All P (only t l)
+  unfolding only
+  all-only nil = nil
+  all-only (cons {x} {l} p h) = go (t x) (all-only h)
+    where
+      go : (b : Bool) → All P (only t l) → All P (cond b (x ∷ only t l) (only t l))
+      go true k = cons p k
+      go false k = k
+
+-- and what a reader gets of it
+pub list-sound : (t : Terms) (c : Catalogue) (b : List ℕ) → None (profileConditions (t .profile)) → length (pairs c (fitOf b)) ≤ 256
+    → AllSound (listFor t c (fitOf b))
+unfolding listFor forReader
+list-sound t c b fine few = all-cond (eqb (t .reader) 0) (all-only forGuests (whole-sound t c b fine few)) (whole-sound t c b fine few)
 
 -- ---- the entries of a result's skills
 abbrev Small : Demand → Type 0

@@ -21,8 +21,8 @@ use Rattle.fit.specs.Fit.{fitOf}
 use Rattle.fit.specs.Refusals.{fitRefusals}
 use Rattle.profile.specs.Profile.{profileRefusals}
 use Rattle.skill.specs.Skill.{skillList}
-use Rattle.lists.specs.Lists.{wholeList}
-use Rattle.fitcheck.specs.Calls.{Answer, answer, overPairs, bufferRefusals, skillRefusals, listCall, skillCall}
+use Rattle.lists.specs.Lists.{listFor}
+use Rattle.fitcheck.specs.Calls.{Answer, answer, noReader, isGuest, overPairs, bufferRefusals, skillRefusals, listCall, skillCall}
 use Rattle.fitcheck.specs.Widen.{outputBy, output, outputWord, filled, noRoom, widenCall}
 use Rattle.fitcheck.proofs.First.{Numbered}
 use Rattle.promises.specs.Answers.{Outcome, refusal, count, Conditions, None}
@@ -131,13 +131,15 @@ module _ (old buffer : List ℕ) where
         lists = λ t fit buffer.
             ap₂ (λ (l : Conditions) (c : Catalogue).
             let f = fitOf fit in
-            let es = wholeList t c f in
-            answer (l ++ fitRefusals fit ++ ((13, overPairs t c f) ∷ []) ++ profileRefusals (t .profile) ++ bufferRefusals buffer es) es)
+            let es = listFor t c f in
+            let behind = l ++ fitRefusals fit ++ ((13, overPairs t c f) ∷ []) ++ profileRefusals (t .profile) ++ bufferRefusals buffer es in
+            answer ((19, noReader t) ∷ behind) es)
             same-refusals (decoded old (old-size none));
         skills = λ t fit result buffer.
             ap₂ (λ (l : Conditions) (c : Catalogue).
             let f = fitOf fit in
-            answer (l ++ fitRefusals fit ++ ((13, overPairs t c f) ∷ []) ++ skillRefusals t c f result buffer) (skillList c f result))
+            let behind = l ++ fitRefusals fit ++ ((13, overPairs t c f) ∷ []) ++ skillRefusals t c f result buffer in
+            answer ((19, noReader t) ∷ (20, isGuest t) ∷ behind) (skillList c f result))
             same-refusals (decoded old (old-size none));
       }
 

@@ -5,7 +5,7 @@ use mathlib.Core.Bool.{Bool, false, not}
 use mathlib.Core.List.{List, [], _∷_, _++_}
 use mathlib.Core.Logic.{_⊎_, _↔_}
 use mathlib.Core.Option.{some}
-use lib.Dec.{T, ltb}
+use lib.Dec.{T, eqb, ltb}
 use lib.ListN.{length, getD, take, drop, getElem?}
 use Rattle.words.specs.Words.{given, table}
 use Rattle.catalogue.specs.Catalogue.{catalogueOf}
@@ -18,7 +18,7 @@ use Rattle.entry.specs.Entries.{entryBytes}
 use Rattle.profile.specs.Profile.{pricesOf, badProfile, badPrices}
 use Rattle.skill.specs.Skill.{tooMany, skillList}
 use Rattle.lists.specs.Terms.{Terms}
-use Rattle.lists.specs.Lists.{wholeList}
+use Rattle.lists.specs.Lists.{listFor}
 use Rattle.fitcheck.specs.Calls.{Answer, buffered, returned, tooShort}
 
 -- ---- what a caller has after a call: the word, and the buffer
@@ -47,7 +47,7 @@ entriesOf o = table (count o) (entryAt o)
 -- ---- the refusals, each with its condition, in their order
 -- no call gives a higher number
 abbrev pub highest : ℕ
-highest = 13
+highest = 20
 
 abbrev pub Conditions : Type 0
 Conditions = List (ℕ × Bool)
@@ -75,21 +75,28 @@ profileConditions profile = (11, badProfile profile) ∷ (12, badPrices (pricesO
 abbrev pub inputConditions : Terms → (catalogue fit : List ℕ) → Conditions
 inputConditions t catalogue fit = pageConditions t catalogue fit ++ profileConditions (t .profile)
 
+-- a reader's number that is nobody's, in front of all
+abbrev pub readerConditions : Terms → Conditions
+readerConditions t = (19, ltb 2 (t .reader)) ∷ []
+
 abbrev pub listConditions : Terms → (catalogue fit buffer : List ℕ) → Conditions
 listConditions t catalogue fit buffer =
-    inputConditions t catalogue fit ++ (10, tooShort buffer (wholeList t (catalogueOf catalogue) (fitOf fit))) ∷ []
+    readerConditions t
+    ++ (inputConditions t catalogue fit ++ (10, tooShort buffer (listFor t (catalogueOf catalogue) (fitOf fit))) ∷ [])
 
--- 13 for skills behind 9: over the page's limit, and not over the main page's
+-- 20: a guest's call, behind 19 alone. 13 for skills behind 9: over the page's limit, and not over the main page's
 abbrev pub skillConditions : Terms → (catalogue fit : List ℕ) (result : ℕ) (buffer : List ℕ) → Conditions
 skillConditions t catalogue fit result buffer =
     let c = catalogueOf catalogue in
     let f = fitOf fit in
-    pageConditions t catalogue fit
+    readerConditions t
+    ++ (20, eqb (t .reader) 0)
+    ∷ (pageConditions t catalogue fit
     ++ (8, ltb (length (f .results) + 1) result)
     ∷ (9, given (resultAt f result) false (tooMany 512 c))
     ∷ (13, given (resultAt f result) false (tooMany (min (t .skills) 512) c))
     ∷ (10, tooShort buffer (skillList c f result))
-    ∷ []
+    ∷ [])
 
 -- n is the first number whose condition holds
 abbrev pub First : ℕ → Conditions → Type 0
@@ -103,7 +110,7 @@ None (x ∷ l) = T (not (x .1)) × None l
 
 -- ---- a call under some conditions, which lists es where none of them holds
 pub record Answers (conditions : Conditions) (es : List Entry) (before : List ℕ) (o : Outcome) : Type 0 where
-  -- a number refuses exactly where its condition is the first that holds, and is one of 1 to 13
+  -- a number refuses exactly where its condition is the first that holds, and is one of 1 to 20
   pub refused : (n : ℕ) → 0 < n → (refusal o ≡ n) ↔ First n conditions
   pub answered : (refusal o ≡ 0) ↔ None conditions
   pub numbered : refusal o ≤ highest

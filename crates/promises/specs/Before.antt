@@ -6,6 +6,7 @@ use mathlib.Core.List.{List, _∷_, _++_}
 use lib.Dec.{ltb}
 use Rattle.words.specs.Words.{given}
 use Rattle.numbers.specs.Names as Names
+use Rattle.numbers.specs.Refusals as Refusals
 use Rattle.catalogue.specs.Catalogue.{Catalogue, catalogueOf}
 use Rattle.catalogue.specs.Lookups.{nameId}
 use Rattle.fit.specs.Fit.{Fit, fitOf}
@@ -15,8 +16,8 @@ use Rattle.validate.specs.Kind.{isHull}
 use Rattle.validate.specs.Validate.{listOf}
 use Rattle.lists.specs.Terms.{Terms}
 use Rattle.lists.specs.Unknown.{unknownTypes}
-use Rattle.lists.specs.Lists.{onHull, wholeList}
-use Rattle.fitcheck.specs.Calls.{Answer, answer, imageRefusals, inputRefusals, bufferRefusals}
+use Rattle.lists.specs.Lists.{onHull, forReader, listFor}
+use Rattle.fitcheck.specs.Calls.{Answer, answer, noReader, imageRefusals, inputRefusals, bufferRefusals}
 
 -- 7: on a hull, its name present, launched drones over 4,294,967,295
 unfoldable pub tooManyDrones : Catalogue → Fit → Bool
@@ -27,13 +28,13 @@ unfoldable pub listBefore : Terms → (catalogue fit buffer : List ℕ) → Answ
 listBefore t catalogue fit buffer =
     let c = catalogueOf catalogue in
     let f = fitOf fit in
-    let es = wholeList t c f in
-    answer (inputRefusals t catalogue fit ++ (7, tooManyDrones c f) ∷ bufferRefusals buffer es) es
+    let es = listFor t c f in
+    answer ((Refusals.noReader, noReader t) ∷ (inputRefusals t catalogue fit ++ (7, tooManyDrones c f) ∷ bufferRefusals buffer es)) es
 
--- a call that brings no profile
-unfoldable pub rustCall : (catalogue fit buffer : List ℕ) → Answer
-rustCall catalogue fit buffer =
+-- a call that brings no profile: of its terms it reads the reader alone
+unfoldable pub rustCall : Terms → (catalogue fit buffer : List ℕ) → Answer
+rustCall t catalogue fit buffer =
     let c = catalogueOf catalogue in
     let f = fitOf fit in
-    let es = listOf c f ++ onHull c (f .frame) (unknownTypes c (pairs c f)) in
-    answer (imageRefusals catalogue fit ++ bufferRefusals buffer es) es
+    let es = forReader (t .reader) (listOf c f ++ onHull c (f .frame) (unknownTypes c (pairs c f))) in
+    answer ((Refusals.noReader, noReader t) ∷ (imageRefusals catalogue fit ++ bufferRefusals buffer es)) es

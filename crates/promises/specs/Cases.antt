@@ -17,7 +17,7 @@ use Rattle.entry.specs.declared.Entry.{Entry}
 use Rattle.entry.specs.Entries.{entryBytes}
 use Rattle.profile.specs.Profile.{profileRefusal}
 use Rattle.lists.specs.Terms.{Terms, main}
-use Rattle.lists.specs.Lists.{wholeList}
+use Rattle.lists.specs.Lists.{wholeList, listFor}
 use Rattle.skill.specs.Skill.{Demand, wantedSkills, tooMany, skillList}
 use Rattle.fitcheck.specs.Calls.{returned, buffered, overPairs, overSkills, skillRefusals, listCall, skillCall}
 use Rattle.fitcheck.specs.Hall.{hallCall, hallReturned}
@@ -238,7 +238,7 @@ outcomeOf (Signed x) = Integer (toI32 x)
 outcomeOf (Over used available) = Holds (over used available)
 outcomeOf (AnyOver available) = HoldsOf λ used. over used available
 outcomeOf (Fitted c f) = Entries (wholeList main c f)
-outcomeOf (InLeague t c f) = Entries (wholeList t c f)
+outcomeOf (InLeague t c f) = Entries (listFor t c f)
 outcomeOf (Wants c r) = Demands (wantedSkills c r)
 outcomeOf (Exceeds limit c r) = Holds (tooMany limit c r)
 outcomeOf (Skilled c f n) = Entries (skillList c f n)

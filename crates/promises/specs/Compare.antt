@@ -42,10 +42,17 @@ addedItems old new = drop (length (old .items)) (new .items)
 abbrev pub AddedVolumes : Catalogue → Fit → Fit → Type 0
 AddedVolumes c old new = (i : Item) → List·Memᴰ i (addedItems old new) → i .slot ≡ Slots.cargo → T (volumeAllowed c (i .type))
 
--- the two calls bring the same profile and the same allowance; their limits may differ
+-- the two calls name the same reader and bring the same profile and the same allowance; their limits may differ
 pub record Alike (t t′ : Terms) : Type 0 where
   pub profile : t .profile ≡ t′ .profile
   pub allowance : t .allowance ≡ t′ .allowance
+  pub reader : t .reader ≡ t′ .reader
+
+-- P14's two fits: they differ in listed skills and levels alone, in how many there are too
+pub record Apart (one other : Fit) : Type 0 where
+  pub frame : one .frame ≡ other .frame
+  pub items : one .items ≡ other .items
+  pub results : one .results ≡ other .results
 
 -- ---- the claim
 -- where an entry of a rule has its used number or its trained level: the first byte, and how many; the other rules have neither

@@ -4,7 +4,7 @@ use mathlib.Core.Path.{_≡_}
 use mathlib.Core.Bool.{true, false}
 use mathlib.Core.List.{List, [], _∷_, _++_, map}
 use lib.IntN.{pos, negsuc}
-use lib.ListN.{length, replicate}
+use lib.ListN.{length, drop, replicate}
 use lib.Ieee.{Float, nan, inf, fin, binary32, toBits}
 use Rattle.words.specs.Words.{each}
 use Rattle.numbers.specs.Names.{capacity, hiSlots, maxGroupFitted, maxTypeFitted, requiredSkill1, requiredSkill1Level}
@@ -16,9 +16,10 @@ use Rattle.fit.specs.Fit.{Item, Result, Fit, allResults, fitOf}
 use Rattle.entry.specs.declared.Entry.{Entry}
 use Rattle.entry.specs.declared.Rule.the-variants.{Resource, Slots, NotAnImplant, SlotTaken, Skill, MaxGroup, MaxType, NotASkill, Banned, Points, UnknownType}
 use Rattle.entry.specs.Entries.{onShip, onItem}
-use Rattle.lists.specs.Terms.{Terms, terms, limited, main}
+use Rattle.lists.specs.Terms.{Terms, terms, limited, readBy, main}
 use Rattle.fitcheck.specs.Calls.{Refused, Listed, listCall, skillCall}
-use Rattle.promises.specs.Compare.{Bytes, Grown, AddedVolumes}
+use Rattle.promises.specs.Answers.{fitConditions, None}
+use Rattle.promises.specs.Compare.{Bytes, Grown, AddedVolumes, Apart}
 use Rattle.promises.specs.Cases.{ship, gun, gunnery, ore, ghost, unknown, attribute, has, result, Thing, stack, one}
 use Rattle.promises.specs.CallCases.{words}
 
@@ -189,6 +190,17 @@ OLD-LAST = onItem 4 (UnknownType lost) ∷ []
 abbrev pub NEW-LAST : List Entry
 NEW-LAST = onItem 4 (UnknownType lost) ∷ onItem 8 (UnknownType unknown) ∷ []
 
+-- P14: the old fit by a pilot who lists another skill before it, at another level
+abbrev retrained : Fit
+retrained = record { frame = old .frame; skills = gun ∷ gunnery ∷ []; levels = 4 ∷ 5 ∷ []; items = old .items; results = old .results }
+
+abbrev pub RETRAINED : List ℕ
+RETRAINED = fitBytes retrained
+
+-- what a guest is told of both
+abbrev pub GUESTS-LIST : List Entry
+GUESTS-LIST = drop 1 OLD-LIST ++ (onShip (Points 6 5) ∷ OLD-LAST)
+
 -- room for all of them
 abbrev pub ROOM : List ℕ
 ROOM = replicate 336 7
@@ -219,3 +231,20 @@ pub record Example : Type 0 where
   pub new-wider : listCall WIDER CATALOGUE NEW ROOM ≡ listCall PRICING CATALOGUE NEW ROOM
   pub old-narrow-skills : skillCall NARROW CATALOGUE OLD 2 ROOM ≡ Listed (lacks 3)
   pub new-wider-skills : skillCall WIDER CATALOGUE NEW 2 ROOM ≡ Listed (lacks 1)
+
+-- two images that meet the premises of P14, one five bytes longer: a guest's lists are one list, an officer's and a pilot's are not; and a
+-- guest's list grows as theirs does
+pub record GuestExample : Type 0 where
+  pub retrained-fit : fitOf RETRAINED ≡ retrained
+  pub longer : length RETRAINED ≡ length OLD + 5
+  pub apart : Apart (fitOf OLD) (fitOf RETRAINED)
+  pub old-fine : None (fitConditions OLD)
+  pub retrained-fine : None (fitConditions RETRAINED)
+  pub guests-old : listCall (readBy 0 PRICING) CATALOGUE OLD ROOM ≡ Listed GUESTS-LIST
+  pub guests-retrained : listCall (readBy 0 PRICING) CATALOGUE RETRAINED ROOM ≡ Listed GUESTS-LIST
+  pub officers-retrained : listCall PRICING CATALOGUE RETRAINED ROOM
+      ≡ Listed ((onShip (NotASkill gun) ∷ OLD-LIST) ++ (onShip (Points 6 5) ∷ OLD-LAST))
+  pub pilots-old : listCall (readBy 1 PRICING) CATALOGUE OLD ROOM ≡ Listed (OLD-LIST ++ (onShip (Points 6 5) ∷ OLD-LAST))
+  pub guests-new : listCall (readBy 0 PRICING) CATALOGUE NEW ROOM ≡ Listed (drop 1 NEW-LIST ++ (onShip (Points 9 5) ∷ NEW-LAST))
+  pub guests-skills : skillCall (readBy 0 main) CATALOGUE OLD 2 ROOM ≡ Refused 20
+  pub pilots-skills : skillCall (readBy 1 main) CATALOGUE OLD 2 ROOM ≡ Listed (lacks 3)

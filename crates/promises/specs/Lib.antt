@@ -18,3 +18,4 @@ pub mod WidenCases
 pub mod LeagueCases
 pub mod UnknownCases
 pub mod PageCases
+pub mod ReaderCases

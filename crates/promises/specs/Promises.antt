@@ -2,7 +2,7 @@
 -- `widenCall` of fitcheck/specs, functions of bytes, and the exported functions are proved equal to them: the word by `returned`,
 -- `hallReturned`, `outputWord`, the buffer by `buffered`, `filled`. Read `Answers`, `Compare`, `GrownCase`, `KeptCases`, `Walks`, `Halls`,
 -- `Widens`, `Edges` beside this file, and lists/specs for the list. `Terms` is what a call brings beside images and buffer.
-use Prim.Native.Nat.{ℕ, _/_, _≤_}
+use Prim.Native.Nat.{ℕ, _*_, _/_, _≤_}
 use mathlib.Core.Path.{_≡_}
 use mathlib.Core.Bool.{false, not}
 use mathlib.Core.List.{List, [], map}
@@ -22,15 +22,15 @@ use Rattle.entry.specs.Entries.{number, entryBytes}
 use Rattle.context.specs.Context.{pairs}
 use Rattle.resource.specs.Resource.{launched}
 use Rattle.skill.specs.Skill.{tooMany, skillList}
-use Rattle.lists.specs.Terms.{Terms, main}
+use Rattle.lists.specs.Terms.{Terms, readBy, main}
 use Rattle.validate.specs.Validate.{listOf}
-use Rattle.lists.specs.Lists.{leagueList, wholeList}
+use Rattle.lists.specs.Lists.{leagueList, wholeList, forReader, listFor}
 use Rattle.fitcheck.specs.Calls.{listCall, skillCall}
 use Rattle.fitcheck.specs.Hall.{hallCall, hallReturned}
-use Rattle.promises.specs.Answers.{Outcome, outcome, refusal, count, entriesOf, catalogueConditions, listConditions, skillConditions, None, Answers}
+use Rattle.promises.specs.Answers.{Outcome, outcome, refusal, count, entriesOf, catalogueConditions, fitConditions, listConditions, skillConditions, None, Answers}
 use Rattle.promises.specs.Before.{listBefore, rustCall}
-use Rattle.promises.specs.Compare.{Bytes, Grown, AddedVolumes, Alike, Kept}
-use Rattle.promises.specs.GrownCase.{grownBy, Example}
+use Rattle.promises.specs.Compare.{Bytes, Grown, AddedVolumes, Alike, Apart, Kept}
+use Rattle.promises.specs.GrownCase.{grownBy, Example, GuestExample}
 use Rattle.promises.specs.KeptCases.{Tables}
 use Rattle.promises.specs.Walks.{MoreWanted, SkillsOf}
 use Rattle.promises.specs.Halls.{HallAnswers, Judged}
@@ -49,7 +49,8 @@ skillOutcome t catalogue fit result buffer = outcome buffer (skillCall t catalog
 -- entries' own changes; where no condition holds, it gives the list.
 abbrev pub ListAnswers : Type 0
 ListAnswers = (t : Terms) (catalogue fit buffer : List ℕ)
-    → Answers (listConditions t catalogue fit buffer) (wholeList t (catalogueOf catalogue) (fitOf fit)) buffer (listOutcome t catalogue fit buffer)
+    → Answers (listConditions t catalogue fit buffer) (listFor t (catalogueOf catalogue) (fitOf fit)) buffer
+    (listOutcome t catalogue fit buffer)
 
 abbrev pub SkillAnswers : Type 0
 SkillAnswers = (t : Terms) (catalogue fit : List ℕ) (result : ℕ) (buffer : List ℕ)
@@ -79,22 +80,22 @@ ListAsBefore = (t : Terms) (catalogue fit buffer : List ℕ)
     → listOutcome t catalogue fit buffer ≡ outcome buffer (listBefore t catalogue fit buffer)
 
 -- P2. Without a profile, whatever the allowance, a list call that 13 does not refuse leaves what one that knows no leagues would, the word and
--- every byte: the Rust's list with the missing types behind it, or the number that refuses it.
+-- every byte: the Rust's list with the missing types behind it, as its reader gets it, or the number that refuses it.
 abbrev pub NoProfile : Type 0
 NoProfile = (t : Terms) (catalogue fit buffer : List ℕ) → t .profile ≡ []
     → (refusal (listOutcome t catalogue fit buffer) ≡ 13 → ⊥)
-    → listOutcome t catalogue fit buffer ≡ outcome buffer (rustCall catalogue fit buffer)
+    → listOutcome t catalogue fit buffer ≡ outcome buffer (rustCall t catalogue fit buffer)
 
 -- P5. Take rule 26 out and the list given before remains, a league's entries included; without a profile that is the Rust's.
 abbrev pub Unknowns : Type 0
 Unknowns = (t : Terms) (c : Catalogue) (f : Fit)
     → (only (λ e. not (eqb (number e) 26)) (wholeList t c f) ≡ leagueList t c f) × (t .profile ≡ [] → leagueList t c f ≡ listOf c f)
 
--- The same of the bytes that an answered call left, byte 1 of an entry being its rule's number.
+-- The same of the bytes that an answered call left, as its reader gets them, byte 1 of an entry being its rule's number.
 abbrev pub UnknownsLeft : Type 0
 UnknownsLeft = (t : Terms) (catalogue fit buffer : List ℕ) → refusal (listOutcome t catalogue fit buffer) ≡ 0
     → only (λ e. not (eqb (u8At e 1) 26)) (entriesOf (listOutcome t catalogue fit buffer))
-    ≡ map entryBytes (leagueList t (catalogueOf catalogue) (fitOf fit))
+    ≡ map entryBytes (forReader (t .reader) (leagueList t (catalogueOf catalogue) (fitOf fit)))
 
 -- P8. Whatever the limits of a page, a call that 13 does not refuse leaves what the main page's leaves, the word and every byte of the buffer:
 -- each list that it answers, and every other refusal. Limits above the main page's, 256 and 512, count as those.
@@ -103,10 +104,10 @@ SmallPage = (t t′ : Terms) (catalogue fit buffer : List ℕ)
     → Alike t t′ → 256 ≤ t′ .pairs → (refusal (listOutcome t catalogue fit buffer) ≡ 13 → ⊥)
     → listOutcome t catalogue fit buffer ≡ listOutcome t′ catalogue fit buffer
 
--- The skill call of each result, likewise. It reads no profile.
+-- The skill call of each result, likewise, for the same reader. It reads no profile.
 abbrev pub SmallPageSkills : Type 0
 SmallPageSkills = (t t′ : Terms) (catalogue fit : List ℕ) (result : ℕ) (buffer : List ℕ)
-    → 256 ≤ t′ .pairs → 512 ≤ t′ .skills → (refusal (skillOutcome t catalogue fit result buffer) ≡ 13 → ⊥)
+    → t .reader ≡ t′ .reader → 256 ≤ t′ .pairs → 512 ≤ t′ .skills → (refusal (skillOutcome t catalogue fit result buffer) ≡ 13 → ⊥)
     → skillOutcome t catalogue fit result buffer ≡ skillOutcome t′ catalogue fit result buffer
 
 -- 13 is of smaller pages: the main page gives it for nothing.
@@ -114,6 +115,32 @@ abbrev pub MainPage : Type 0
 MainPage = (t : Terms) (catalogue fit : List ℕ) (result : ℕ) (buffer : List ℕ) → 256 ≤ t .pairs
     → (refusal (listOutcome t catalogue fit buffer) ≡ 13 → ⊥)
     × (512 ≤ t .skills → refusal (skillOutcome t catalogue fit result buffer) ≡ 13 → ⊥)
+
+-- P14. Of two fits that 4 to 6 do not refuse and that differ in listed skills and levels alone, in how many there are too, a guest's list
+-- calls, else alike, leave the same word and the same buffer, whatever it held: nothing in them depends on those skills and levels.
+abbrev pub GuestBlind : Type 0
+GuestBlind = (t : Terms) (catalogue one other buffer : List ℕ) → t .reader ≡ 0
+    → None (fitConditions one) → None (fitConditions other) → Apart (fitOf one) (fitOf other)
+    → listOutcome t catalogue one buffer ≡ listOutcome t catalogue other buffer
+
+-- A guest's skill call, whatever its bytes, is refused by 20 and leaves the buffer.
+abbrev pub GuestSkills : Type 0
+GuestSkills = (t : Terms) (catalogue fit : List ℕ) (result : ℕ) (buffer : List ℕ) → t .reader ≡ 0
+    → skillOutcome t catalogue fit result buffer ≡ record { word = 20 * 4294967296; buffer = buffer }
+
+-- What a guest is told: the officer's entries but those of rule 21, byte for byte in their order. Each call has its own buffer.
+abbrev pub GuestList : Type 0
+GuestList = (t : Terms) (catalogue fit guests officers : List ℕ)
+    → refusal (listOutcome (readBy 0 t) catalogue fit guests) ≡ 0 → refusal (listOutcome (readBy 2 t) catalogue fit officers) ≡ 0
+    → entriesOf (listOutcome (readBy 0 t) catalogue fit guests)
+    ≡ only (λ e. not (eqb (u8At e 1) 21)) (entriesOf (listOutcome (readBy 2 t) catalogue fit officers))
+
+-- Pilots and officers get the whole list, and their calls leave the same, the word and every byte.
+abbrev pub FullList : Type 0
+FullList = (t : Terms) (catalogue fit : List ℕ) (result : ℕ) (buffer : List ℕ)
+    → (listFor (readBy 2 t) (catalogueOf catalogue) (fitOf fit) ≡ wholeList t (catalogueOf catalogue) (fitOf fit))
+    × (listOutcome (readBy 1 t) catalogue fit buffer ≡ listOutcome (readBy 2 t) catalogue fit buffer)
+    × (skillOutcome (readBy 1 t) catalogue fit result buffer ≡ skillOutcome (readBy 2 t) catalogue fit result buffer)
 
 -- The drones of a fit that 4 does not refuse, 256 stacks of 4,294,967,295 at most, are a number that an f64 holds: the one that is listed has
 -- the value of their total, with no rounding.
@@ -123,7 +150,8 @@ DronesExact = (c : Catalogue) (fit : List ℕ) → Bytes fit → T (not (badSize
 
 -- Demand 3 for the list. Items and results put behind those of a fit with as many results as items, drones in any number among them, and
 -- lowered levels, make no entry vanish: it has its own place in the new list, in the old order, with a used number no lower and every other
--- byte the same. Rules 24, 25 and 26 are among the entries, as both calls have the same profile and allowance. Their limits may differ.
+-- byte the same. Rules 24, 25 and 26 are among the entries, as both calls have the same profile and allowance; both name the same reader,
+-- whoever that is. Their limits may differ.
 abbrev pub ListKept : Type 0
 ListKept = (t t′ : Terms) (catalogue old new oldBuffer newBuffer : List ℕ) → Alike t t′ → Bytes new
     → Grown (fitOf old) (fitOf new)
@@ -163,7 +191,7 @@ TooMany = (limit : ℕ) (c : Catalogue) (r : Result) → T (tooMany limit c r) �
 abbrev pub HallCall : Type 0
 HallCall = (catalogue input : List ℕ) → HallAnswers catalogue input (hallReturned (hallCall catalogue input))
 
--- Where the catalogue is not refused, a fit is clear exactly where its list call, on the main page with no profile, answers with no entry and
+-- Where the catalogue is not refused, a fit is clear exactly where the officer's list call on the main page, with no profile, has no entry and
 -- it has as many results as items, refused exactly where that refuses with 4 to 6, and faulted where it lists entries or has unequal numbers.
 abbrev pub HallFits : Type 0
 HallFits = (catalogue fit buffer : List ℕ) → None (catalogueConditions catalogue) → Judged catalogue fit buffer (listOutcome main catalogue fit buffer)
@@ -205,6 +233,11 @@ pub record Promises : Type 0 where
   pub small-page : SmallPage
   pub small-page-skills : SmallPageSkills
   pub main-page : MainPage
+  pub guest-blind : GuestBlind
+  pub guest-skills : GuestSkills
+  pub guest-list : GuestList
+  pub full-list : FullList
+  pub guest-example : GuestExample
   pub drones-exact : DronesExact
   pub list-kept : ListKept
   pub skill-kept : SkillKept

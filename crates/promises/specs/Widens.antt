@@ -12,8 +12,8 @@ use Rattle.fit.specs.Refusals.{fitRefusals}
 use Rattle.profile.specs.Profile.{profileRefusals}
 use Rattle.skill.specs.Skill.{skillList}
 use Rattle.lists.specs.Terms.{Terms}
-use Rattle.lists.specs.Lists.{wholeList}
-use Rattle.fitcheck.specs.Calls.{Answer, answer, overPairs, bufferRefusals, skillRefusals, listCall, skillCall}
+use Rattle.lists.specs.Lists.{listFor}
+use Rattle.fitcheck.specs.Calls.{Answer, answer, noReader, isGuest, overPairs, bufferRefusals, skillRefusals, listCall, skillCall}
 use Rattle.fitcheck.specs.Widen.{outputWord, filled, noRoom, widenCall}
 use Rattle.promises.specs.Answers.{Outcome, refusal, count, Conditions, First, None}
 
@@ -52,14 +52,16 @@ abbrev pub listUnderOld : Terms → (old fit buffer : List ℕ) → Answer
 listUnderOld t old fit buffer =
     let c = oldCatalogueOf old in
     let f = fitOf fit in
-    let es = wholeList t c f in
-    answer (oldRefusals old ++ fitRefusals fit ++ ((13, overPairs t c f) ∷ []) ++ profileRefusals (t .profile) ++ bufferRefusals buffer es) es
+    let es = listFor t c f in
+    let behind = oldRefusals old ++ fitRefusals fit ++ ((13, overPairs t c f) ∷ []) ++ profileRefusals (t .profile) ++ bufferRefusals buffer es in
+    answer ((19, noReader t) ∷ behind) es
 
 abbrev pub skillsUnderOld : Terms → (old fit : List ℕ) (result : ℕ) (buffer : List ℕ) → Answer
 skillsUnderOld t old fit result buffer =
     let c = oldCatalogueOf old in
     let f = fitOf fit in
-    answer (oldRefusals old ++ fitRefusals fit ++ ((13, overPairs t c f) ∷ []) ++ skillRefusals t c f result buffer) (skillList c f result)
+    let behind = oldRefusals old ++ fitRefusals fit ++ ((13, overPairs t c f) ∷ []) ++ skillRefusals t c f result buffer in
+    answer ((19, noReader t) ∷ (20, isGuest t) ∷ behind) (skillList c f result)
 
 -- a catalogue that is not refused, under which every call answers as under the old one
 pub record Stands (old new : List ℕ) : Type 0 where

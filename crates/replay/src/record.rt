@@ -1,6 +1,7 @@
 // One record: a call, and the original's answer to it.
 use fitcheck::MAIN_PAIRS;
 use fitcheck::MAIN_SKILLS;
+use numbers::readers;
 ghost use mathlib.Core.Path.{_≡_};
 ghost use Prim.Native.Nat.{_+_, _<_, _≤_};
 ghost use lib.ListN.{length};
@@ -60,7 +61,7 @@ fn profile_at(b: &[u8], at: usize) -> usize
     at + 36 + number(b, at) + number(b, at + 4)
 }
 
-// The call of the record at a place, on the main page.
+// The officer's call of the record at a place, on the main page.
 fn call(b: &[u8], at: usize, out: &mut [u8]) -> u64
     requires { ⌜ at + size (now b) at ≤ length (now b) ⌝ }
 {
@@ -72,6 +73,7 @@ fn call(b: &[u8], at: usize, out: &mut [u8]) -> u64
     if result == LIST {
         let allowance = image::u32_at(b, at + 12);
         return fitcheck::fit_list(
+            readers::OFFICER,
             catalogue,
             fit,
             profile,
@@ -87,7 +89,15 @@ fn call(b: &[u8], at: usize, out: &mut [u8]) -> u64
     if result == WIDEN {
         return fitcheck::fit_widen(catalogue, out);
     }
-    fitcheck::fit_skill(catalogue, fit, result, MAIN_PAIRS, MAIN_SKILLS, out)
+    fitcheck::fit_skill(
+        readers::OFFICER,
+        catalogue,
+        fit,
+        result,
+        MAIN_PAIRS,
+        MAIN_SKILLS,
+        out,
+    )
 }
 
 // Whether the call of the record at a place gives its word and leaves its bytes.

@@ -1,7 +1,7 @@
 // Demand 3 of the two calls as they are exported: an old and a new call, each with its own buffer, and what their contracts say of both.
 // Document 01, "Two fits compared".
 ghost use mathlib.Core.Path.{_≡_};
-ghost use Rattle.lists.specs.Terms.{terms, limited, main};
+ghost use Rattle.lists.specs.Terms.{terms, limited, readBy, main};
 ghost use Rattle.fitcheck.specs.Calls.{listCall, skillCall};
 ghost use Rattle.promises.specs.Answers.{outcome};
 ghost use Rattle.promises.specs.Compare.{Bytes};
@@ -31,9 +31,10 @@ fn bytes(b: &[u8]) -> usize
     i
 }
 
-// Two list calls with one profile and one allowance, each on its own page: their words and their buffers are the call's. Where both are
-// answered, no entry of the old list vanishes.
+// Two list calls of one reader with one profile and one allowance, each on its own page: their words and their buffers are the call's.
+// Where both are answered, no entry of the old list vanishes.
 pub fn lists(
+    reader: u32,
     catalogue: &[u8],
     profile: &[u8],
     allowance: u32,
@@ -46,7 +47,7 @@ pub fn lists(
 ) -> Words
     ensures { λ r.
         let c = now (catalogue .entry) in
-        let league = terms (now (profile .entry)) allowance in
+        let league = readBy reader (terms (now (profile .entry)) allowance) in
         let t = limited (first .pairs) (first .skills) league in
         let t′ = limited (second .pairs) (second .skills) league in
         let o = left (r .old) (now (before .exit)) in
@@ -57,6 +58,7 @@ pub fn lists(
 {
     let _ = bytes(new);
     let a = fitcheck::fit_list(
+        reader,
         catalogue,
         old,
         profile,
@@ -66,6 +68,7 @@ pub fn lists(
         before,
     );
     let b = fitcheck::fit_list(
+        reader,
         catalogue,
         new,
         profile,
@@ -79,6 +82,7 @@ pub fn lists(
 
 // Two skill calls for one result, likewise. Where both are answered, no entry of the old list vanishes.
 pub fn skills(
+    reader: u32,
     catalogue: &[u8],
     old: &[u8],
     new: &[u8],
@@ -90,15 +94,19 @@ pub fn skills(
 ) -> Words
     ensures { λ r.
         let c = now (catalogue .entry) in
-        let t = limited (first .pairs) (first .skills) main in
-        let t′ = limited (second .pairs) (second .skills) main in
+        let t = limited (first .pairs) (first .skills) (readBy reader main) in
+        let t′ = limited (second .pairs) (second .skills) (readBy reader main) in
         let o = left (r .old) (now (before .exit)) in
         let o′ = left (r .new) (now (after .exit)) in
         ⌜ (outcome (now (before .entry)) (skillCall t c (now (old .entry)) result (now (before .entry))) ≡ o)
         × (outcome (now (after .entry)) (skillCall t′ c (now (new .entry)) result (now (after .entry))) ≡ o′)
         × SkillsKept (now (old .entry)) (now (new .entry)) o o′ ⌝ }
 {
-    let a = fitcheck::fit_skill(catalogue, old, result, first.pairs, first.skills, before);
-    let b = fitcheck::fit_skill(catalogue, new, result, second.pairs, second.skills, after);
+    let pairs = first.pairs;
+    let most = first.skills;
+    let a = fitcheck::fit_skill(reader, catalogue, old, result, pairs, most, before);
+    let room = second.pairs;
+    let limit = second.skills;
+    let b = fitcheck::fit_skill(reader, catalogue, new, result, room, limit, after);
     Words { old: a, new: b }
 }

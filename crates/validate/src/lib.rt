@@ -8,7 +8,7 @@ use numbers::categories;
 use numbers::groups;
 use numbers::sizes;
 ghost use mathlib.Core.Path.{_≡_};
-ghost use mathlib.Core.List.{_++_};
+ghost use mathlib.Core.List.{[], _∷_, _++_};
 ghost use Prim.Native.Nat.{_+_, _*_, _<_, _≤_};
 ghost use Rattle.words.specs.Words.{contains};
 ghost use Rattle.numbers.specs.Groups as Groups;
@@ -17,10 +17,12 @@ ghost use Rattle.catalogue.specs.Catalogue.{catalogueOf};
 ghost use Rattle.catalogue.specs.Sound as Catalogue;
 ghost use Rattle.fit.specs.Fit.{skillCount, modeOf, fitOf};
 ghost use Rattle.fit.specs.Sound as Fit;
+ghost use Rattle.entry.specs.declared.Rule.the-variants.{NotAHull};
+ghost use Rattle.entry.specs.Entries.{onShip};
 ghost use Rattle.entry.specs.Wrote.{Wrote, Room};
 ghost use Rattle.context.specs.Gathered.{pairsOf, contextOf, Gathered};
 ghost use Rattle.validate.specs.Kind.{isHullKind, isHull, isMode, isSkill, notAMode, notASkillAt, notASkill};
-ghost use Rattle.validate.specs.Validate.{hullRules, listOf, mostEntries};
+ghost use Rattle.validate.specs.Validate.{hullRules, listWith, listOf, mostEntries};
 
 // No list has more entries: the mode, the skills, 12 resources, 6 racks, 2 hardpoints; and of each pair 8 by slot.rs, 8 by item.rs.
 pub const MOST_ENTRIES: usize = 1 + sizes::MOST_SKILLS + 12 + 8 + 16 * sizes::MOST_PAIRS;
@@ -189,6 +191,20 @@ fn hull_rules(catalogue: &[u8], fit: &[u8], facts: &[u32; 2054], out: &mut [u8],
     limits::validate(catalogue, fit, facts, out, d)
 }
 
+// The list of a ship that is no hull.
+fn not_a_hull(out: &mut [u8]) -> usize
+    ensures { λ r. ⌜ Wrote (now (out .entry)) 0 (now (out .exit)) r (onShip NotAHull ∷ []) ⌝ }
+{
+    entry::emit(
+        out,
+        0,
+        Entry {
+            target: Target::Ship,
+            rule: Rule::NotAHull,
+        },
+    )
+}
+
 // The list of a fit. `hints` are those of `catalogue::type_of`.
 pub fn validate(
     catalogue: &[u8],
@@ -203,15 +219,25 @@ pub fn validate(
         ⌜ Wrote (now (out .entry)) 0 (now (out .exit)) r es × (r ≤ mostEntries) ⌝ }
 {
     if !is_hull(catalogue, fit, facts) {
-        return entry::emit(
-            out,
-            0,
-            Entry {
-                target: Target::Ship,
-                rule: Rule::NotAHull,
-            },
-        );
+        return not_a_hull(out);
     }
     let n = kind(catalogue, fit, hints, out, 0);
+    hull_rules(catalogue, fit, facts, out, n)
+}
+
+// The list of a fit as if it listed no skills: none is looked up.
+pub fn without_skills(catalogue: &[u8], fit: &[u8], facts: &[u32; 2054], out: &mut [u8]) -> usize
+    requires { ⌜ Gathered (now catalogue) (now fit) (now facts) ⌝ }
+    ensures { λ r.
+        let f = fitOf (now (fit .entry)) in
+        let ps = pairsOf (now (catalogue .entry)) (now (fit .entry)) in
+        let es = listWith (catalogueOf (now (catalogue .entry))) (f .frame) [] ps in
+        ⌜ Wrote (now (out .entry)) 0 (now (out .exit)) r es × (r ≤ mostEntries) ⌝ }
+{
+    let hull = is_hull(catalogue, fit, facts);
+    if !hull {
+        return not_a_hull(out);
+    }
+    let n = not_a_mode(catalogue, fit, out, 0);
     hull_rules(catalogue, fit, facts, out, n)
 }

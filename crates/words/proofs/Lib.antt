@@ -1,5 +1,6 @@
 -- Laws of the words: what one more element does to each, tables, their elements, walks over them, lengths, and ids that are the same.
 pub mod Steps
+pub mod All
 pub mod Tables
 pub mod Elements
 pub mod Walks

@@ -79,6 +79,7 @@ fn everything(picture: Option<&str>) {
     leagues(small, full);
     missing(small, full);
     pages(small, full);
+    readers(small, full);
     skills(small, full);
     hall(small, full);
     widen();
@@ -184,6 +185,18 @@ fn pages(small: &Catalogue, full: &Catalogue) {
             let row = subject::pages(catalogue, &fits, result, room);
             report::page_row(&format!("{call}, {title}"), row);
         }
+    }
+    println!();
+}
+
+/// The fits' 400 skills are looked up for an officer, and for a guest they are
+/// not.
+fn readers(small: &Catalogue, full: &Catalogue) {
+    println!("## (k) A guest's list, realistic fit, µs\n");
+    report::reader_head();
+    let fits = of_shape(fits::REALISTIC, FITS);
+    for (title, catalogue) in [("small catalogue", small), ("full-size catalogue", full)] {
+        report::reader_row(title, subject::readers(catalogue, &fits));
     }
     println!();
 }
@@ -353,7 +366,7 @@ fn call(case: &str, times: usize) -> bool {
     for _ in 0..times {
         let catalogue = black_box(&catalogue);
         black_box(match result {
-            Some(result) => library.skill(catalogue, &fit, result, Limits::MAIN, &mut buffer),
+            Some(result) => library.skill(catalogue, &fit, result, Terms::default(), &mut buffer),
             None => library.list(catalogue, &fit, Terms::default(), &mut buffer),
         });
     }

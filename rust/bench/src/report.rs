@@ -115,6 +115,24 @@ pub fn page_row(title: &str, [main, smaller]: [f64; 2]) {
     );
 }
 
+/// What a guest's list may cost beside an officer's.
+const GUEST: f64 = 1.0;
+
+pub fn reader_head() {
+    println!("| | an officer's list | a guest's | ÷ an officer's, target {GUEST} |");
+    println!("|---|---|---|---|");
+}
+
+pub fn reader_row(title: &str, [officer, guest]: [f64; 2]) {
+    let ratio = guest / officer;
+    let shown = if ratio <= GUEST { "met" } else { "missed" };
+    println!(
+        "| {title} | {} | {} | {ratio:.2} {shown} |",
+        micros(officer),
+        micros(guest)
+    );
+}
+
 pub fn skill_head() {
     println!(
         "| | entries | skill | short buffer | scan | original \

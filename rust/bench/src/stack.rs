@@ -11,7 +11,6 @@ use std::process::Command;
 use std::thread;
 
 use compare::checker::Terms;
-use compare::page::Limits;
 
 use crate::subject::{self, Catalogue, Fit};
 use crate::{fits, world};
@@ -102,7 +101,7 @@ impl Prepared {
         let (catalogue, input) = (&self.catalogue, &self.input);
         let word = match self.call {
             Call::List => library.list(catalogue, input, Terms::default(), &mut self.buffer),
-            Call::Skill => library.skill(catalogue, input, 0, Limits::MAIN, &mut self.buffer),
+            Call::Skill => library.skill(catalogue, input, 0, Terms::default(), &mut self.buffer),
             Call::Hall => library.hall(catalogue, input),
             Call::Widen => library.widen(input, &mut self.buffer),
             Call::Nothing => 0,

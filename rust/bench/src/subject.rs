@@ -6,6 +6,7 @@ use std::hint::black_box;
 use compare::checker::{Checker, ENTRY, Terms};
 use compare::names::{COUNT, REQUIRED};
 use compare::page::Limits;
+use compare::reader::Reader;
 use compare::reference::Original;
 use compare::{model, rattle, reference};
 use original::{Info, ItemResult, Rule, Run, Target, Violation};
@@ -19,8 +20,9 @@ use crate::timing::medians;
 pub const ANY_LIST: usize = 135_696;
 const ANY_SKILLS: usize = 12_288;
 
-/// What every call brings but those of [`leagues`].
+/// What every call brings but those of [`leagues`], [`pages`] and [`readers`].
 const NO_LEAGUE: Terms = Terms {
+    reader: Reader::OFFICER,
     profile: &[],
     allowance: 0,
     limits: Limits::MAIN,
@@ -281,18 +283,13 @@ pub fn pages(catalogue: &Catalogue, fits: &[Fit], result: Option<u32>, small: Li
     let library = library();
     let call = |fit: &Fit, limits: Limits, out: &mut Vec<u8>| {
         let (image, fit) = (black_box(&catalogue.image), &fit.image);
-        let limits = black_box(limits);
+        let terms = Terms {
+            limits: black_box(limits),
+            ..NO_LEAGUE
+        };
         black_box(match result {
-            None => library.list(
-                image,
-                fit,
-                Terms {
-                    limits,
-                    ..NO_LEAGUE
-                },
-                out,
-            ),
-            Some(result) => library.skill(image, fit, result, limits, out),
+            None => library.list(image, fit, terms, out),
+            Some(result) => library.skill(image, fit, result, terms, out),
         })
     };
     let mut long = [vec![0; ANY_LIST], vec![0; ANY_LIST]];
@@ -312,6 +309,43 @@ pub fn pages(catalogue: &Catalogue, fits: &[Fit], result: Option<u32>, small: Li
             },
             &mut || {
                 call(t1.next().1, small, smaller);
+            },
+        ],
+    )
+}
+
+/// Times the list call over the fits in turn, for an officer and for a guest:
+/// what the library lists for either is the reference's.
+pub fn readers(catalogue: &Catalogue, fits: &[Fit]) -> [f64; 2] {
+    let library = library();
+    let call = |checker: &dyn Checker, fit: &Fit, reader: Reader, out: &mut Vec<u8>| {
+        let terms = Terms {
+            reader: black_box(reader),
+            ..NO_LEAGUE
+        };
+        black_box(checker.list(black_box(&catalogue.image), &fit.image, terms, out))
+    };
+    let mut long = [vec![0; ANY_LIST], vec![0; ANY_LIST]];
+    let [first, second] = &mut long;
+    for fit in fits {
+        for reader in [Reader::OFFICER, Reader::GUEST] {
+            assert_eq!(
+                call(&*library, fit, reader, first),
+                call(&Original, fit, reader, second),
+                "entries of the library and of the reference"
+            );
+            assert_eq!(first, second, "bytes of the library and of the reference");
+        }
+    }
+    let [mut t0, mut t1] = [fits, fits].map(Turns::new);
+    medians(
+        ROUNDS,
+        [
+            &mut || {
+                call(&*library, t0.next().1, Reader::OFFICER, first);
+            },
+            &mut || {
+                call(&*library, t1.next().1, Reader::GUEST, second);
             },
         ],
     )
@@ -344,8 +378,7 @@ pub fn agreed_skills(
         fit.run(&catalogue.hashed).report(outcome, target),
         fit.run(&catalogue.sorted).report(outcome, target),
     ];
-    let call =
-        |out: &mut [u8]| library.skill(&catalogue.image, &fit.image, result, Limits::MAIN, out);
+    let call = |out: &mut [u8]| library.skill(&catalogue.image, &fit.image, result, NO_LEAGUE, out);
     agreed(&originals, ANY_SKILLS, call, |_| true)
 }
 
@@ -423,13 +456,13 @@ pub fn skill(catalogue: &Catalogue, fits: &[Fit], result: u32) -> Skill {
             &mut || {
                 let fit = t0.next().1;
                 let (image, fit) = (black_box(image), &fit.image);
-                black_box(library.skill(image, fit, result, Limits::MAIN, &mut long));
+                black_box(library.skill(image, fit, result, NO_LEAGUE, &mut long));
             },
             &mut || {
                 let (number, fit) = t1.next();
                 let buffer = &mut exact[number];
                 let (image, fit) = (black_box(image), &fit.image);
-                black_box(library.skill(image, fit, result, Limits::MAIN, buffer));
+                black_box(library.skill(image, fit, result, NO_LEAGUE, buffer));
             },
             &mut || {
                 black_box(scan::catalogue(black_box(image)));

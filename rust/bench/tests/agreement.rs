@@ -6,7 +6,6 @@ use bench::subject::{
 };
 use bench::world::{self, SMALL};
 use compare::checker::{Checker, Terms};
-use compare::page::Limits;
 
 #[test]
 fn lists_agree_byte_by_byte() {
@@ -58,7 +57,7 @@ impl Checker for OneByteOff {
         word
     }
 
-    fn skill(&self, _: &[u8], _: &[u8], _: u32, _: Limits, _: &mut [u8]) -> u64 {
+    fn skill(&self, _: &[u8], _: &[u8], _: u32, _: Terms, _: &mut [u8]) -> u64 {
         unreachable!("no skills are asked for")
     }
 

@@ -2,9 +2,10 @@
 
 use std::fmt;
 
-use crate::model::{Catalogue, Damage, Fit, Item, Outcome};
+use crate::model::{Catalogue, Damage, Fit, Item, Outcome, Skill};
 use crate::page::Limits;
 use crate::profile::League;
+use crate::reader::Reader;
 
 #[derive(Clone, Debug, Default)]
 pub struct Case {
@@ -19,6 +20,12 @@ pub struct Case {
     pub league: League,
     /// What every list and skill call brings, but for those on the grown fit.
     pub limits: Limits,
+    /// Who the list and skill calls are for. They are made for the readers that
+    /// there are besides, too.
+    pub reader: Reader,
+    /// The skills that another pilot has listed, for a fit that is the first one
+    /// but for these.
+    pub training: Vec<Skill>,
     /// What the first fit grows by, for the comparison of two fits.
     pub growth: Growth,
     pub asks: Vec<Ask>,
@@ -50,11 +57,17 @@ pub enum Ask {
     WidenedList,
     /// The same for the skills of one result.
     WidenedSkill(u32),
+    /// The lists of the first fit and of the one with other training, for a
+    /// guest: they are the same.
+    RetrainedList(Room),
+    /// The skill calls of one result in both, for a guest.
+    RetrainedSkill(u32, Room),
 }
 
 /// A list call, or the skill call of a result, with the buffer that it is lent.
 #[derive(Clone, Copy, Debug, PartialEq)]
 pub struct Lists {
+    pub reader: Reader,
     pub result: Option<u32>,
     pub room: Room,
     pub limits: Limits,
@@ -112,7 +125,7 @@ impl Growth {
 
 /// The refusals that a call may give, in their order. 7 is given by none; 13
 /// stands where its first cause does.
-pub const REFUSALS: [u8; 12] = [1, 2, 3, 4, 5, 6, 13, 11, 12, 8, 9, 10];
+pub const REFUSALS: [u8; 14] = [19, 20, 1, 2, 3, 4, 5, 6, 13, 11, 12, 8, 9, 10];
 
 /// Why a call is refused. 13 has two causes, each in a place of its own.
 #[derive(Clone, Copy, Debug, PartialEq, Eq, PartialOrd, Ord)]
@@ -126,7 +139,9 @@ pub enum Cause {
 }
 
 /// The causes in their order. Over 512 wanted skills are 9, whatever the limit.
-pub const CAUSES: [Cause; 13] = [
+pub const CAUSES: [Cause; 15] = [
+    Cause::Number(19),
+    Cause::Number(20),
     Cause::Number(1),
     Cause::Number(2),
     Cause::Number(3),
@@ -169,7 +184,16 @@ impl fmt::Display for Cause {
 }
 
 impl Case {
-    /// The refusal that every call of this case must give, if one is planted.
+    /// The first fit with the other pilot's training in the place of its own.
+    pub fn retrained(&self) -> Fit {
+        Fit {
+            skills: self.training.clone(),
+            ..self.fits[0].clone()
+        }
+    }
+
+    /// The refusal that every call of this case must give that is for its own
+    /// reader, if one is planted.
     pub fn expected_refusal(&self) -> Option<u8> {
         let causes = self.planted.iter().map(|plant| plant.cause);
         let first = causes.min_by_key(|cause| cause.rank());

@@ -2,6 +2,7 @@
 //! word that each of them returns.
 
 use crate::page::Limits;
+use crate::reader::Reader;
 
 /// The calls. Each returns the refusal number (0 where answered) times
 /// 4,294,967,296 plus the count (0 where refused).
@@ -9,15 +10,10 @@ pub trait Checker: Sync {
     /// The list of a fit's violations, written from byte 0 of `out`.
     fn list(&self, catalogue: &[u8], fit: &[u8], terms: Terms, out: &mut [u8]) -> u64;
 
-    /// The skills that one result lacks: 0 ship, 1 character, 2 first item.
-    fn skill(
-        &self,
-        catalogue: &[u8],
-        fit: &[u8],
-        result: u32,
-        limits: Limits,
-        out: &mut [u8],
-    ) -> u64;
+    /// The skills that one result lacks: 0 ship, 1 character, 2 first item. No
+    /// profile is taken.
+    fn skill(&self, catalogue: &[u8], fit: &[u8], result: u32, terms: Terms, out: &mut [u8])
+    -> u64;
 
     /// The numbers of clear, faulted and refused fits; no buffer is lent.
     fn hall(&self, catalogue: &[u8], input: &[u8]) -> u64;
@@ -27,9 +23,10 @@ pub trait Checker: Sync {
     fn widen(&self, old: &[u8], out: &mut [u8]) -> u64;
 }
 
-/// What a list call brings beside its images and its buffer.
+/// What a list or skill call brings beside its images and its buffer.
 #[derive(Clone, Copy, Debug, Default)]
 pub struct Terms<'a> {
+    pub reader: Reader,
     /// A league's profile; no bytes are none.
     pub profile: &'a [u8],
     pub allowance: u32,

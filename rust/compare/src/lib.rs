@@ -18,6 +18,7 @@ pub mod page;
 pub mod plain;
 pub mod profile;
 pub mod rattle;
+pub mod reader;
 pub mod record;
 pub mod reference;
 pub mod rng;

@@ -32,12 +32,18 @@ mod linked {
     use super::{Checker, exported};
     use crate::checker::Terms;
     use crate::page::Limits;
+    use crate::reader::Reader;
 
     struct Rattle;
 
-    fn of(limits: Limits) -> exported::Limits {
-        let Limits { pairs, skills } = limits;
-        exported::Limits { pairs, skills }
+    fn of(terms: Terms) -> exported::Page {
+        let Reader(reader) = terms.reader;
+        let Limits { pairs, skills } = terms.limits;
+        exported::Page {
+            reader,
+            pairs,
+            skills,
+        }
     }
 
     pub fn library() -> Option<Box<dyn Checker>> {
@@ -47,7 +53,7 @@ mod linked {
     impl Checker for Rattle {
         fn list(&self, catalogue: &[u8], fit: &[u8], terms: Terms, out: &mut [u8]) -> u64 {
             let (profile, allowance) = (terms.profile, terms.allowance);
-            exported::list(catalogue, fit, profile, allowance, of(terms.limits), out)
+            exported::list(of(terms), catalogue, fit, profile, allowance, out)
         }
 
         fn skill(
@@ -55,10 +61,10 @@ mod linked {
             catalogue: &[u8],
             fit: &[u8],
             result: u32,
-            limits: Limits,
+            terms: Terms,
             out: &mut [u8],
         ) -> u64 {
-            exported::skill(catalogue, fit, result, of(limits), out)
+            exported::skill(of(terms), catalogue, fit, result, out)
         }
 
         fn hall(&self, catalogue: &[u8], input: &[u8]) -> u64 {

@@ -11,6 +11,7 @@ use crate::checker::{Checker, ENTRY, Terms};
 use crate::fixed;
 use crate::model::{Fit, hall_image};
 use crate::page::Limits;
+use crate::reader::Reader;
 use crate::reference::Original;
 use crate::run::run;
 use crate::tally::{Point, Tally};
@@ -31,7 +32,7 @@ const SMALL: usize = 1_700;
 /// The most bytes of a record with a walk of 512 skills or more.
 const LONG_WALK: usize = 8_600;
 
-/// One call on the main page and the original's answer to it.
+/// One call on the main page, the officer's, and the original's answer to it.
 #[derive(Clone, Debug, PartialEq)]
 pub struct Record {
     /// The catalogue; of the old form for a widening.
@@ -53,7 +54,7 @@ impl Record {
     fn of(case: &Case, ask: Ask) -> Option<Record> {
         let image = |fit: &Fit| fit.image();
         let is_of_a_page = matches!(ask, Ask::List(_) | Ask::Skill(..));
-        if is_of_a_page && case.limits != Limits::MAIN {
+        if is_of_a_page && (case.limits != Limits::MAIN || case.reader != Reader::OFFICER) {
             return None;
         }
         let (fit, result, room) = match ask {
@@ -65,6 +66,7 @@ impl Record {
             Ask::Widen(room) => (Vec::new(), WIDEN, Some(room)),
             Ask::GrownList | Ask::GrownSkill(_) => return None,
             Ask::WidenedList | Ask::WidenedSkill(_) => return None,
+            Ask::RetrainedList(_) | Ask::RetrainedSkill(..) => return None,
         };
         let catalogue = match ask {
             Ask::Widen(_) => case.catalogue.old_image(),
@@ -77,13 +79,13 @@ impl Record {
         let terms = Terms {
             profile: &profile,
             allowance,
-            limits: Limits::MAIN,
+            ..Terms::default()
         };
         let call = |out: &mut [u8]| match ask {
             Ask::Hall => Original.hall(&catalogue, &fit),
             Ask::List(_) => Original.list(&catalogue, &fit, terms, out),
             Ask::Widen(_) => Original.widen(&catalogue, out),
-            _ => Original.skill(&catalogue, &fit, result, Limits::MAIN, out),
+            _ => Original.skill(&catalogue, &fit, result, terms, out),
         };
         // The bytes that an answered call writes, by its word.
         let written = |word: u64| match ask {
@@ -192,6 +194,8 @@ impl Sample {
             assert!(agrees, "the original agrees with itself");
             let mut new = tally.required();
             new.retain(|(point, count)| *count > 0 && !self.met.contains(point));
+            // A call is met for every reader, and recorded for an officer.
+            new.retain(|(point, _)| !matches!(point, Point::Reader(_)));
             if !new.iter().any(|(point, _)| asked(point)) {
                 continue;
             }

@@ -7,6 +7,7 @@ use crate::checker::Checker;
 use crate::model::{Damage, Fit, Outcome};
 use crate::page::Limits;
 use crate::profile::{League, Profile};
+use crate::reader::Reader;
 use crate::run::{Difference, run};
 use crate::tally::Tally;
 
@@ -87,6 +88,10 @@ impl Small<'_> {
             self.damage(|case| &mut profile(case).damage);
         }
         self.page();
+        for reader in [Reader::GUEST, Reader::PILOT, Reader::OFFICER] {
+            self.change(|case| case.reader = reader);
+        }
+        self.rows(|case| &mut case.training);
         self.rows(|case| &mut case.growth.items);
         self.rows(|case| &mut case.growth.results);
         self.rows(|case| &mut case.growth.lowered);
@@ -100,19 +105,22 @@ impl Small<'_> {
         for room in [Room::Exact, Room::Longer(24)] {
             self.change(|case| match &mut case.asks[0] {
                 Ask::List(held) | Ask::Skill(_, held) | Ask::Widen(held) => *held = room,
+                Ask::RetrainedList(held) | Ask::RetrainedSkill(_, held) => *held = room,
                 _ => {}
             });
         }
         // One of the two fits alone may show it.
-        let single = match self.case.asks[0] {
-            Ask::GrownList => Ask::List(Room::Exact),
-            Ask::GrownSkill(result) => Ask::Skill(result, Room::Exact),
+        let (single, other) = match self.case.asks[0] {
+            Ask::GrownList => (Ask::List(Room::Exact), grown(&self.case)),
+            Ask::GrownSkill(result) => (Ask::Skill(result, Room::Exact), grown(&self.case)),
+            Ask::RetrainedList(room) => (Ask::List(room), self.case.retrained()),
+            Ask::RetrainedSkill(result, room) => (Ask::Skill(result, room), self.case.retrained()),
             _ => return,
         };
         let alone = self.change(|case| case.asks[0] = single);
         if !alone {
             self.change(|case| {
-                case.fits[0] = case.growth.of(&case.fits[0]);
+                case.fits[0] = other;
                 case.asks[0] = single;
             });
         }
@@ -181,7 +189,8 @@ impl Small<'_> {
                 for ask in &mut case.asks {
                     if let Ask::Skill(result, _)
                     | Ask::GrownSkill(result)
-                    | Ask::WidenedSkill(result) = ask
+                    | Ask::WidenedSkill(result)
+                    | Ask::RetrainedSkill(result, _) = ask
                         && *result as usize > place + 2
                     {
                         *result -= 1;
@@ -239,6 +248,10 @@ fn profile(case: &mut Case) -> &mut Profile {
     case.league.profile.as_mut().expect("a profile is brought")
 }
 
+fn grown(case: &Case) -> Fit {
+    case.growth.of(&case.fits[0])
+}
+
 /// A result of a fit: 0 ship, 1 character, 2 first item.
 fn outcome(fit: &mut Fit, result: usize) -> &mut Outcome {
     match result {
@@ -254,6 +267,8 @@ fn same(a: &Case, b: &Case) -> bool {
         && a.frame == b.frame
         && a.league == b.league
         && a.limits == b.limits
+        && a.reader == b.reader
+        && a.training == b.training
         && a.growth == b.growth
         && a.asks == b.asks
         && a.planted == b.planted
@@ -263,7 +278,7 @@ fn same(a: &Case, b: &Case) -> bool {
 mod tests {
     use super::*;
     use crate::generate;
-    use crate::model::Item;
+    use crate::model::{Item, Skill};
     use crate::names::REQUIRED;
     use crate::plain::{Fault, Flaw, Plain};
     use crate::sketch::Sketch;
@@ -294,6 +309,24 @@ mod tests {
         let checker = Plain::with(Flaw::Fault(fault));
         let difference = run(&case, &checker, &mut Tally::default()).expect_err("it differs");
         shrink(&case, &difference, &checker).0
+    }
+
+    #[test]
+    fn of_two_trainings_one_alone_may_show_it() {
+        let case = Case {
+            reader: Reader::PILOT,
+            training: vec![Skill { id: 7, level: 1 }, Skill { id: 9, level: 1 }],
+            ..Sketch::hull().skill(3, 1).mode(5).case(
+                "a guest reads two fits",
+                &[Ask::RetrainedList(Room::Longer(40))],
+            )
+        };
+        let small = shrunk(case, Fault::GuestKeepsLast);
+        assert_eq!(small.asks, [Ask::List(Room::Longer(24))]);
+        assert_eq!(small.reader, Reader::OFFICER, "it is held for a guest too");
+        assert_eq!(small.fits[0].skills.len(), 1);
+        assert_eq!(small.fits[0].mode_flag, 0);
+        assert_eq!(small.training, []);
     }
 
     #[test]

@@ -13,7 +13,7 @@ use std::{env, fs};
 
 use fitcheck::{
     Attribute, BuildError, CatalogueBuilder, Explainer, FitBuilder, FitItem, ItemResult,
-    ListOptions, Mark, Names, SkillOptions, Slot, State,
+    ListOptions, Mark, Names, Reader, SkillOptions, Slot, State,
 };
 
 const NAMES: &str = "\
@@ -165,8 +165,17 @@ fn old() -> Result<Vec<u8>, BuildError> {
     fit.build()
 }
 
+/// A Rifter whose pilot has a gun among the trained skills: a list that was
+/// pasted in the wrong place.
+fn pasted() -> Result<Vec<u8>, BuildError> {
+    let mut fit = rifter(1);
+    fit.skill(AUTOCANNON, 5);
+    fit.build()
+}
+
 /// The catalogue, the names, the fits, one that was calculated half, one that
-/// was cut short on its way, and beside them an old one.
+/// was cut short on its way, and beside them an old one and one whose training
+/// is wrong.
 pub fn write(folder: &Path) -> Result<(), Box<dyn Error>> {
     let fits = folder.join("fits");
     fs::create_dir_all(&fits)?;
@@ -177,6 +186,7 @@ pub fn write(folder: &Path) -> Result<(), Box<dyn Error>> {
     fs::write(fits.join("half.fit"), half()?)?;
     fs::write(fits.join("cut.fit"), &rifter(1).build()?[..100])?;
     fs::write(folder.join("old.fit"), old()?)?;
+    fs::write(folder.join("pasted.fit"), pasted()?)?;
     Ok(())
 }
 
@@ -192,11 +202,11 @@ pub fn say() -> Result<String, Box<dyn Error>> {
     {
         text += &format!("with {with}:\n");
         let explainer = Explainer::new(fit, &names);
-        for entry in fitcheck::list(&catalogue, fit, &ListOptions::new())? {
+        for entry in fitcheck::list(&catalogue, fit, &ListOptions::new(Reader::Pilot))? {
             text += &format!("  {}\n", explainer.explain(&entry));
         }
         // Result 2 is the first item's.
-        for entry in fitcheck::skills(&catalogue, fit, 2, &SkillOptions::new())? {
+        for entry in fitcheck::skills(&catalogue, fit, 2, &SkillOptions::new(Reader::Pilot))? {
             text += &format!("  {}\n", explainer.explain_skill(2, &entry));
         }
     }

@@ -30,6 +30,14 @@ extern "C" {
 #define FITCHECK_MAIN_PAIRS 256
 #define FITCHECK_MAIN_SKILLS 512
 
+/* Who reads what a list or skill call gives. A pilot's skills are private: a
+ * guest's list has no NotASkill (rule 21), and a guest's skill call is refused
+ * by 20. A number above these is refused by 19. There is no default: whoever
+ * calls says whom it is for. */
+#define FITCHECK_GUEST 0
+#define FITCHECK_PILOT 1
+#define FITCHECK_OFFICER 2
+
 /* The rules that document 01 does not have, in an entry's second byte: of a
  * group that the league bans, more points than it allows, of a type that the
  * catalogue lacks. docs/FORMAT.md has all of them. */
@@ -51,8 +59,10 @@ extern "C" {
  * takes: a fit with more pairs is refused by 13; no list asks for skills. A
  * number above the main page's counts as that. A hull's list ends with
  * FITCHECK_UNKNOWN_TYPE for each item with a result whose type the catalogue
- * lacks. */
-uint64_t fit_list(const uint8_t *catalogue, size_t catalogue_length,
+ * lacks. The count, and the room that `out` has to have, are of what the reader
+ * gets. */
+uint64_t fit_list(uint32_t reader,
+                  const uint8_t *catalogue, size_t catalogue_length,
                   const uint8_t *fit, size_t fit_length,
                   const uint8_t *profile, size_t profile_length,
                   uint32_t allowance,
@@ -61,8 +71,10 @@ uint64_t fit_list(const uint8_t *catalogue, size_t catalogue_length,
 
 /* The skills that one result wants and the character lacks: result 0 is the
  * ship's, 1 the character's, 2 the first item's. A fit with more than `pairs`
- * pairs, and a result that wants more than `skills` skills, is refused by 13. */
-uint64_t fit_skill(const uint8_t *catalogue, size_t catalogue_length,
+ * pairs, and a result that wants more than `skills` skills, is refused by 13. A
+ * guest is refused by 20, whatever the bytes. */
+uint64_t fit_skill(uint32_t reader,
+                   const uint8_t *catalogue, size_t catalogue_length,
                    const uint8_t *fit, size_t fit_length,
                    uint32_t result,
                    uint32_t pairs, uint32_t skills,
@@ -84,7 +96,7 @@ uint64_t fit_widen(const uint8_t *old, size_t old_length,
 
 /* The number of this set of calls, images and rules, which its name has too: a
  * library of another set does not link with a program that asks for this. */
-uint64_t fit_interface_5(void);
+uint64_t fit_interface_6(void);
 
 #ifdef __cplusplus
 }

@@ -5,7 +5,7 @@ use std::ops::AddAssign;
 
 use crate::{
     CATALOGUE_BYTES, ENTRY_BYTES, Entry, FIT_BYTES, FITS_PER_CALL, FitImage, Limits, ListOptions,
-    MOST_ENTRIES, MOST_SKILLS, Passed, Refusal, SkillOptions, Unpaired, exported, limits,
+    MOST_ENTRIES, MOST_SKILLS, Passed, Reader, Refusal, SkillOptions, Unpaired, exported, limits,
 };
 
 /// How many entries the first try has room for; few fits break more rules.
@@ -21,6 +21,11 @@ const LAST_ROOM: usize = 1 << 20;
 /// empty list the fit is clear to fly where it has as many results as
 /// items: rules look at pairs, and [`FitImage::unpaired`] says what is left.
 ///
+/// That is what a pilot and an officer get. A guest's list omits
+/// [`Rule::NotASkill`](crate::Rule::NotASkill), and is empty of a fit that breaks
+/// that rule alone: it does not say that a fit is clear. Of two fits that differ
+/// in their trained skills alone, a guest gets the same (that is proved).
+///
 /// The catalogue is the type data, the fit the ship with its items and
 /// results, both in the bytes of document 01; see [`CatalogueBuilder`] and
 /// [`FitBuilder`]. Any bytes are answered or refused.
@@ -35,10 +40,10 @@ const LAST_ROOM: usize = 1 << 20;
 /// never [`Refusal::BufferLength`].
 ///
 /// ```
-/// use fitcheck::{Entry, ListOptions, Refusal, Rule, Target};
+/// use fitcheck::{Entry, ListOptions, Reader, Refusal, Rule, Target};
 ///
 /// // No type is known, so the ship is no hull.
-/// let options = ListOptions::new();
+/// let options = ListOptions::new(Reader::Officer);
 /// let entries = fitcheck::list(&[0; 20], &[0; 36], &options)?;
 /// assert_eq!(entries, [Entry { target: Target::Ship, rule: Rule::NotAHull }]);
 ///
@@ -58,16 +63,17 @@ pub fn list(
 /// stand from its beginning; nothing else of it is changed, and nothing at all
 /// where the call is refused.
 ///
-/// [`MOST_ENTRIES`] times [`ENTRY_BYTES`] bytes are enough for every fit.
+/// [`MOST_ENTRIES`] times [`ENTRY_BYTES`] bytes are enough for every fit. What
+/// a guest does not get needs no room.
 ///
 /// # Errors
 ///
 /// As [`list`], and [`Refusal::BufferLength`] where the entries do not fit.
 ///
 /// ```
-/// use fitcheck::{Entry, ListOptions, Refusal, Rule};
+/// use fitcheck::{Entry, ListOptions, Reader, Refusal, Rule};
 ///
-/// let options = ListOptions::new();
+/// let options = ListOptions::new(Reader::Officer);
 /// let mut buffer = [0; 48];
 /// let entries = fitcheck::list_into(&[0; 20], &[0; 36], &options, &mut buffer)?;
 /// assert_eq!(entries.len(), 1);
@@ -96,13 +102,15 @@ pub fn list_into<'a>(
 ///
 /// # Errors
 ///
-/// The refusal that the documents' order picks, of 1 to 6, 13 for pairs, 8
+/// The refusal that the documents' order picks, of 20 ([`Refusal::GuestSkills`]),
+/// which is a guest's whatever the bytes, 1 to 6, 13 for pairs, 8
 /// ([`Refusal::NoSuchResult`]), 9 ([`Refusal::WantedSkills`]) and 13 for skills
 /// ([`Refusal::PageLimit`]).
 ///
 /// ```
 /// use fitcheck::{
-///     Attribute, CatalogueBuilder, FitBuilder, ItemResult, Refusal, Rule, SkillOptions, State,
+///     Attribute, CatalogueBuilder, FitBuilder, ItemResult, Reader, Refusal, Rule, SkillOptions,
+///     State,
 /// };
 ///
 /// // Attribute 182 names a skill and 277 its level; the ship asks for skill
@@ -116,7 +124,8 @@ pub fn list_into<'a>(
 ///     .ship(ItemResult::new(State::Online).with(182, 3329.0).with(277, 2.0))
 ///     .build()?;
 ///
-/// let skills = |result| fitcheck::skills(&catalogue, &fit, result, &SkillOptions::new());
+/// let options = SkillOptions::new(Reader::Pilot);
+/// let skills = |result| fitcheck::skills(&catalogue, &fit, result, &options);
 /// let lacking = skills(0)?;
 /// assert_eq!(lacking.len(), 1);
 /// assert_eq!(lacking[0].rule, Rule::Skill { type_id: 3329, required: 2, level: 1 });
@@ -130,11 +139,10 @@ pub fn skills(
     result: u32,
     options: &SkillOptions,
 ) -> Result<Vec<Entry>, Refusal> {
-    let limits = options.limits;
     let bytes = grown(FIRST_ROOM, MOST_SKILLS, |room| {
-        skill_word(catalogue, fit, result, limits, room)
+        skill_word(catalogue, fit, result, options, room)
     });
-    let told = |refusal| told_of_skills(refusal, catalogue, fit, result, limits);
+    let told = |refusal| told_of_skills(refusal, catalogue, fit, result, options);
     bytes.map(|bytes| decoded(&bytes)).map_err(told)
 }
 
@@ -147,7 +155,7 @@ pub fn skills(
 ///
 /// ```
 /// let mut buffer = [0; fitcheck::MOST_SKILLS * fitcheck::ENTRY_BYTES];
-/// let options = fitcheck::SkillOptions::new();
+/// let options = fitcheck::SkillOptions::new(fitcheck::Reader::Pilot);
 /// let entries = fitcheck::skills_into(&[0; 20], &[0; 36], 0, &options, &mut buffer)?;
 /// assert!(entries.is_empty());
 /// # Ok::<(), fitcheck::Refusal>(())
@@ -159,25 +167,33 @@ pub fn skills_into<'a>(
     options: &SkillOptions,
     buffer: &'a mut [u8],
 ) -> Result<&'a [[u8; ENTRY_BYTES]], Refusal> {
-    let limits = options.limits;
-    let word = skill_word(catalogue, fit, result, limits, buffer);
-    let told = |refusal| told_of_skills(refusal, catalogue, fit, result, limits);
+    let word = skill_word(catalogue, fit, result, options, buffer);
+    let told = |refusal| told_of_skills(refusal, catalogue, fit, result, options);
     written(word, buffer).map_err(told)
 }
 
 /// The list call with what the options say.
 fn list_word(catalogue: &[u8], fit: &[u8], options: &ListOptions<'_>, room: &mut [u8]) -> u64 {
     let ListOptions {
+        reader,
         profile,
         allowance,
         limits,
     } = *options;
-    exported::list(catalogue, fit, profile, allowance, limits.exported(), room)
+    let page = limits.page(reader);
+    exported::list(page, catalogue, fit, profile, allowance, room)
 }
 
-/// The skill call under limits.
-fn skill_word(catalogue: &[u8], fit: &[u8], result: u32, limits: Limits, room: &mut [u8]) -> u64 {
-    exported::skill(catalogue, fit, result, limits.exported(), room)
+/// The skill call with what the options say.
+fn skill_word(
+    catalogue: &[u8],
+    fit: &[u8],
+    result: u32,
+    options: &SkillOptions,
+    room: &mut [u8],
+) -> u64 {
+    let SkillOptions { reader, limits } = *options;
+    exported::skill(limits.page(reader), catalogue, fit, result, room)
 }
 
 /// A refusal by 13 with how many pairs the fit has; any other as it is.
@@ -197,14 +213,15 @@ fn told_of_skills(
     catalogue: &[u8],
     fit: &[u8],
     result: u32,
-    limits: Limits,
+    options: &SkillOptions,
 ) -> Refusal {
+    let limits = options.limits;
     match told(refusal, fit, limits) {
         Refusal::PageLimit(None) => {
             let limit = limits.most_skills();
             let is_refused = |most: u32| {
-                let word = skill_word(catalogue, fit, result, limits.skills(most), &mut []);
-                word >> 32 == 13
+                let under = options.limits(limits.skills(most));
+                skill_word(catalogue, fit, result, &under, &mut []) >> 32 == 13
             };
             let wanted = limits::wanted(limit, is_refused);
             Refusal::PageLimit(Some(Passed::Skills { wanted, limit }))
@@ -333,7 +350,8 @@ pub(crate) fn counted_entries(count: usize) -> String {
     }
 }
 
-/// What became of each fit, in their order: [`hall`] one by one.
+/// What became of each fit, in their order: [`hall`] one by one. Both are the
+/// officer's, and count what guests are not told: see [`Reader`].
 ///
 /// # Errors
 ///
@@ -363,8 +381,9 @@ pub(crate) fn counted_entries(count: usize) -> String {
 /// ```
 pub fn verdicts(catalogue: &[u8], fits: &[&[u8]]) -> Result<Vec<Verdict>, Refusal> {
     hall(catalogue, &[])?;
+    let options = ListOptions::new(Reader::Officer);
     fits.iter()
-        .map(|fit| match listed(catalogue, fit, &ListOptions::new()) {
+        .map(|fit| match listed(catalogue, fit, &options) {
             Ok(bytes) => {
                 let unpaired = FitImage::new(fit).and_then(|fit| fit.unpaired());
                 Ok(Verdict::answered(bytes.len() / ENTRY_BYTES, unpaired))

@@ -11,10 +11,11 @@ unsafe extern "C" {
     // too.
     // It is raised here, in include/fitcheck.h for C, and in the Rattle source,
     // crates/fitcheck/src/lib.rt, at the same time.
-    #[link_name = "fit_interface_5"]
+    #[link_name = "fit_interface_6"]
     fn fit_interface() -> u64;
 
     fn fit_list(
+        reader: u32,
         catalogue: *const u8,
         catalogue_length: usize,
         fit: *const u8,
@@ -29,6 +30,7 @@ unsafe extern "C" {
     ) -> u64;
 
     fn fit_skill(
+        reader: u32,
         catalogue: *const u8,
         catalogue_length: usize,
         fit: *const u8,
@@ -63,21 +65,23 @@ fn linked() {
     std::hint::black_box(fit_interface as *const ());
 }
 
-/// The limits of a page, which every list and skill call brings. Any two numbers
-/// are some: the library makes the main page's of higher ones.
+/// The page that a list or skill call is made for: who reads it, and how much it
+/// takes. Any three numbers are one: the library refuses a reader that there is
+/// not, and makes the main page's limits of higher ones.
 #[derive(Clone, Copy)]
-pub struct Limits {
+pub struct Page {
+    pub reader: u32,
     pub pairs: u32,
     pub skills: u32,
 }
 
 /// The list call; returns its word.
 pub fn list(
+    page: Page,
     catalogue: &[u8],
     fit: &[u8],
     profile: &[u8],
     allowance: u32,
-    limits: Limits,
     out: &mut [u8],
 ) -> u64 {
     linked();
@@ -90,6 +94,7 @@ pub fn list(
     // empty slice is not null and nothing is read through it.
     unsafe {
         fit_list(
+            page.reader,
             catalogue.as_ptr(),
             catalogue.len(),
             fit.as_ptr(),
@@ -97,8 +102,8 @@ pub fn list(
             profile.as_ptr(),
             profile.len(),
             allowance,
-            limits.pairs,
-            limits.skills,
+            page.pairs,
+            page.skills,
             out.as_mut_ptr(),
             out.len(),
         )
@@ -106,18 +111,19 @@ pub fn list(
 }
 
 /// The skill call; returns its word.
-pub fn skill(catalogue: &[u8], fit: &[u8], result: u32, limits: Limits, out: &mut [u8]) -> u64 {
+pub fn skill(page: Page, catalogue: &[u8], fit: &[u8], result: u32, out: &mut [u8]) -> u64 {
     linked();
     // SAFETY: as in `list`; `result` may be any number.
     unsafe {
         fit_skill(
+            page.reader,
             catalogue.as_ptr(),
             catalogue.len(),
             fit.as_ptr(),
             fit.len(),
             result,
-            limits.pairs,
-            limits.skills,
+            page.pairs,
+            page.skills,
             out.as_mut_ptr(),
             out.len(),
         )

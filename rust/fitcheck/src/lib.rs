@@ -16,12 +16,13 @@
 //!   formed: none is refused by 1 to 6;
 //! - [`Profile`], what a tournament bans and prices, for a list call;
 //! - [`Limits`], for a page that takes fewer items and skills than the main one;
+//! - [`Reader`], whom a list is for: skills are private, and guests are not told;
 //! - [`widen`], which makes a catalogue of today's form of an old one.
 //!
 //! ```
 //! use fitcheck::{
 //!     Attribute, CatalogueBuilder, Explainer, FitBuilder, FitItem, ItemResult, ListOptions,
-//!     Names, Slot, State,
+//!     Names, Reader, Slot, State,
 //! };
 //!
 //! // What the type data says: two attributes, a ship and a module.
@@ -41,7 +42,8 @@
 //!
 //! let names = Names::parse("587 Rifter\n2048 Damage Control II\n")?;
 //! let explainer = Explainer::new(&fit, &names);
-//! let sentences: Vec<String> = fitcheck::list(&catalogue, &fit, &ListOptions::new())?
+//! let options = ListOptions::new(Reader::Pilot);
+//! let sentences: Vec<String> = fitcheck::list(&catalogue, &fit, &options)?
 //!     .iter()
 //!     .map(|entry| explainer.explain(entry))
 //!     .collect();
@@ -93,6 +95,8 @@ mod options;
 #[forbid(unsafe_code)]
 mod profile;
 #[forbid(unsafe_code)]
+mod reader;
+#[forbid(unsafe_code)]
 mod refusal;
 #[forbid(unsafe_code)]
 mod report;
@@ -121,6 +125,7 @@ pub use missing::{Missing, Unchecked};
 pub use names::{Names, NamesError};
 pub use options::{ListOptions, SkillOptions};
 pub use profile::{MOST_GROUPS, MOST_POINTS, Price, Profile, ProfileError};
+pub use reader::Reader;
 pub use refusal::Refusal;
 pub use report::Report;
 pub use rule::{GroupLimit, Resource, Rule, SlotKind, Target};

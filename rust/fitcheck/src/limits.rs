@@ -2,7 +2,7 @@
 
 use std::fmt;
 
-use crate::exported;
+use crate::{Reader, exported};
 
 /// How much a page takes: so many pairs (items that have a result) of a fit, and
 /// so many wanted skills of a result. A page for newcomers may take less than
@@ -65,10 +65,14 @@ impl Limits {
         self.skills
     }
 
-    /// As the library takes them.
-    pub(crate) fn exported(self) -> exported::Limits {
+    /// A reader's page of these limits, as the library takes it.
+    pub(crate) fn page(self, reader: Reader) -> exported::Page {
         let Limits { pairs, skills } = self;
-        exported::Limits { pairs, skills }
+        exported::Page {
+            reader: reader.number().into(),
+            pairs,
+            skills,
+        }
     }
 }
 

@@ -1,4 +1,4 @@
-//! Enums that document 01 numbers from 0, each case with a name.
+//! Enums that the documents number from 0, each case with a name.
 
 macro_rules! numbered {
     (
@@ -20,7 +20,7 @@ macro_rules! numbered {
             /// Every case, in the order of the numbers.
             pub const ALL: &'static [$enum] = &[$($enum::$case,)+];
 
-            /// Document 01's number, from 0.
+            /// The documents' number, from 0.
             pub fn number(self) -> u8 {
                 self as u8
             }
@@ -58,7 +58,7 @@ pub(crate) use numbered;
 
 #[cfg(test)]
 mod tests {
-    use crate::{Attribute, GroupLimit, Mark, Resource, SlotKind, SlotType, State};
+    use crate::{Attribute, GroupLimit, Mark, Reader, Resource, SlotKind, SlotType, State};
 
     #[test]
     fn there_are_as_many_as_document_01_says() {
@@ -73,6 +73,9 @@ mod tests {
             "ten loads, drones, cargo, charge capacity"
         );
         assert_eq!(GroupLimit::ALL.len(), 3, "names 72 to 74");
+        let readers = Reader::ALL.iter().map(|reader| reader.name());
+        let readers: Vec<&str> = readers.collect();
+        assert_eq!(readers, ["guest", "pilot", "officer"], "0, 1 and 2");
     }
 
     #[test]

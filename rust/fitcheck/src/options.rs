@@ -1,29 +1,33 @@
-//! What a call may be told besides its images.
+//! What a call is told besides its images.
 
-use crate::Limits;
+use crate::{Limits, Reader};
 
-/// What the list call may be told besides catalogue and fit: a league's profile
-/// with its allowance, and the limits of a page. Choices that come later are fields of their own, and a
-/// call that names none of them goes on as it does now.
+/// What the list call is told besides catalogue and fit: who reads the list,
+/// which has to be said; and what may be said, a league's profile with its
+/// allowance, and the limits of a page. Choices that come later are fields of
+/// their own, and a call that names none of them goes on as it does now.
 ///
 /// ```
-/// use fitcheck::ListOptions;
+/// use fitcheck::{ListOptions, Reader};
 ///
-/// let entries = fitcheck::list(&[0; 20], &[0; 36], &ListOptions::new())?;
+/// let options = ListOptions::new(Reader::Pilot);
+/// let entries = fitcheck::list(&[0; 20], &[0; 36], &options)?;
 /// assert_eq!(entries.len(), 1);
 /// # Ok::<(), fitcheck::Refusal>(())
 /// ```
-#[derive(Debug, Clone, Copy, Default)]
+#[derive(Debug, Clone, Copy)]
 pub struct ListOptions<'a> {
+    pub(crate) reader: Reader,
     pub(crate) profile: &'a [u8],
     pub(crate) allowance: u32,
     pub(crate) limits: Limits,
 }
 
 impl<'a> ListOptions<'a> {
-    /// The whole list, of no league, on the main page.
-    pub const fn new() -> ListOptions<'a> {
+    /// All that a reader gets, of no league, on the main page.
+    pub const fn new(reader: Reader) -> ListOptions<'a> {
         ListOptions {
+            reader,
             profile: &[],
             allowance: 0,
             limits: Limits::main(),
@@ -38,7 +42,8 @@ impl<'a> ListOptions<'a> {
     ///
     /// ```
     /// use fitcheck::{
-    ///     CatalogueBuilder, FitBuilder, FitItem, ItemResult, Limits, ListOptions, Slot, State,
+    ///     CatalogueBuilder, FitBuilder, FitItem, ItemResult, Limits, ListOptions, Reader, Slot,
+    ///     State,
     /// };
     ///
     /// let catalogue = CatalogueBuilder::new().type_info(587, 25, 6, None).build()?;
@@ -46,9 +51,10 @@ impl<'a> ListOptions<'a> {
     ///     .item(FitItem::new(34, Slot::Cargo), ItemResult::new(State::Offline))
     ///     .item(FitItem::new(35, Slot::Cargo), ItemResult::new(State::Offline))
     ///     .build()?;
-    /// let under = |pairs| ListOptions::new().limits(Limits::main().pairs(pairs));
+    /// let options = ListOptions::new(Reader::Pilot);
+    /// let under = |pairs| options.limits(Limits::main().pairs(pairs));
     ///
-    /// let main = fitcheck::list(&catalogue, &fit, &ListOptions::new())?;
+    /// let main = fitcheck::list(&catalogue, &fit, &options)?;
     /// assert_eq!(fitcheck::list(&catalogue, &fit, &under(2))?, main);
     /// let refusal = fitcheck::list(&catalogue, &fit, &under(1)).unwrap_err();
     /// assert_eq!(refusal.number(), 13);
@@ -73,7 +79,8 @@ impl<'a> ListOptions<'a> {
     ///
     /// ```
     /// use fitcheck::{
-    ///     CatalogueBuilder, FitBuilder, FitItem, ItemResult, ListOptions, Profile, Slot, State,
+    ///     CatalogueBuilder, FitBuilder, FitItem, ItemResult, ListOptions, Profile, Reader, Slot,
+    ///     State,
     /// };
     ///
     /// let catalogue = CatalogueBuilder::new()
@@ -87,10 +94,10 @@ impl<'a> ListOptions<'a> {
     /// profile.ban(464)?;
     /// let image = profile.to_bytes();
     ///
-    /// let options = ListOptions::new().league(&image, 120);
-    /// let entries = fitcheck::list(&catalogue, &fit, &options)?;
+    /// let options = ListOptions::new(Reader::Guest);
+    /// let entries = fitcheck::list(&catalogue, &fit, &options.league(&image, 120))?;
     /// assert_eq!(entries[0].to_string(), "group 464 is banned: item 0");
-    /// assert_eq!(fitcheck::list(&catalogue, &fit, &ListOptions::new())?, []);
+    /// assert_eq!(fitcheck::list(&catalogue, &fit, &options)?, []);
     /// # Ok::<(), Box<dyn std::error::Error>>(())
     /// ```
     pub const fn league(self, profile: &'a [u8], allowance: u32) -> ListOptions<'a> {
@@ -102,17 +109,20 @@ impl<'a> ListOptions<'a> {
     }
 }
 
-/// What the skill call may be told besides catalogue, fit and result; see
+/// What the skill call is told besides catalogue, fit and result; see
 /// [`ListOptions`].
-#[derive(Debug, Clone, Copy, Default)]
+#[derive(Debug, Clone, Copy)]
 pub struct SkillOptions {
+    pub(crate) reader: Reader,
     pub(crate) limits: Limits,
 }
 
 impl SkillOptions {
-    /// The whole list of a result's skills, on the main page.
-    pub const fn new() -> SkillOptions {
+    /// All of a result's skills, on the main page. A guest gets none:
+    /// [`Refusal::GuestSkills`](crate::Refusal::GuestSkills).
+    pub const fn new(reader: Reader) -> SkillOptions {
         SkillOptions {
+            reader,
             limits: Limits::main(),
         }
     }
@@ -125,7 +135,7 @@ impl SkillOptions {
     ///
     /// ```
     /// use fitcheck::{
-    ///     Attribute, CatalogueBuilder, FitBuilder, ItemResult, Limits, Passed, Refusal,
+    ///     Attribute, CatalogueBuilder, FitBuilder, ItemResult, Limits, Passed, Reader, Refusal,
     ///     SkillOptions, State,
     /// };
     ///
@@ -138,7 +148,8 @@ impl SkillOptions {
     /// let fit = FitBuilder::new(587)
     ///     .ship(ItemResult::new(State::Online).with(182, 3329.0).with(277, 2.0))
     ///     .build()?;
-    /// let under = |skills| SkillOptions::new().limits(Limits::main().skills(skills));
+    /// let options = SkillOptions::new(Reader::Pilot);
+    /// let under = |skills| options.limits(Limits::main().skills(skills));
     ///
     /// assert_eq!(fitcheck::skills(&catalogue, &fit, 0, &under(2))?.len(), 1);
     /// let refused = fitcheck::skills(&catalogue, &fit, 0, &under(1));
@@ -147,6 +158,6 @@ impl SkillOptions {
     /// # Ok::<(), Box<dyn std::error::Error>>(())
     /// ```
     pub const fn limits(self, limits: Limits) -> SkillOptions {
-        SkillOptions { limits }
+        SkillOptions { limits, ..self }
     }
 }

@@ -34,14 +34,14 @@ pub enum Price {
 /// [`ListOptions::league`]: crate::ListOptions::league
 ///
 /// ```
-/// use fitcheck::{ListOptions, Profile, ProfileError};
+/// use fitcheck::{ListOptions, Profile, ProfileError, Reader};
 ///
 /// let mut profile = Profile::new();
 /// profile.ban(464)?.price(60, 47)?;
 /// let image = profile.to_bytes();
 /// assert_eq!(image.len(), 4 + 8 * 2);
 /// assert_eq!(Profile::from_bytes(&image), Ok(profile.clone()));
-/// let options = ListOptions::new().league(&image, 120);
+/// let options = ListOptions::new(Reader::Pilot).league(&image, 120);
 ///
 /// // A group is spoken of once, and costs at most 1,000,000.
 /// assert_eq!(profile.price(464, 5), Err(ProfileError::GroupTwice { group_id: 464 }));

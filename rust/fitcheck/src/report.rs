@@ -3,20 +3,23 @@
 use crate::call::counted_entries;
 use crate::json::{self, Json};
 use crate::{
-    CatalogueImage, Entry, Explainer, FitImage, ListOptions, Missing, Refusal, SkillOptions,
-    Unpaired,
+    CatalogueImage, Entry, Explainer, FitImage, ListOptions, Missing, Reader, Refusal,
+    SkillOptions, Unpaired,
 };
 
-/// What is to be said of one fit: its list, what of it no rule looked at, the
-/// skills that each of its results lacks, and what the catalogue leaves
-/// unchecked.
+/// What is to be said of one fit to one reader: its list, what of it no rule
+/// looked at, the skills that each of its results lacks, and what the catalogue
+/// leaves unchecked.
+///
+/// A guest is told nothing of skills. A guest's report never says that a fit is
+/// clear, as it may break [`Rule::NotASkill`](crate::Rule::NotASkill).
 ///
 /// ```
-/// use fitcheck::{Explainer, ListOptions, Names, Report, SkillOptions};
+/// use fitcheck::{Explainer, ListOptions, Names, Reader, Report};
 ///
 /// let (catalogue, fit) = ([0; 20], [0; 36]);
-/// let report = Report::new(&catalogue, &fit, &ListOptions::new(), &SkillOptions::new())?;
-/// assert!(!report.is_clear());
+/// let report = Report::new(&catalogue, &fit, &ListOptions::new(Reader::Pilot))?;
+/// assert!(report.is_faulted());
 /// assert_eq!(report.missing.names.len(), 88, "the catalogue is empty");
 /// let names = Names::new();
 /// let text = report.text(&Explainer::new(&fit, &names));
@@ -26,6 +29,7 @@ use crate::{
 #[non_exhaustive]
 #[derive(Debug, Clone)]
 pub struct Report {
+    reader: Reader,
     /// The list.
     pub entries: Vec<Entry>,
     /// The items without a result, or the results without an item.
@@ -37,22 +41,26 @@ pub struct Report {
 }
 
 impl Report {
-    /// Makes the list call, and the skill call of every result.
+    /// Who reads it.
+    #[must_use]
+    pub fn reader(&self) -> Reader {
+        self.reader
+    }
+
+    /// Makes the list call, and the skill call of every result, all for one reader
+    /// and on one page.
     ///
     /// # Errors
     ///
     /// The list call's refusal. A refused skill call is told in its place.
-    pub fn new(
-        catalogue: &[u8],
-        fit: &[u8],
-        of_list: &ListOptions<'_>,
-        of_skills: &SkillOptions,
-    ) -> Result<Report, Refusal> {
-        let entries = crate::list(catalogue, fit, of_list)?;
+    pub fn new(catalogue: &[u8], fit: &[u8], options: &ListOptions<'_>) -> Result<Report, Refusal> {
+        let entries = crate::list(catalogue, fit, options)?;
         let image = FitImage::new(fit);
         let results = image.map_or(0, |fit| fit.results() as u32 + 2);
-        let skills = (0..results).map(|result| crate::skills(catalogue, fit, result, of_skills));
+        let of_skills = SkillOptions::new(options.reader).limits(options.limits);
+        let skills = (0..results).map(|result| crate::skills(catalogue, fit, result, &of_skills));
         Ok(Report {
+            reader: options.reader,
             entries,
             unpaired: image.and_then(|fit| fit.unpaired()),
             skills: skills.collect(),
@@ -62,23 +70,34 @@ impl Report {
         })
     }
 
-    /// Whether the list is empty and all of the fit was checked. Skills may be
-    /// lacking all the same.
+    /// Whether the full list is empty and all of the fit was checked. Skills may be
+    /// lacking all the same. A guest is not told, so it is never so in a guest's
+    /// report.
     pub fn is_clear(&self) -> bool {
-        self.entries.is_empty() && self.unpaired.is_none()
+        self.reader != Reader::Guest && !self.is_faulted()
+    }
+
+    /// Whether the reader's list has entries, or not all of the fit was checked.
+    pub fn is_faulted(&self) -> bool {
+        !self.entries.is_empty() || self.unpaired.is_some()
     }
 
     /// The list, what was not checked and the skills in sentences, a line each;
     /// what repeats stands once. What is missing is not said here.
     pub fn text(&self, explainer: &Explainer<'_>) -> String {
-        let mut lines = vec![match self.is_clear() {
-            true => "clear: no rule is broken".to_string(),
-            false => format!("faulted: {}", counted_entries(self.entries.len())),
+        let mut lines = vec![match self.is_faulted() {
+            true => format!("faulted: {}", counted_entries(self.entries.len())),
+            false if self.is_clear() => "clear: no rule is broken".to_string(),
+            false => "nothing listed: no rule is broken that a guest may see".to_string(),
         }];
         let indented = |sentence: String| format!("  {sentence}");
         let sentences = explainer.explain_all(&self.entries).into_iter();
         let unpaired = self.unpaired.map(|unpaired| unpaired.to_string());
         lines.extend(sentences.chain(unpaired).map(indented));
+        if self.reader == Reader::Guest {
+            lines.push("skills: not for a guest".to_string());
+            return lines.join("\n") + "\n";
+        }
 
         let mut lacking = Vec::new();
         let mut refused = Vec::new();
@@ -126,9 +145,10 @@ impl Report {
             };
             Json::Object(vec![("result", Json::Integer(number.into())), lacking])
         });
-        let mut fields = json::versioned(match self.is_clear() {
-            true => "clear",
-            false => "faulted",
+        let mut fields = json::versioned(match self.is_faulted() {
+            true => "faulted",
+            false if self.is_clear() => "clear",
+            false => "nothing_listed",
         });
         fields.extend([
             ("unchecked", json::unchecked(&self.missing.unchecked())),

@@ -21,7 +21,8 @@
 //! ",
 //! )?;
 //! let (catalogue, fit) = (types.catalogue().build()?, fit.build()?);
-//! let entries = fitcheck::list(&catalogue, &fit, &fitcheck::ListOptions::new())?;
+//! let options = fitcheck::ListOptions::new(fitcheck::Reader::Pilot);
+//! let entries = fitcheck::list(&catalogue, &fit, &options)?;
 //! assert_eq!(entries[0].to_string(), "CPU: 150.5 of 130 used");
 //! # Ok::<(), Box<dyn std::error::Error>>(())
 //! ```

@@ -2,8 +2,8 @@
 use native.Mathlib.Omega.{arith}
 use Rattle.catalogue.specs.Catalogue.{catalogueOf}
 use Rattle.fit.specs.Fit.{fitOf}
-use Rattle.lists.specs.Terms.{terms}
-use Rattle.lists.specs.Lists.{wholeList}
+use Rattle.lists.specs.Terms.{terms, readBy}
+use Rattle.lists.specs.Lists.{listFor}
 use Rattle.entry.proofs.Wrote.{wrote-count}
 use Rattle.fitcheck.proofs.Giving.{gave-short, gave-list, gave-none}
 use borrow.Author.Needs.{needs}
@@ -14,14 +14,14 @@ returns : tie.Need-returns
 returns c =
     let v = c .before .before .before .before in
     let a = v .before .before .before .before .before .before .before .before .args in
-    gave-none (wholeList (terms (a .profile .now) (a .allowance)) (catalogueOf (a .catalogue .now)) (fitOf (a .fit .now))) (omega (arith, wrote-count (v .write .ensures .0), c .if1 .taken))
+    gave-none (listFor (readBy (a .asked .reader) (terms (a .profile .now) (a .asked .allowance))) (catalogueOf (a .catalogue .now)) (fitOf (a .fit .now))) (omega (arith, wrote-count (v .write .ensures .0), c .if1 .taken))
 
 returns-2 : tie.Need-returns-2
 returns-2 c =
     let i = c .before in
     let v = i .before .before .before .before .before in
     let a = v .before .before .before .before .before .before .before .before .args in
-    gave-short (wholeList (terms (a .profile .now) (a .allowance)) (catalogueOf (a .catalogue .now)) (fitOf (a .fit .now)))
+    gave-short (listFor (readBy (a .asked .reader) (terms (a .profile .now) (a .asked .allowance))) (catalogueOf (a .catalogue .now)) (fitOf (a .fit .now)))
     (omega (arith, wrote-count (v .write .ensures .0), i .if2 .taken)) (c .refused .ensures)
 
 returns-3 : tie.Need-returns-3
@@ -30,7 +30,7 @@ returns-3 c =
     let i = c .before .before .before .before .before .before .before in
     let v = i .before .before .before .before .before in
     let a = v .before .before .before .before .before .before .before .before .args in
-    gave-list (wholeList (terms (a .profile .now) (a .allowance)) (catalogueOf (a .catalogue .now)) (fitOf (a .fit .now))) (omega (arith, wrote-count (v .write .ensures .0), i .if2 .left)) w
+    gave-list (listFor (readBy (a .asked .reader) (terms (a .profile .now) (a .asked .allowance))) (catalogueOf (a .catalogue .now)) (fitOf (a .fit .now))) (omega (arith, wrote-count (v .write .ensures .0), i .if2 .left)) w
 
 pub counted-list-spec : {M : Type 1} → statement M
 counted-list-spec =

@@ -1,54 +1,46 @@
--- `fitcheck::fit_list` meets its contract: refusals 1 to 6, 13, 11 and 12 of what it brings, then the list.
+-- `fitcheck::fit_list` meets its contract: refusal 19, then the list of a reader that there is.
 use native.Mathlib.Omega.{arith}
-use Prim.Native.Nat.{ℕ, _*_, _<_}
-use mathlib.Core.Path.{_≡_, sym, ap, _∙_}
-use Rattle.words.specs.Words.{firstOf}
-use Rattle.numbers.specs.Sizes as Sizes
+use mathlib.Core.Path.{sym, _∙_}
+use mathlib.Core.List.{List, _++_}
+use mathlib.Core.Path.{ap}
+use borrow.Author.Needs.{needs}
+use borrow.Author.Tests.{lt-ltb, le-ltb}
+use Rattle.numbers.specs.Refusals as Refusals
+use Rattle.numbers.specs.Readers as Readers
 use Rattle.catalogue.specs.Catalogue.{catalogueOf}
 use Rattle.fit.specs.Fit.{fitOf}
-use Rattle.lists.specs.Terms.{terms, limited}
-use Rattle.fitcheck.specs.Calls.{inputRefusals}
-use Rattle.fitcheck.specs.Gave.{lent}
-use Rattle.fitcheck.proofs.First.{inputs-sound}
-use Rattle.fitcheck.proofs.Giving.{gave-same, gave-refused, list-refused, list-past}
+use Rattle.entry.specs.declared.Entry.{Entry}
+use Rattle.lists.specs.Terms.{terms, limited, readBy}
+use Rattle.fitcheck.specs.Calls.{answer, inputRefusals, bufferRefusals}
+use Rattle.fitcheck.proofs.Giving.{gave-same, gave-refused, list-nobody, list-read}
 use Rattle.fitcheck.proofs.Pages.{limits-unread}
-use borrow.Author.Needs.{needs}
 use Rattle.fitcheck.proofs.fit_list.Statement.{statement}
 use Rattle.fitcheck.proofs.fit_list.Tie as tie
-
-refused-requires : tie.Need-refused-requires
-refused-requires c κs = c .before .input-refusal .ensures .1
 
 returns : tie.Need-returns
 returns c =
     let i = c .before in
-    let k = i .before in
-    let a = k .before .before .before .before .before .args in
-    let t = limited (a .pairs) (a .skills) (terms (a .profile .now) (a .allowance)) in
-    let e = k .input-refusal .ensures .0 in
-    let w = c .refused .ensures ∙ ap (λ (n : ℕ). n * Sizes.word) e in
-    let some : 0 < firstOf (inputRefusals t (a .catalogue .now) (a .fit .now)) = omega (arith, e, i .if1 .taken) in
-    let g = gave-same (sym (list-refused t (a .catalogue .now) (a .fit .now) (a .out .now) some)) (gave-refused (a .out .now) _ w) in
+    let a = i .before .before .before .before .before .args in
+    let t = readBy (a .reader) (limited (a .pairs) (a .skills) (terms (a .profile .now) (a .allowance))) in
+    let nobody = lt-ltb Readers.officer (a .reader) (i .if1 .taken) in
+    let e = list-nobody t (a .catalogue .now) (a .fit .now) (a .out .now) nobody in
+    let g = gave-same (sym e) (gave-refused (a .out .now) Refusals.noReader (c .refused .ensures)) in
     (g .word, g .buffer)
-
-list-accepted-requires : tie.Need-list-accepted-requires
-list-accepted-requires c κs =
-    let i = c .before in
-    let a = i .before .before .before .before .before .before .args in
-    let t = limited (a .pairs) (a .skills) (terms (a .profile .now) (a .allowance)) in
-    inputs-sound t (a .catalogue .now) (a .fit .now) (omega (arith, i .before .input-refusal .ensures .0, i .if1 .left))
 
 returns-2 : tie.Need-returns-2
 returns-2 c =
-    let i = c .before .before .before .before in
-    let a = i .before .before .before .before .before .before .args in
-    let t = limited (a .pairs) (a .skills) (terms (a .profile .now) (a .allowance)) in
-    let past : firstOf (inputRefusals t (a .catalogue .now) (a .fit .now)) ≡ 0 = omega (arith, i .before .input-refusal .ensures .0, i .if1 .left) in
-    let unread = limits-unread (terms (a .profile .now) (a .allowance)) (a .pairs) (a .skills) (catalogueOf (a .catalogue .now)) (fitOf (a .fit .now)) in
-    let e = ap (lent (a .out .now)) unread ∙ sym (list-past t (a .catalogue .now) (a .fit .now) (a .out .now) past) in
-    let g = gave-same e (c .before .before .list-accepted .ensures) in
+    let k = c .before .before in
+    let i = k .before .before in
+    let a = i .before .before .before .before .before .args in
+    let t = readBy (a .reader) (limited (a .pairs) (a .skills) (terms (a .profile .now) (a .allowance))) in
+    let unread = limits-unread (readBy (a .reader) (limited (a .pairs) 0 (terms (a .profile .now) (a .allowance)))) (a .pairs) (a .skills)
+    (catalogueOf (a .catalogue .now)) (fitOf (a .fit .now)) in
+    let somebody = le-ltb Readers.officer (a .reader) (omega (arith, i .if1 .left)) in
+    let e =
+    ap (λ (es : List Entry). answer (inputRefusals t (a .catalogue .now) (a .fit .now) ++ bufferRefusals (a .out .now) es) es) unread
+    ∙ sym (list-read t (a .catalogue .now) (a .fit .now) (a .out .now) somebody) in
+    let g = gave-same e (k .read-list .ensures) in
     (g .word, g .buffer)
 
 pub fit-list-spec : {M : Type 1} → statement M
-fit-list-spec =
-    tie.close (tie.spec (λ c κs. search needs) refused-requires returns list-accepted-requires (λ c. search needs) returns-2)
+fit-list-spec = tie.close (tie.spec (λ c κs. search needs) returns (λ c κs. search needs) (λ c. search needs) returns-2)

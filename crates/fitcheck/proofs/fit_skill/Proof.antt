@@ -1,49 +1,51 @@
--- `fitcheck::fit_skill` meets its contract: refusals 1 to 6 of the images and 13 of their pairs, then the walk's list.
+-- `fitcheck::fit_skill` meets its contract: refusals 19 and 20, then the call of a pilot or an officer.
 use native.Mathlib.Omega.{arith}
-use Prim.Native.Nat.{ℕ, _*_, _<_}
-use mathlib.Core.Path.{_≡_, sym, ap, _∙_}
-use Rattle.words.specs.Words.{firstOf}
-use Rattle.numbers.specs.Sizes as Sizes
-use Rattle.lists.specs.Terms.{limited, main}
-use Rattle.fitcheck.specs.Calls.{pageRefusals}
-use Rattle.fitcheck.proofs.First.{page-sound}
-use Rattle.fitcheck.proofs.Giving.{gave-same, gave-refused}
-use Rattle.fitcheck.proofs.Skills.{skill-refused, skill-past}
+use mathlib.Core.Path.{sym}
 use borrow.Author.Needs.{needs}
+use borrow.Author.Tests.{lt-ltb, le-ltb, eq-eqb, ne-eqb}
+use Rattle.numbers.specs.Refusals as Refusals
+use Rattle.numbers.specs.Readers as Readers
+use Rattle.lists.specs.Terms.{limited, readBy, main}
+use Rattle.fitcheck.proofs.Giving.{gave-same, gave-refused}
+use Rattle.fitcheck.proofs.Skills.{skill-nobody, skill-guest, skill-read}
 use Rattle.fitcheck.proofs.fit_skill.Statement.{statement}
 use Rattle.fitcheck.proofs.fit_skill.Tie as tie
-
-refused-requires : tie.Need-refused-requires
-refused-requires c κs = c .before .page-refusal .ensures .1
 
 returns : tie.Need-returns
 returns c =
     let i = c .before in
-    let k = i .before in
-    let a = k .before .before .before .before .args in
-    let t = limited (a .pairs) (a .skills) main in
-    let e = k .page-refusal .ensures .0 in
-    let w = c .refused .ensures ∙ ap (λ (n : ℕ). n * Sizes.word) e in
-    let some : 0 < firstOf (pageRefusals t (a .catalogue .now) (a .fit .now)) = omega (arith, e, i .if1 .taken) in
-    let g = gave-same (sym (skill-refused t (a .catalogue .now) (a .fit .now) (a .result) (a .out .now) some)) (gave-refused (a .out .now) _ w) in
+    let a = i .before .before .before .before .args in
+    let t = readBy (a .reader) (limited (a .pairs) (a .skills) main) in
+    let nobody = lt-ltb Readers.officer (a .reader) (i .if1 .taken) in
+    let e = skill-nobody t (a .catalogue .now) (a .fit .now) (a .result) (a .out .now) nobody in
+    let g = gave-same (sym e) (gave-refused (a .out .now) Refusals.noReader (c .refused .ensures)) in
     (g .word, g .buffer)
-
-skill-accepted-requires : tie.Need-skill-accepted-requires
-skill-accepted-requires c κs =
-    let i = c .before in
-    let a = i .before .before .before .before .before .args in
-    let t = limited (a .pairs) (a .skills) main in
-    page-sound t (a .catalogue .now) (a .fit .now) (omega (arith, i .before .page-refusal .ensures .0, i .if1 .left))
 
 returns-2 : tie.Need-returns-2
 returns-2 c =
-    let i = c .before .before .before .before in
-    let a = i .before .before .before .before .before .args in
-    let t = limited (a .pairs) (a .skills) main in
-    let past : firstOf (pageRefusals t (a .catalogue .now) (a .fit .now)) ≡ 0 = omega (arith, i .before .page-refusal .ensures .0, i .if1 .left) in
-    let g = gave-same (sym (skill-past t (a .catalogue .now) (a .fit .now) (a .result) (a .out .now) past)) (c .before .before .skill-accepted .ensures) in
+    let j = c .before in
+    let i = j .before in
+    let a = i .before .before .before .before .args in
+    let t = readBy (a .reader) (limited (a .pairs) (a .skills) main) in
+    let somebody = le-ltb Readers.officer (a .reader) (omega (arith, i .if1 .left)) in
+    let guest = eq-eqb (a .reader) Readers.guest (omega (arith, j .if2 .taken)) in
+    let e = skill-guest t (a .catalogue .now) (a .fit .now) (a .result) (a .out .now) somebody guest in
+    let g = gave-same (sym e) (gave-refused (a .out .now) Refusals.notForGuests (c .refused2 .ensures)) in
+    (g .word, g .buffer)
+
+returns-3 : tie.Need-returns-3
+returns-3 c =
+    let k = c .before .before in
+    let j = k .before .before in
+    let i = j .before in
+    let a = i .before .before .before .before .args in
+    let t = readBy (a .reader) (limited (a .pairs) (a .skills) main) in
+    let somebody = le-ltb Readers.officer (a .reader) (omega (arith, i .if1 .left)) in
+    let other = ne-eqb (a .reader) Readers.guest (j .if2 .left) in
+    let e = skill-read t (a .catalogue .now) (a .fit .now) (a .result) (a .out .now) somebody other in
+    let g = gave-same (sym e) (k .read-skills .ensures) in
     (g .word, g .buffer)
 
 pub fit-skill-spec : {M : Type 1} → statement M
-fit-skill-spec =
-    tie.close (tie.spec (λ c κs. search needs) refused-requires returns skill-accepted-requires (λ c. search needs) returns-2)
+fit-skill-spec = tie.close
+    (tie.spec (λ c κs. search needs) returns (λ c κs. search needs) returns-2 (λ c κs. search needs) (λ c. search needs) returns-3)

@@ -2,8 +2,8 @@
 use native.Mathlib.Omega.{arith}
 use Rattle.catalogue.specs.Catalogue.{catalogueOf}
 use Rattle.fit.specs.Fit.{fitOf}
-use Rattle.lists.specs.Terms.{terms}
-use Rattle.lists.specs.Lists.{wholeList}
+use Rattle.lists.specs.Terms.{terms, readBy}
+use Rattle.lists.specs.Lists.{listFor}
 use Rattle.entry.proofs.Wrote.{wrote-count}
 use Rattle.fitcheck.proofs.Giving.{gave-list}
 use borrow.Author.Needs.{needs}
@@ -19,7 +19,7 @@ returns-2 c =
     let w = k .write .ensures in
     let room = k .before .before .before .before in
     let a = room .before .before .before .before .before .before .before .before .args in
-    let es = wholeList (terms (a .profile .now) (a .allowance)) (catalogueOf (a .catalogue .now)) (fitOf (a .fit .now)) in
+    let es = listFor (readBy (a .asked .reader) (terms (a .profile .now) (a .asked .allowance))) (catalogueOf (a .catalogue .now)) (fitOf (a .fit .now)) in
     gave-list es (omega (arith, w .1, wrote-count (w .0), room .if1 .left)) (w .0)
 
 pub list-accepted-spec : {M : Type 1} → statement M

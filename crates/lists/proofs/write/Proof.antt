@@ -4,7 +4,7 @@ use mathlib.Core.Path.{sym, _∙_}
 use borrow.Author.Needs.{needs}
 use borrow.Author.Tests.{not-true, not-false}
 use Rattle.entry.proofs.Wrote.{wrote-append, wrote-same}
-use Rattle.lists.specs.Terms.{terms}
+use Rattle.lists.specs.Terms.{terms, readBy}
 use Rattle.lists.proofs.Behind.{on-hull, no-hull}
 use Rattle.lists.proofs.write.Statement.{statement}
 use Rattle.lists.proofs.write.Tie as tie
@@ -14,15 +14,15 @@ returns c =
     let v = c .before .before .before .before .before .before in
     let a = v .before .before .before .before .before .before .before .before .args in
     let off = sym (c .before .is-hull .ensures) ∙ not-true _ (c .if1 .taken) in
-    let w = v .validate .ensures in
-    (wrote-same (no-hull (a .catalogue .now) (a .fit .now) (terms (a .profile .now) (a .allowance)) off) (w .0), omega (arith, w .1))
+    let w = v .rust-list .ensures in
+    (wrote-same (no-hull (a .catalogue .now) (a .fit .now) (readBy (a .asked .reader) (terms (a .profile .now) (a .asked .allowance))) off) (w .0), omega (arith, w .1))
 
 unknown-types-requires : tie.Need-unknown-types-requires
 unknown-types-requires c κs =
     let l = c .before .before .before in
     let v = l .before .before .before .before .before .before .before .before in
     let s = v .before .before .before .before .before .before .before .before in
-    (s .pre .0, omega (arith, v .validate .ensures .1, l .validate2 .ensures .1))
+    (s .pre .0, omega (arith, v .rust-list .ensures .1, l .validate .ensures .1))
 
 returns-2 : tie.Need-returns-2
 returns-2 c =
@@ -32,11 +32,11 @@ returns-2 c =
     let v = i .before .before .before .before .before .before in
     let a = v .before .before .before .before .before .before .before .before .args in
     let on = sym (i .before .is-hull .ensures) ∙ not-false _ (i .if1 .left) in
-    let w = v .validate .ensures in
-    let x = l .validate2 .ensures in
+    let w = v .rust-list .ensures in
+    let x = l .validate .ensures in
     let y = u .unknown-types .ensures in
     let es = wrote-append (wrote-append (w .0) (x .0)) (y .0) in
-    (wrote-same (on-hull (a .catalogue .now) (a .fit .now) (terms (a .profile .now) (a .allowance)) on) es, omega (arith, w .1, x .1, y .1))
+    (wrote-same (on-hull (a .catalogue .now) (a .fit .now) (readBy (a .asked .reader) (terms (a .profile .now) (a .asked .allowance))) on) es, omega (arith, w .1, x .1, y .1))
 
 pub write-spec : {M : Type 1} → statement M
 write-spec =

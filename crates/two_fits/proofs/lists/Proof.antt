@@ -1,6 +1,6 @@
 -- `two_fits::lists` meets its contract: the two contracts of the list call, and the promise on what they leave.
 use mathlib.Core.Path.{refl}
-use Rattle.lists.specs.Terms.{terms, limited}
+use Rattle.lists.specs.Terms.{terms, limited, readBy}
 use Rattle.fitcheck.specs.Calls.{listCall}
 use Rattle.promises.proofs.Comparing.{list-kept}
 use Rattle.two_fits.specs.Kept.{ListsKept}
@@ -16,14 +16,14 @@ returns c =
     let b = o .before .before in
     let a = b .before .before .before .before .before .before .before .args in
     let catalogue = a .catalogue .now in
-    let league = terms (a .profile .now) (a .allowance) in
+    let league = readBy (a .reader) (terms (a .profile .now) (a .allowance)) in
     let t = limited (a .first .pairs) (a .first .skills) league in
     let t′ = limited (a .second .pairs) (a .second .skills) league in
     let old = a .old .now in
     let new = a .new .now in
     let e = left-is (a .before .now) (listCall t catalogue old (a .before .now)) (o .fit-list .ensures) in
     let e′ = left-is (a .after .now) (listCall t′ catalogue new (a .after .now)) (n .fit-list2 .ensures) in
-    let kept = list-kept t t′ catalogue old new (a .before .now) (a .after .now) (record { profile = refl; allowance = refl }) (b .bytes .ensures) in
+    let kept = list-kept t t′ catalogue old new (a .before .now) (a .after .now) (record { profile = refl; allowance = refl; reader = refl }) (b .bytes .ensures) in
     (e, e′, of-both (ListsKept catalogue old new) e e′ kept)
 
 pub lists-spec : {M : Type 1} → statement M

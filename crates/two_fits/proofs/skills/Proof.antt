@@ -1,5 +1,5 @@
 -- `two_fits::skills` meets its contract: the two contracts of the skill call, and the promise on what they leave.
-use Rattle.lists.specs.Terms.{limited, main}
+use Rattle.lists.specs.Terms.{limited, readBy, main}
 use Rattle.fitcheck.specs.Calls.{skillCall}
 use Rattle.promises.proofs.Comparing.{skills-kept}
 use Rattle.two_fits.specs.Kept.{SkillsKept}
@@ -14,8 +14,8 @@ returns c =
     let o = n .before .before .before .before in
     let a = o .before .before .before .before .before .before .before .args in
     let catalogue = a .catalogue .now in
-    let t = limited (a .first .pairs) (a .first .skills) main in
-    let t′ = limited (a .second .pairs) (a .second .skills) main in
+    let t = limited (a .first .pairs) (a .first .skills) (readBy (a .reader) main) in
+    let t′ = limited (a .second .pairs) (a .second .skills) (readBy (a .reader) main) in
     let old = a .old .now in
     let new = a .new .now in
     let e = left-is (a .before .now) (skillCall t catalogue old (a .result) (a .before .now)) (o .fit-skill .ensures) in

@@ -162,6 +162,7 @@ const NARROW: &[(Number, &[u32], &str)] = &[
     (Number::UnknownId, &[8, 16, 24], "the id of a missing type"),
     (Number::PairLimit, &[8, 16, 31], "the pair limit"),
     (Number::SkillLimit, &[8, 9, 16, 31], "the skill limit"),
+    (Number::Reader, &[2, 8, 16, 24, 31], "the reader"),
 ];
 
 /// What may be refused too early.

@@ -8,7 +8,7 @@ use std::sync::atomic::{AtomicUsize, Ordering};
 
 use crate::cases::Which;
 use crate::plain::{Flaw, Plain};
-use crate::run::{Shown, Stage};
+use crate::run::{Readers, Shown, Stage};
 use crate::tally::Zeros;
 use crate::threads::spread;
 use crate::{fixed, large};
@@ -25,11 +25,16 @@ pub struct Told {
     pub shown: Shown,
 }
 
-/// What tells a flaw apart in one case, if anything does.
+/// What tells a flaw apart in one case, if anything does. One that is not about
+/// readers is looked for in the calls for the case's own.
 pub fn shown(stage: &Stage, flaw: Flaw) -> Option<Shown> {
     let checker = Plain::with(flaw);
-    let difference = stage.hold(&checker, &mut Zeros::default()).err()?;
-    Some(stage.shown(difference.ask, &checker))
+    let readers = match flaw.is_about_readers() {
+        true => Readers::All,
+        false => Readers::Own,
+    };
+    let held = stage.hold_for(readers, &checker, &mut Zeros::default());
+    Some(stage.shown(held.err()?.ask, readers, &checker))
 }
 
 /// The first of the cases that tells each flaw apart.
@@ -144,12 +149,15 @@ pub fn page(rows: &[Row], seed: u64) -> String {
         --faults` prints (seed {seed}); `run-tests.sh` holds it against a run, line by line.\n\n\
         Cases 0 to {} and the large ones, L0 to L{}, do not depend on the seed. The fourth column \
         is the first of {GENERATED} generated cases, from {fixed} on, that tells the fault apart \
-        too; sizes are not looked for there, as generated fits and catalogues are small.\n\n\
+        too; sizes are not looked for there, as generated fits and catalogues are small. Calls are \
+        made for every reader where the fault is about readers, else for the case's own.\n\n\
         A cargo sum that begins at -0 is not among the faults: document 01 has runs count both \
         zeros equal there. Exchanging two names within `SHIP_TYPES`, `SHIP_GROUPS` or \
         `STANDUP_FIGHTERS` is not either: these are sets, and no rule shows their order. Nor is \
         an amount cast to u16 that stops at the end of its range: no more than 256 pairs are \
-        counted, so nothing shows it. An amount that is cut to 16 bits is among them.\n\n\
+        counted, so nothing shows it. An amount that is cut to 16 bits is among them. Nor are \
+        refusal 20 before 19, as no reader above 2 is a guest, and a pilot taken for an officer, \
+        as each call gives both the same.\n\n\
         | fault | told apart by case | by | generated | what is wrong |\n|---|---|---|---|---|\n",
         rows.len(),
         rows.iter()

@@ -7,6 +7,7 @@ mod document;
 mod items;
 mod league;
 mod page;
+mod reader;
 mod resources;
 mod slots;
 mod tables;
@@ -37,19 +38,9 @@ const TABLES: [&[Make]; 8] = [
 /// are, and how each is made.
 type Row = (fn() -> usize, fn(usize) -> Case);
 
-const MADE: [Row; 12] = [
-    (
-        || plant::plants().len(),
-        |number| plant::alone(&mut Rng::new(number as u64), plant::Ground::small(), number),
-    ),
-    (
-        || plant::pairs().len(),
-        |number| {
-            let (first, second) = plant::pairs()[number];
-            let ground = plant::Ground::small();
-            plant::together(&mut Rng::new(number as u64), ground, first, second)
-        },
-    ),
+const MADE: [Row; 15] = [
+    (plant::others, alone),
+    (plant::other_pairs, together),
     (|| hall::CORNERS, hall::corner),
     (|| hall::UNEQUAL, hall::unequal),
     (
@@ -76,8 +67,29 @@ const MADE: [Row; 12] = [
     ),
     (|| limits::FULL_SIZES, limits::one_full),
     (|| 1, |number| limits::full(&mut Rng::new(number as u64))),
+    (
+        || plant::plants().len() - plant::others(),
+        |number| alone(plant::others() + number),
+    ),
+    (
+        || plant::pairs().len() - plant::other_pairs(),
+        |number| together(plant::other_pairs() + number),
+    ),
+    (reader::count, reader::case),
     (|| limits::LENGTHS, limits::lengths),
 ];
+
+/// A plant of a number, on the least that it can stand on.
+fn alone(number: usize) -> Case {
+    plant::alone(&mut Rng::new(number as u64), plant::Ground::small(), number)
+}
+
+/// A pair of refusals of a number.
+fn together(number: usize) -> Case {
+    let (first, second) = plant::pairs()[number];
+    let ground = plant::Ground::small();
+    plant::together(&mut Rng::new(number as u64), ground, first, second)
+}
 
 /// The numbers of the cases written by hand, of those about skills among
 /// them, and of the planted refusals, pairs of them, hall inputs and plants in

@@ -9,6 +9,7 @@ pub mod page;
 mod patch;
 pub mod plant;
 mod raw;
+mod reader;
 pub mod skills;
 pub mod world;
 
@@ -20,6 +21,9 @@ use world::{Style, World};
 /// Has a patch draw other numbers than the case that it changes.
 const PATCH: u64 = 0x0050_4154_4348;
 
+/// The same of who reads it.
+const READER: u64 = 0x5245_4144_4552;
+
 /// The generated case of a number. What a patch takes away and what its calls
 /// bring beside the images is drawn by itself, so that the rest is the same with
 /// and without.
@@ -28,6 +32,7 @@ pub fn case(seed: u64, number: u64) -> Case {
     patch::apply(&mut Rng::for_case(seed ^ PATCH, number), &mut case);
     league::bring(&mut Rng::for_case(!seed, number), &mut case);
     page::bring(&mut Rng::for_case(!seed, !number), &mut case);
+    reader::bring(&mut Rng::for_case(seed ^ READER, number), &mut case);
     case
 }
 

@@ -106,6 +106,8 @@ pub enum Number {
     /// The limits of a call.
     PairLimit,
     SkillLimit,
+    /// The reader that a call names.
+    Reader,
 }
 
 /// Sizes that may be refused too early.
@@ -125,6 +127,15 @@ pub enum Measure {
 impl Flaw {
     pub fn has(self, fault: Fault) -> bool {
         self == Flaw::Fault(fault)
+    }
+
+    /// Whether it is about who a call is for.
+    pub fn is_about_readers(self) -> bool {
+        match self {
+            Flaw::Fault(fault) => fault.is_about_readers(),
+            Flaw::Narrow(Number::Reader, _) => true,
+            _ => false,
+        }
     }
 
     /// How many of so many rows are found.

@@ -101,6 +101,9 @@ fn judge(catalogue: &Catalogue, image: &[u8], flaw: Flaw) -> Verdict {
         if flaw.has(Fault::HallUnknownClear) {
             entries.retain(|entry| entry[1] != 26);
         }
+        if flaw.has(Fault::HallForGuests) {
+            entries.retain(|entry| entry[1] != 21);
+        }
         Ok((entries, is_whole(&fit, flaw)))
     });
     let (entries, is_whole) = match listed {

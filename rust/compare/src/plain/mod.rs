@@ -13,6 +13,7 @@ mod hall;
 mod item;
 mod league;
 mod page;
+mod reader;
 mod resource;
 mod skill;
 mod slot;
@@ -25,10 +26,10 @@ use entry::{Entries, Target};
 use fit::Fit;
 use league::League;
 use page::{Asked, Page};
+use reader::{Reader, Worked};
 use unknown::Place;
 
 use crate::checker::{Checker, ENTRY, Entry, Terms, refused};
-use crate::page::Limits;
 
 pub use fault::{FAULTS, Fault};
 pub use flaw::{Flaw, Measure, Number, Rows};
@@ -47,16 +48,9 @@ impl Plain {
 
 impl Checker for Plain {
     fn list(&self, catalogue: &[u8], fit: &[u8], terms: Terms, out: &mut [u8]) -> u64 {
-        let flaw = self.flaw;
-        let page = Page::new(terms.limits, Asked::List, flaw);
-        let listed = opened_list(catalogue, fit, terms, page, out.len(), flaw).and_then(
-            |(catalogue, fit, league)| {
-                page.asks_all(&Context::new(&catalogue, &fit, flaw))?;
-                list(&catalogue, &fit, &league, flaw)
-            },
-        );
-        let listed = page.judged(listed, (catalogue, fit), out.len());
-        answer(listed.map(|entries| page.answered(entries)), out, flaw)
+        let reader = Reader::of_list(terms, self.flaw);
+        let (worked, room) = (reader.worked(fit, terms), out.len());
+        reader.answer((catalogue, fit), || listed(catalogue, &worked, room), out)
     }
 
     fn skill(
@@ -64,29 +58,13 @@ impl Checker for Plain {
         catalogue: &[u8],
         fit: &[u8],
         result: u32,
-        limits: Limits,
+        terms: Terms,
         out: &mut [u8],
     ) -> u64 {
-        let page = Page::new(limits, Asked::Skill, self.flaw);
-        let results = fit.get(8..12).map_or(0, |bytes| bytes::u32_at(bytes, 0));
-        let too_high = u64::from(result) > u64::from(results) + 1;
-        if self.flaw.has(Fault::ResultBeforeFit)
-            && too_high
-            && Catalogue::open(catalogue, self.flaw).is_ok()
-            && !matches!(Fit::open(fit, self.flaw), Err(4))
-        {
-            return refused(8);
-        }
-        let listed = opened(catalogue, fit, self.flaw).and_then(|(catalogue, fit)| {
-            let result = self.flaw.number(Number::Result, result as usize);
-            match skill(&catalogue, &fit, result, page, self.flaw) {
-                Err(9) if self.flaw.has(Fault::RoomBeforeWalk) && out.len() < ENTRY => Err(10),
-                Err(13) if self.flaw.has(Fault::SkillsAfterRoom) && out.len() < ENTRY => Err(10),
-                listed => listed,
-            }
-        });
-        let listed = page.judged(listed, (catalogue, fit), out.len());
-        answer(listed.map(|entries| page.answered(entries)), out, self.flaw)
+        let reader = Reader::of_skill(terms, result, self.flaw);
+        let (worked, room) = (reader.worked(fit, terms), out.len());
+        let listed = || skills(catalogue, &worked, result, room);
+        reader.answer((catalogue, fit), listed, out)
     }
 
     fn hall(&self, catalogue: &[u8], input: &[u8]) -> u64 {
@@ -96,6 +74,47 @@ impl Checker for Plain {
     fn widen(&self, old: &[u8], out: &mut [u8]) -> u64 {
         widen::widen(old, out, self.flaw)
     }
+}
+
+/// What the list call gives to an officer, but for refusal 10.
+fn listed(catalogue: &[u8], worked: &Worked, room: usize) -> Result<Vec<Entry>, u8> {
+    let Worked { fit, terms, flaw } = worked;
+    let (terms, flaw) = (*terms, *flaw);
+    let page = Page::new(terms.limits, Asked::List, flaw);
+    let listed = opened_list(catalogue, fit, terms, page, room, flaw).and_then(
+        |(catalogue, fit, league)| {
+            page.asks_all(&Context::new(&catalogue, &fit, flaw))?;
+            list(&catalogue, &fit, &league, flaw)
+        },
+    );
+    let listed = page.judged(listed, (catalogue, fit), room);
+    listed.map(|entries| page.answered(entries))
+}
+
+/// The same of the skill call.
+fn skills(catalogue: &[u8], worked: &Worked, result: u32, room: usize) -> Result<Vec<Entry>, u8> {
+    let Worked { fit, terms, flaw } = worked;
+    let (fit, flaw): (&[u8], Flaw) = (fit, *flaw);
+    let page = Page::new(terms.limits, Asked::Skill, flaw);
+    let results = fit.get(8..12).map_or(0, |bytes| bytes::u32_at(bytes, 0));
+    let too_high = u64::from(result) > u64::from(results) + 1;
+    if flaw.has(Fault::ResultBeforeFit)
+        && too_high
+        && Catalogue::open(catalogue, flaw).is_ok()
+        && !matches!(Fit::open(fit, flaw), Err(4))
+    {
+        return Err(8);
+    }
+    let listed = opened(catalogue, fit, flaw).and_then(|(catalogue, fit)| {
+        let result = flaw.number(Number::Result, result as usize);
+        match skill(&catalogue, &fit, result, page, flaw) {
+            Err(9) if flaw.has(Fault::RoomBeforeWalk) && room < ENTRY => Err(10),
+            Err(13) if flaw.has(Fault::SkillsAfterRoom) && room < ENTRY => Err(10),
+            listed => listed,
+        }
+    });
+    let listed = page.judged(listed, (catalogue, fit), room);
+    listed.map(|entries| page.answered(entries))
 }
 
 /// Both images, or the first refusal of 1 to 6.

@@ -5,7 +5,7 @@
 //! original cannot say or hold is plain code: the total of drones over 32 bits
 //! in `drones`, base values finer than an f32 in `walk`, the widening of old
 //! catalogues in `widen`, the league's rules in `league`, rule 26 in `unknown`,
-//! a page's limits in `page`.
+//! a page's limits in `page`, who may read what in `reader`.
 
 mod catalogue;
 mod drones;
@@ -13,6 +13,7 @@ mod encode;
 mod fit;
 pub mod league;
 pub mod page;
+pub mod reader;
 mod unknown;
 mod walk;
 mod widen;
@@ -40,13 +41,15 @@ pub struct Original;
 
 impl Checker for Original {
     fn list(&self, catalogue: &[u8], fit: &[u8], terms: Terms, out: &mut [u8]) -> u64 {
-        let listed = Catalogue::decode(catalogue).and_then(|catalogue| {
+        let listed = || {
+            reader::judged(terms.reader, false)?;
+            let catalogue = Catalogue::decode(catalogue)?;
             let fit = Fit::decode(fit)?;
             page::pairs(&fit, terms.limits)?;
             let league = League::decode(terms)?;
-            Ok(list(&catalogue, &fit, &league))
-        });
-        written(listed, out)
+            Ok(reader::given(list(&catalogue, &fit, &league), terms.reader))
+        };
+        written(listed(), out)
     }
 
     fn skill(
@@ -54,14 +57,16 @@ impl Checker for Original {
         catalogue: &[u8],
         fit: &[u8],
         result: u32,
-        limits: Limits,
+        terms: Terms,
         out: &mut [u8],
     ) -> u64 {
-        let listed = Catalogue::decode(catalogue).and_then(|catalogue| {
+        let listed = || {
+            reader::judged(terms.reader, true)?;
+            let catalogue = Catalogue::decode(catalogue)?;
             let fit = Fit::decode(fit)?;
-            skill(&catalogue, &fit, result, limits)
-        });
-        written(listed, out)
+            skill(&catalogue, &fit, result, terms.limits)
+        };
+        written(listed(), out)
     }
 
     fn hall(&self, catalogue: &[u8], input: &[u8]) -> u64 {

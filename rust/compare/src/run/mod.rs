@@ -1,6 +1,7 @@
 //! Runs one case: the original's answer and the checker's, held together.
 
 mod page;
+mod reader;
 mod shown;
 
 use std::cell::{Cell, OnceCell, RefCell};
@@ -14,11 +15,19 @@ use crate::guard::{Fill, Guarded, Held};
 use crate::model::{Fit, hall_image};
 use crate::page::Limits;
 use crate::profile::League;
+use crate::reader::Reader;
 use crate::reference::{self, Fate, LIMIT, Listed, Refusal};
 use crate::tally::{Call, Hangar, Point, Tally, Zeros};
 use crate::verdict::{Expected, compare, compare_wide, expected, hall_in_words, without_unknown};
 
 pub use shown::Shown;
+
+/// Who calls are made for: the case's own reader, or all that there are.
+#[derive(Clone, Copy, Debug, PartialEq)]
+pub enum Readers {
+    Own,
+    All,
+}
 
 /// Where the two part.
 #[derive(Clone, Debug)]
@@ -90,11 +99,12 @@ impl Brought {
         !self.held.image.is_empty()
     }
 
-    fn terms(&self, limits: Limits, fill: Fill) -> Terms<'_> {
+    fn terms(&self, call: Lists, fill: Fill) -> Terms<'_> {
         Terms {
+            reader: call.reader,
             profile: self.held.copy(fill).bytes(),
             allowance: self.allowance,
-            limits,
+            limits: call.limits,
         }
     }
 }
@@ -113,6 +123,7 @@ pub struct Stage<'a> {
     brought: Brought,
     fit: OnceCell<Subject>,
     grown: OnceCell<Subject>,
+    retrained: OnceCell<Subject>,
     hall: OnceCell<Hall>,
     old: OnceCell<Old>,
     widened: OnceCell<Option<(Source, Subject)>>,
@@ -136,6 +147,7 @@ impl<'a> Stage<'a> {
             brought: Brought::new(&case.league),
             fit: OnceCell::new(),
             grown: OnceCell::new(),
+            retrained: OnceCell::new(),
             hall: OnceCell::new(),
             old: OnceCell::new(),
             widened: OnceCell::new(),
@@ -149,6 +161,11 @@ impl<'a> Stage<'a> {
     fn grown_fit(&self) -> &Subject {
         self.grown
             .get_or_init(|| Subject::new(&self.case.growth.of(&self.case.fits[0])))
+    }
+
+    fn retrained_fit(&self) -> &Subject {
+        self.retrained
+            .get_or_init(|| Subject::new(&self.case.retrained()))
     }
 
     fn hall(&self) -> &Hall {
@@ -190,7 +207,7 @@ impl<'a> Stage<'a> {
 
     /// What a call must give, and the length of the buffer that it is lent.
     fn expected(&self, source: &Source, subject: &Subject, call: Lists) -> (Expected, usize) {
-        let listed = self.listed(source, subject, call.result, call.limits);
+        let listed = self.listed(source, subject, call);
         let length = match &listed {
             Ok(listed) => call.room.length(ENTRY * listed.entries.len()),
             // A refusal has to leave something untouched.
@@ -218,10 +235,27 @@ impl<'a> Stage<'a> {
         }
     }
 
-    /// The list and skill calls of an ask, with the catalogue and fit of each.
-    fn lists(&self, ask: Ask) -> Vec<(&Source, &Subject, Lists)> {
+    /// The list and skill calls of an ask, with the catalogue and fit of each:
+    /// those for the case's own reader first.
+    fn lists(&self, ask: Ask, readers: Readers) -> Vec<(&Source, &Subject, Lists)> {
+        if let Ask::RetrainedList(_) | Ask::RetrainedSkill(..) = ask {
+            return self.retrained(ask).to_vec();
+        }
+        let own = self.case.reader;
+        let mut calls = self.lists_for(own, ask);
+        if readers == Readers::All {
+            for reader in own.others() {
+                calls.extend(self.lists_for(reader, ask));
+            }
+        }
+        calls
+    }
+
+    /// The same for one reader.
+    fn lists_for(&self, reader: Reader, ask: Ask) -> Vec<(&Source, &Subject, Lists)> {
         let limits = self.case.limits;
         let call = |result, room| Lists {
+            reader,
             result,
             room,
             limits,
@@ -245,11 +279,12 @@ impl<'a> Stage<'a> {
         match ask {
             Ask::List(room) => own(None, room),
             Ask::Skill(result, room) => own(Some(result), room),
-            Ask::Hall | Ask::Widen(_) => Vec::new(),
             Ask::GrownList => both(None),
             Ask::GrownSkill(result) => both(Some(result)),
             Ask::WidenedList => wide(None),
             Ask::WidenedSkill(result) => wide(Some(result)),
+            Ask::Hall | Ask::Widen(_) => Vec::new(),
+            Ask::RetrainedList(_) | Ask::RetrainedSkill(..) => Vec::new(),
         }
     }
 
@@ -257,8 +292,8 @@ impl<'a> Stage<'a> {
     pub fn count(&self, tally: &mut Tally) {
         tally.case(self.case, self.source.held.image.len());
         for ask in &self.case.asks {
-            for (source, subject, call) in self.lists(*ask) {
-                self.count_lists(source, subject, call, tally);
+            for (source, subject, call) in self.lists(*ask, Readers::All) {
+                self.count_call(*ask, source, subject, call, tally);
             }
             match *ask {
                 Ask::Hall => self.count_hall(tally),
@@ -267,14 +302,48 @@ impl<'a> Stage<'a> {
                 Ask::Widen(room) => self.count_widen(room, tally),
                 Ask::WidenedList => self.count_widened(None, tally),
                 Ask::WidenedSkill(result) => self.count_widened(Some(result), tally),
+                Ask::RetrainedList(room) => self.count_retrained(None, room, tally),
+                Ask::RetrainedSkill(result, room) => {
+                    self.count_retrained(Some(result), room, tally);
+                }
                 Ask::List(_) | Ask::Skill(..) => {}
             }
         }
     }
 
-    fn count_lists(&self, source: &Source, subject: &Subject, call: Lists, tally: &mut Tally) {
+    /// A call: who makes it, and for the case's own reader all that it meets.
+    fn count_call(
+        &self,
+        ask: Ask,
+        source: &Source,
+        subject: &Subject,
+        call: Lists,
+        tally: &mut Tally,
+    ) {
+        self.count_reader(source, subject, call, tally);
+        if !self.is_own(ask, call) {
+            return;
+        }
         let (expected, length) = self.expected(source, subject, call);
         tally.call(call, length, expected.word);
+        if ![refused(19), refused(20)].contains(&expected.word) {
+            self.count_lists((source, subject, call), (&expected, length), tally);
+        }
+    }
+
+    /// Whether a call is for the case's own reader, on its own training.
+    fn is_own(&self, ask: Ask, call: Lists) -> bool {
+        let is_retrained = matches!(ask, Ask::RetrainedList(_) | Ask::RetrainedSkill(..));
+        call.reader == self.case.reader && !is_retrained
+    }
+
+    /// A call that its reader may make.
+    fn count_lists(
+        &self,
+        (source, subject, call): (&Source, &Subject, Lists),
+        (expected, length): (&Expected, usize),
+        tally: &mut Tally,
+    ) {
         let (Ok(catalogue), Ok(fit)) = (&source.catalogue, &subject.decoded) else {
             return;
         };
@@ -290,24 +359,33 @@ impl<'a> Stage<'a> {
             if fit.hangar(catalogue).is_some() {
                 tally.meet(Point::Hangar(Hangar::NoRoom));
             }
-            if let Ok(listed) = self.listed(source, subject, None, call.limits) {
+            if let Ok(listed) = self.listed(source, subject, call) {
                 tally.no_room(&listed, length);
             }
         }
         if expected.word >> 32 == 0 {
             tally.catalogue(Call::of(call), catalogue);
             match call.result {
-                None => {
-                    tally.list(catalogue, fit, &expected.listed);
-                    if let Ok(league) = &self.brought.league {
-                        tally.unknown(catalogue, fit, league, &expected.listed);
-                    }
-                    if self.brought.has_profile() && fit.is_hull(catalogue) {
-                        tally.league(call.limits, &expected.listed);
-                    }
-                }
+                None => self.count_listed((catalogue, fit), call.limits, &expected.listed, tally),
                 Some(result) => tally.skill(catalogue, fit, result, &expected.listed),
             }
+        }
+    }
+
+    /// A list call that was answered.
+    fn count_listed(
+        &self,
+        (catalogue, fit): (&reference::Catalogue, &reference::Fit),
+        limits: Limits,
+        listed: &Listed,
+        tally: &mut Tally,
+    ) {
+        tally.list(catalogue, fit, listed);
+        if let Ok(league) = &self.brought.league {
+            tally.unknown(catalogue, fit, league, listed);
+        }
+        if self.brought.has_profile() && fit.is_hull(catalogue) {
+            tally.league(limits, listed);
         }
     }
 
@@ -328,12 +406,21 @@ impl<'a> Stage<'a> {
     }
 
     fn count_grown(&self, result: Option<u32>, tally: &mut Tally) {
-        if let Some((old, new)) = self.both_lists(result)
-            && self.premises_hold(result)
-        {
-            tally.grown(self.case, result.is_some(), &old, &new);
-            if result.is_none() && self.grows_past_32_bits(&old) {
-                tally.meet(Point::Hangar(Hangar::Grown));
+        if !self.premises_hold(result) {
+            return;
+        }
+        let full = self.both_lists(Reader::OFFICER, result);
+        let full = full.map(|(old, _)| old).unwrap_or_default();
+        for reader in Reader::ALL {
+            let Some((old, new)) = self.both_lists(reader, result) else {
+                continue;
+            };
+            tally.grown_for(reader, result.is_some(), &full);
+            if reader == self.case.reader {
+                tally.grown(self.case, result.is_some(), &old, &new);
+                if result.is_none() && self.grows_past_32_bits(&old) {
+                    tally.meet(Point::Hangar(Hangar::Grown));
+                }
             }
         }
     }
@@ -368,10 +455,14 @@ impl<'a> Stage<'a> {
         let Some((source, fit)) = self.widened() else {
             return;
         };
-        let answered = self
-            .listed(source, fit, result, self.case.limits)
-            .is_ok_and(|listed| !listed.entries.is_empty());
-        if answered {
+        let call = Lists {
+            reader: self.case.reader,
+            result,
+            room: Room::Exact,
+            limits: self.case.limits,
+        };
+        let listed = self.listed(source, fit, call);
+        if listed.is_ok_and(|listed| !listed.entries.is_empty()) {
             let call = if result.is_some() {
                 Call::Skill
             } else {
@@ -381,34 +472,61 @@ impl<'a> Stage<'a> {
         }
     }
 
-    /// The lists of both fits, where both are answered.
-    fn both_lists(&self, result: Option<u32>) -> Option<(Vec<Entry>, Vec<Entry>)> {
-        let (old, new) = (self.case.limits, self.case.growth.limits);
-        let old = self.listed(&self.source, self.fit(), result, old).ok()?;
-        let new = self
-            .listed(&self.source, self.grown_fit(), result, new)
-            .ok()?;
-        Some((old.entries, new.entries))
+    /// The lists of both fits for a reader, where both are answered.
+    fn both_lists(&self, reader: Reader, result: Option<u32>) -> Option<(Vec<Entry>, Vec<Entry>)> {
+        let of = |subject: &Subject, limits: Limits| {
+            let call = Lists {
+                reader,
+                result,
+                room: Room::Exact,
+                limits,
+            };
+            let listed = self.listed(&self.source, subject, call);
+            listed.map(|listed| listed.entries).ok()
+        };
+        let old = of(self.fit(), self.case.limits)?;
+        Some((old, of(self.grown_fit(), self.case.growth.limits)?))
     }
 
     /// Has a checker make every call; the first difference, if there is one.
     pub fn hold(&self, checker: &dyn Checker, zeros: &mut Zeros) -> Result<(), Difference> {
+        self.hold_for(Readers::All, checker, zeros)
+    }
+
+    /// The same for some readers.
+    pub fn hold_for(
+        &self,
+        readers: Readers,
+        checker: &dyn Checker,
+        zeros: &mut Zeros,
+    ) -> Result<(), Difference> {
         for ask in &self.case.asks {
-            self.ask(*ask, checker, zeros)
+            self.ask(*ask, readers, checker, zeros)
                 .map_err(|what| Difference { ask: *ask, what })?;
         }
         Ok(())
     }
 
-    fn ask(&self, ask: Ask, checker: &dyn Checker, zeros: &mut Zeros) -> Result<(), String> {
-        for (source, subject, call) in self.lists(ask) {
-            self.hold_lists(source, subject, call, checker, zeros)?;
+    fn ask(
+        &self,
+        ask: Ask,
+        readers: Readers,
+        checker: &dyn Checker,
+        zeros: &mut Zeros,
+    ) -> Result<(), String> {
+        for (source, subject, call) in self.lists(ask, readers) {
+            if self.is_own(ask, call) && !self.case.planted.is_empty() {
+                self.planted(self.expected(source, subject, call).0.word)?;
+            }
+            let held = self.hold_lists(source, subject, call, checker, zeros);
+            held.map_err(|what| format!("for {}, {what}", call.reader))?;
         }
         match ask {
             Ask::Hall => self.hold_hall(checker),
             Ask::GrownList => self.grown_keeps(None),
             Ask::GrownSkill(result) => self.grown_keeps(Some(result)),
             Ask::Widen(room) => self.hold_widen(room, checker),
+            Ask::RetrainedList(_) | Ask::RetrainedSkill(..) => self.same_for_a_guest(ask, checker),
             Ask::List(_) | Ask::Skill(..) | Ask::WidenedList | Ask::WidenedSkill(_) => Ok(()),
         }
     }
@@ -423,8 +541,7 @@ impl<'a> Stage<'a> {
         zeros: &mut Zeros,
     ) -> Result<(), String> {
         let (expected, length) = self.expected(source, subject, call);
-        self.planted(expected.word)?;
-        for fill in [Fill::First, Fill::Second] {
+        for fill in self.fills(call.reader).iter().copied() {
             let mut out = Guarded::buffer(length, fill);
             let word = self.called((source, subject, call), checker, fill, out.bytes_mut())?;
             source.held.unharmed(fill, "catalogue")?;
@@ -435,7 +552,7 @@ impl<'a> Stage<'a> {
             zeros.note(&expected.listed, out.bytes());
             if call.result.is_none() && word >> 32 == 0 {
                 let written = &out.bytes()[..ENTRY * word as usize];
-                self.less_unknown(source, subject, written)?;
+                self.less_unknown(source, subject, call.reader, written)?;
             }
         }
         Ok(())
@@ -446,6 +563,7 @@ impl<'a> Stage<'a> {
         &self,
         source: &Source,
         subject: &Subject,
+        reader: Reader,
         written: &[u8],
     ) -> Result<(), String> {
         let parts = (&source.catalogue, &subject.decoded, &self.brought.league);
@@ -453,7 +571,8 @@ impl<'a> Stage<'a> {
             return Err("the checker answers what is refused".to_string());
         };
         let before = || reference::list_before(catalogue, fit, league);
-        without_unknown(subject.before.get_or_init(before), written)
+        let before = subject.before.get_or_init(before).clone();
+        without_unknown(&reference::reader::given(before, reader), written)
     }
 
     /// The word of a call on one of the copies, or that the checker panicked.
@@ -466,10 +585,10 @@ impl<'a> Stage<'a> {
     ) -> Result<u64, String> {
         let catalogue = source.held.copy(fill).bytes();
         let fit = subject.held.copy(fill).bytes();
-        let terms = self.brought.terms(call.limits, fill);
+        let terms = self.brought.terms(call, fill);
         caught(|| match call.result {
             None => checker.list(catalogue, fit, terms, out),
-            Some(result) => checker.skill(catalogue, fit, result, call.limits, out),
+            Some(result) => checker.skill(catalogue, fit, result, terms, out),
         })
     }
 
@@ -507,12 +626,19 @@ impl<'a> Stage<'a> {
         Ok(())
     }
 
-    /// The new list keeps the old one: both are the original's, byte by byte.
+    /// The new list keeps the old one, for every reader: both are the
+    /// original's, byte by byte.
     fn grown_keeps(&self, result: Option<u32>) -> Result<(), String> {
-        match self.both_lists(result) {
-            Some((old, new)) if self.premises_hold(result) => grown::places(&old, &new).map(|_| ()),
-            _ => Ok(()),
+        if !self.premises_hold(result) {
+            return Ok(());
         }
+        for reader in Reader::ALL {
+            if let Some((old, new)) = self.both_lists(reader, result) {
+                let places = grown::places(&old, &new);
+                places.map_err(|what| format!("for {reader}, {what}"))?;
+            }
+        }
+        Ok(())
     }
 
     /// Document 01's premises on a fit that grows, but for the two answers.
@@ -535,21 +661,18 @@ impl<'a> Stage<'a> {
     }
 
     /// What the reference lists, or the refusal before 10.
-    fn listed(
-        &self,
-        source: &Source,
-        subject: &Subject,
-        result: Option<u32>,
-        limits: Limits,
-    ) -> Result<Listed, Refusal> {
+    fn listed(&self, source: &Source, subject: &Subject, call: Lists) -> Result<Listed, Refusal> {
+        let Lists { reader, limits, .. } = call;
+        reference::reader::judged(reader, call.result.is_some())?;
         let catalogue = source.catalogue.as_ref().map_err(|refusal| *refusal)?;
         let fit = subject.decoded.as_ref().map_err(|refusal| *refusal)?;
-        match result {
+        match call.result {
             None => {
                 reference::page::pairs(fit, limits)?;
                 let league = self.brought.league.as_ref().map_err(|refusal| *refusal)?;
                 let listed = || reference::list(catalogue, fit, league);
-                Ok(subject.listed.get_or_init(listed).clone())
+                let full = subject.listed.get_or_init(listed).clone();
+                Ok(reference::reader::given(full, reader))
             }
             Some(result) => subject
                 .skills

@@ -3,7 +3,7 @@
 use std::collections::BTreeSet;
 use std::fmt;
 
-use super::{Source, Stage, Subject, caught};
+use super::{Readers, Source, Stage, Subject, caught};
 use crate::case::{Ask, Lists, Room};
 use crate::checker::{Checker, ENTRY, Entry};
 use crate::guard::Fill;
@@ -56,13 +56,13 @@ const ANY_LIST: usize = 196_608;
 
 impl Stage<'_> {
     /// What a checker's difference in a call is about.
-    pub fn shown(&self, ask: Ask, checker: &dyn Checker) -> Shown {
+    pub fn shown(&self, ask: Ask, readers: Readers, checker: &dyn Checker) -> Shown {
         match ask {
             Ask::Hall => return self.shown_in_hall(checker),
             Ask::Widen(room) => return self.shown_in_widen(room, checker),
             _ => {}
         }
-        let calls = self.lists(ask).into_iter();
+        let calls = self.lists(ask, readers).into_iter();
         let shown =
             calls.map(|(source, subject, call)| self.shown_in_list(source, subject, call, checker));
         let mut different = shown.filter(|shown| *shown != Shown::Buffer);
@@ -137,9 +137,9 @@ impl Stage<'_> {
             .chunks_exact(ENTRY)
             .map(|bytes| bytes.try_into().expect("24 bytes"))
             .collect();
-        match given == expected.listed.entries {
-            true => Shown::Buffer,
-            false => Shown::Rules(rules(&expected.listed.entries, &given)),
+        match rules(&expected.listed.entries, &given) {
+            rules if rules.is_empty() => Shown::Buffer,
+            rules => Shown::Rules(rules),
         }
     }
 }

@@ -5,6 +5,7 @@ mod league;
 mod look;
 mod page;
 mod point;
+mod reader;
 pub mod size;
 mod unknown;
 mod wide;
@@ -16,12 +17,14 @@ use crate::case::{Ask, Case, Lists, Room};
 use crate::checker::{ENTRY, Entry};
 use crate::grown;
 use crate::page::Limits;
+use crate::reader::Reader;
 use crate::reference::{self, Catalogue, Fate, Fit, League, Listed, More, Refusal};
 
 pub use edge::{Hangar, Shape, Spot};
 pub use league::LeagueEdge;
 pub use page::{PageEdge, pairs_beside, skills_beside};
 pub use point::{Beside, Call, Point, RoomKind};
+pub use reader::{ReaderEdge, Retrained};
 pub use unknown::UnknownEdge;
 pub use widened::{Class, Fine, WidenRoom};
 
@@ -98,10 +101,44 @@ impl Tally {
         }
     }
 
+    /// A list or skill call and the word that it must give, by its reader.
+    pub fn reader(&mut self, lists: Lists, word: u64) {
+        self.calls += 1;
+        reader::called(self, lists, word);
+    }
+
+    /// A skill call whose images are not refused.
+    pub fn private_skills(&mut self, fit: &Fit, lists: Lists, word: u64) {
+        reader::skills(self, fit, lists, word);
+    }
+
+    /// A list call that is not refused before 10, with the word that it must
+    /// give, its buffer's length, and what an officer gets.
+    pub fn private_list(
+        &mut self,
+        images: (&Catalogue, &Fit),
+        lists: Lists,
+        given: (u64, usize),
+        full: &Listed,
+    ) {
+        reader::list(self, images, lists, given, full);
+    }
+
+    /// Two fits that differ in their training alone, for a guest.
+    pub fn retrained(&mut self, both: &Retrained) {
+        reader::retrained(self, both);
+    }
+
+    /// Two lists held against each other for a reader, and the old one as an
+    /// officer gets it.
+    pub fn grown_for(&mut self, reader: Reader, is_skill: bool, full: &[Entry]) {
+        let call = if is_skill { Call::Skill } else { Call::List };
+        reader::grown(self, reader, call, full);
+    }
+
     /// A list or skill call with its buffer's length and the word that it must
     /// give.
     pub fn call(&mut self, lists: Lists, length: usize, word: u64) {
-        self.calls += 1;
         let call = Call::of(lists);
         let refusal = (word >> 32) as u8;
         if refusal != 0 {
@@ -229,6 +266,7 @@ impl Tally {
             self.meet(Point::HallHangar(fate));
         }
         unknown::hall(self, catalogue, fit, fate, listed);
+        reader::hall(self, fate, listed);
     }
 
     /// The word that a hall call must give.

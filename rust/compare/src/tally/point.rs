@@ -5,6 +5,7 @@ use std::fmt;
 use super::edge::{CapitalEdge, Edge, Hangar, Shape, Spot};
 use super::league::LeagueEdge;
 use super::page::PageEdge;
+use super::reader::ReaderEdge;
 use super::size::{
     AMOUNTS, Block, Counting, HELD, Holder, IdOf, LARGEST_HALL, LIST_BUFFERS, LONGEST_LIST, Part,
     Place, RESULTS, Region, SKILL_BUFFERS, UNREAD,
@@ -92,6 +93,8 @@ pub enum Point {
     Unknown(UnknownEdge),
     /// What the limits of a call are beside its fit.
     Page(PageEdge),
+    /// Who a call is for, and what comes of that.
+    Reader(ReaderEdge),
 }
 
 #[derive(Clone, Copy, Debug, PartialEq, Eq, PartialOrd, Ord)]
@@ -184,9 +187,9 @@ pub fn required() -> Vec<Point> {
     points.extend((0..12).map(Point::Kind));
     points.extend([0, 1, 2, 3, 4, 5, 6, 8, 9].map(Point::HighestIndex));
     points.extend((0..4).map(Point::State));
-    let of_lists = [1, 2, 3, 4, 5, 6, 13, 11, 12, 10];
+    let of_lists = [19, 1, 2, 3, 4, 5, 6, 13, 11, 12, 10];
     points.extend(of_lists.map(|refusal| Point::Refusal(Call::List, refusal)));
-    let of_skills = [1, 2, 3, 4, 5, 6, 13, 8, 9, 10];
+    let of_skills = [19, 20, 1, 2, 3, 4, 5, 6, 13, 8, 9, 10];
     points.extend(of_skills.map(|refusal| Point::Refusal(Call::Skill, refusal)));
     points.extend([1, 2, 3, 4].map(|refusal| Point::Refusal(Call::Hall, refusal)));
     points.extend([1, 2, 3, 10].map(|refusal| Point::Refusal(Call::Widen, refusal)));
@@ -240,6 +243,7 @@ pub fn required() -> Vec<Point> {
     points.extend(LeagueEdge::all().into_iter().map(Point::League));
     points.extend(UnknownEdge::all().into_iter().map(Point::Unknown));
     points.extend(PageEdge::all().into_iter().map(Point::Page));
+    points.extend(ReaderEdge::all().into_iter().map(Point::Reader));
     points
 }
 
@@ -346,6 +350,7 @@ impl fmt::Display for Point {
             Point::League(edge) => out.write_str(&edge.words()),
             Point::Unknown(edge) => out.write_str(&edge.words()),
             Point::Page(edge) => out.write_str(&edge.words()),
+            Point::Reader(edge) => out.write_str(&edge.words()),
             Point::Fine(fine) => write!(out, "base value finer than an f32: {}", fine.words()),
             size => size.fmt_size(out),
         }

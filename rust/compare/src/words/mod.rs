@@ -10,6 +10,7 @@ use crate::model::{Catalogue, Damage, Fit, Name, Outcome, hall_image};
 use crate::names::{MARKS, NAMES};
 use crate::page::Limits;
 use crate::profile::{BANNED, League};
+use crate::reader::Reader;
 use crate::reference::{Original, widen};
 use crate::verdict::hall_in_words;
 
@@ -34,6 +35,7 @@ pub fn case(case: &Case) -> String {
     damage(&mut text, "hall input", &case.frame);
     league(&mut text, &case.league);
     limits(&mut text, "limits", case.limits);
+    readers(&mut text, case);
     let growth = &case.growth;
     if case
         .asks
@@ -63,11 +65,28 @@ pub fn case(case: &Case) -> String {
     text
 }
 
+/// Who calls are for, where it is no officer, and the skills of the other fit
+/// that a guest reads.
+fn readers(text: &mut String, case: &Case) {
+    if case.reader != Reader::OFFICER {
+        *text += &format!("calls are for {}\n", case.reader);
+    }
+    let reads_two = |ask: &Ask| matches!(ask, Ask::RetrainedList(_) | Ask::RetrainedSkill(..));
+    if !case.asks.iter().any(reads_two) {
+        return;
+    }
+    *text += &format!("the same fit with {} other skills\n", case.training.len());
+    list(text, &case.training, |skill| {
+        format!("skill {} trained to {}", skill.id, skill.level)
+    });
+}
+
 /// What the original answers to each kind of call of a case, whatever the
 /// buffers.
 pub fn answers(case: &Case) -> String {
     let catalogue = case.catalogue.image();
-    let terms = Terms {
+    let own = Terms {
+        reader: case.reader,
         profile: &case.league.image(),
         allowance: case.league.allowance,
         limits: case.limits,
@@ -75,8 +94,14 @@ pub fn answers(case: &Case) -> String {
     let mut text = String::new();
     let mut asked = Vec::new();
     for one in &case.asks {
+        let mut terms = own;
         let (what, result) = match one {
             Ask::List(_) | Ask::GrownList => ("list".to_string(), None),
+            Ask::RetrainedList(_) => {
+                terms.reader = Reader::GUEST;
+                ("list for a guest".to_string(), None)
+            }
+            Ask::RetrainedSkill(..) => continue,
             Ask::Skill(result, _) | Ask::GrownSkill(result) => {
                 (format!("skill of {}", holder(*result)), Some(*result))
             }
@@ -97,15 +122,15 @@ pub fn answers(case: &Case) -> String {
             // where its base values are f32.
             Ask::WidenedList | Ask::WidenedSkill(_) => continue,
         };
-        if asked.contains(&result) {
+        if asked.contains(&(terms.reader, result)) {
             continue;
         }
-        asked.push(result);
+        asked.push((terms.reader, result));
         let fit = case.fits[0].image();
         let mut out = vec![0; ENTRY * 8_192];
         let word = match result {
             None => Original.list(&catalogue, &fit, terms, &mut out),
-            Some(result) => Original.skill(&catalogue, &fit, result, case.limits, &mut out),
+            Some(result) => Original.skill(&catalogue, &fit, result, terms, &mut out),
         };
         text += &format!("{what}: the original makes it {}\n", in_words(word));
         let count = if word >> 32 == 0 { word as usize } else { 0 };
@@ -131,6 +156,13 @@ pub fn ask(ask: Ask) -> String {
         Ask::WidenedList => "list under the widened catalogue".to_string(),
         Ask::WidenedSkill(result) => {
             format!("skill of {} under the widened catalogue", holder(result))
+        }
+        Ask::RetrainedList(room) => {
+            format!("a guest's list with either training, {}", self::room(room))
+        }
+        Ask::RetrainedSkill(result, room) => {
+            let (holder, room) = (holder(result), self::room(room));
+            format!("a guest's skill of {holder} with either training, {room}")
         }
     }
 }

@@ -3,7 +3,6 @@
 //! Expected values in these tests are worked out from documents 01 and 02.
 
 use compare::checker::{Checker, Terms, refused};
-use compare::page::Limits;
 use compare::plain::Plain;
 use compare::rattle;
 use compare::reference::Original;
@@ -93,20 +92,20 @@ pub fn assert_list_with(catalogue: &[u8], fit: &[u8], terms: Terms, expected: &G
 
 /// Asserts what every checker's skill call gives on raw images.
 pub fn assert_skill_of(catalogue: &[u8], fit: &[u8], result: u32, expected: &Given) {
-    assert_skill_with(catalogue, fit, result, Limits::MAIN, expected);
+    assert_skill_with(catalogue, fit, result, Terms::default(), expected);
 }
 
-/// The same under limits of a page.
+/// The same where the call brings something besides.
 pub fn assert_skill_with(
     catalogue: &[u8],
     fit: &[u8],
     result: u32,
-    limits: Limits,
+    terms: Terms,
     expected: &Given,
 ) {
     for (name, checker) in checkers() {
         let got = given(name, |out| {
-            checker.skill(catalogue, fit, result, limits, out)
+            checker.skill(catalogue, fit, result, terms, out)
         });
         assert_eq!(got, *expected, "{name}");
     }

@@ -9,6 +9,7 @@ mod hall;
 mod league;
 mod original;
 mod page;
+mod reader;
 mod recorded;
 mod refusals;
 mod unknown;

@@ -27,6 +27,11 @@ fn under(pairs: u32, skills: u32) -> Terms<'static> {
     }
 }
 
+fn assert_skill_under(catalogue: &[u8], fit: &[u8], result: u32, limits: Limits, expected: &Given) {
+    let Limits { pairs, skills } = limits;
+    assert_skill_with(catalogue, fit, result, under(pairs, skills), expected);
+}
+
 /// So many pairs that break no rule: implants without the attribute that says
 /// where they belong.
 fn pairs(count: u16) -> Sketch {
@@ -58,7 +63,7 @@ fn assert_both(sketch: Sketch, limits: Limits, expected: &Given) {
     let (catalogue, fit) = images(sketch);
     let Limits { pairs, skills } = limits;
     assert_list_with(&catalogue, &fit, under(pairs, skills), expected);
-    assert_skill_with(&catalogue, &fit, 0, limits, expected);
+    assert_skill_under(&catalogue, &fit, 0, limits, expected);
 }
 
 #[test]
@@ -79,9 +84,9 @@ fn as_many_skills_as_the_limit_are_taken_and_one_more_is_not() {
     for limit in [1, 63, 64, 65, 255, 256, 257, 511] {
         let limits = Limits::of(0, limit);
         let (catalogue, fit) = images(chain(limit as i32, 1.0));
-        assert_skill_with(&catalogue, &fit, 0, limits, &untrained(limit));
+        assert_skill_under(&catalogue, &fit, 0, limits, &untrained(limit));
         let (catalogue, fit) = images(chain(limit as i32 + 1, 1.0));
-        assert_skill_with(&catalogue, &fit, 0, limits, &Given::Refusal(13));
+        assert_skill_under(&catalogue, &fit, 0, limits, &Given::Refusal(13));
     }
 }
 
@@ -90,13 +95,13 @@ fn over_512_skills_are_refused_by_9_under_every_limit() {
     let (long, longer) = (images(chain(512, 1.0)), images(chain(513, 1.0)));
     for limit in [512, 513, 600, 65_536, u32::MAX] {
         let limits = Limits::of(256, limit);
-        assert_skill_with(&long.0, &long.1, 0, limits, &untrained(512));
-        assert_skill_with(&longer.0, &longer.1, 0, limits, &Given::Refusal(9));
+        assert_skill_under(&long.0, &long.1, 0, limits, &untrained(512));
+        assert_skill_under(&longer.0, &longer.1, 0, limits, &Given::Refusal(9));
     }
     for limit in [0, 1, 64, 511] {
         let limits = Limits::of(256, limit);
-        assert_skill_with(&long.0, &long.1, 0, limits, &Given::Refusal(13));
-        assert_skill_with(&longer.0, &longer.1, 0, limits, &Given::Refusal(9));
+        assert_skill_under(&long.0, &long.1, 0, limits, &Given::Refusal(13));
+        assert_skill_under(&longer.0, &longer.1, 0, limits, &Given::Refusal(9));
     }
 }
 
@@ -105,13 +110,13 @@ fn over_512_skills_are_refused_by_9_under_every_limit() {
 #[test]
 fn a_limit_of_0_refuses_the_first_skill_at_level_0_too() {
     let (catalogue, fit) = images(chain(1, 0.0));
-    assert_skill_with(&catalogue, &fit, 0, Limits::of(0, 0), &Given::Refusal(13));
+    assert_skill_under(&catalogue, &fit, 0, Limits::of(0, 0), &Given::Refusal(13));
     let nothing = Given::Entries(Vec::new());
-    assert_skill_with(&catalogue, &fit, 0, Limits::of(0, 1), &nothing);
-    assert_skill_with(&catalogue, &fit, 1, Limits::of(0, 0), &nothing);
+    assert_skill_under(&catalogue, &fit, 0, Limits::of(0, 1), &nothing);
+    assert_skill_under(&catalogue, &fit, 1, Limits::of(0, 0), &nothing);
     let (catalogue, fit) = images(chain(2, 1.0).skill(1, 5).skill(2, 5));
-    assert_skill_with(&catalogue, &fit, 0, Limits::of(0, 1), &Given::Refusal(13));
-    assert_skill_with(&catalogue, &fit, 0, Limits::of(0, 2), &nothing);
+    assert_skill_under(&catalogue, &fit, 0, Limits::of(0, 1), &Given::Refusal(13));
+    assert_skill_under(&catalogue, &fit, 0, Limits::of(0, 2), &nothing);
 }
 
 #[test]
@@ -147,7 +152,7 @@ fn the_pair_limit_is_asked_behind_the_images_and_before_all_else() {
     let limits = Limits::of(1, 512);
     let (catalogue, fit) = (bad.catalogue.image(), bad.fit.image());
     assert_list_with(&catalogue, &fit, under(1, 512), &Given::Refusal(6));
-    assert_skill_with(&catalogue, &fit, 0, limits, &Given::Refusal(6));
+    assert_skill_under(&catalogue, &fit, 0, limits, &Given::Refusal(6));
     assert_list_with(&[0; 3], &fit, under(1, 512), &Given::Refusal(1));
     let mut long = chain(513, 1.0);
     long.fit.items = pairs(2).fit.items;
@@ -161,20 +166,20 @@ fn the_pair_limit_is_asked_behind_the_images_and_before_all_else() {
         assert_list_with(&catalogue, &fit, terms, &Given::Refusal(13));
     }
     for result in [0, 4, u32::MAX] {
-        assert_skill_with(&catalogue, &fit, result, limits, &Given::Refusal(13));
+        assert_skill_under(&catalogue, &fit, result, limits, &Given::Refusal(13));
     }
-    assert_skill_with(&catalogue, &fit, 4, Limits::MAIN, &Given::Refusal(8));
-    assert_skill_with(&catalogue, &fit, 0, Limits::MAIN, &Given::Refusal(9));
+    assert_skill_under(&catalogue, &fit, 4, Limits::MAIN, &Given::Refusal(8));
+    assert_skill_under(&catalogue, &fit, 0, Limits::MAIN, &Given::Refusal(9));
 }
 
 #[test]
 fn thirteen_comes_before_10() {
     let two = images(chain(2, 1.0).item(5, HIGH, 0));
     for (name, checker) in checkers() {
-        let skill = |limits: Limits| checker.skill(&two.0, &two.1, 0, limits, &mut []);
-        assert_eq!(skill(Limits::MAIN), refused(10), "{name}");
-        assert_eq!(skill(Limits::of(256, 1)), refused(13), "{name}");
-        assert_eq!(skill(Limits::of(0, 512)), refused(13), "{name}");
+        let skill = |terms: Terms| checker.skill(&two.0, &two.1, 0, terms, &mut []);
+        assert_eq!(skill(Terms::default()), refused(10), "{name}");
+        assert_eq!(skill(under(256, 1)), refused(13), "{name}");
+        assert_eq!(skill(under(0, 512)), refused(13), "{name}");
         let list = |terms: Terms| checker.list(&two.0, &two.1, terms, &mut []);
         assert_eq!(list(Terms::default()), refused(10), "{name}");
         assert_eq!(list(under(0, 512)), refused(13), "{name}");
@@ -213,6 +218,7 @@ impl Calls<'_> {
             profile: &self.league.image(),
             allowance: self.league.allowance,
             limits,
+            ..Terms::default()
         };
         let word = match result {
             None => self
@@ -220,7 +226,7 @@ impl Calls<'_> {
                 .list(&self.catalogue, &self.fit, terms, &mut out),
             Some(result) => {
                 let (catalogue, fit) = (&self.catalogue, &self.fit);
-                self.checker.skill(catalogue, fit, result, limits, &mut out)
+                self.checker.skill(catalogue, fit, result, terms, &mut out)
             }
         };
         (word, out)

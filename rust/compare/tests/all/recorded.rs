@@ -1,13 +1,12 @@
 //! The recorded answers: they are what `record` writes, every checker gives
-//! them, and they hold every rule, every refusal of the main page and every
-//! call.
+//! them, and they hold every rule, every refusal that an officer gets on the
+//! main page and every call.
 
 use std::collections::BTreeSet;
 
 use crate::common::checkers;
 use compare::case::REFUSALS;
 use compare::checker::Terms;
-use compare::page::Limits;
 use compare::record::{self, HALL, LIST, MOST, Record, WIDEN};
 
 const FILE: &[u8] = include_bytes!("../../recorded.bin");
@@ -53,7 +52,7 @@ fn every_checker_gives_the_recorded_answers() {
                 WIDEN => checker.widen(&record.catalogue, &mut out),
                 result => {
                     let (catalogue, fit) = (&record.catalogue, &record.fit);
-                    checker.skill(catalogue, fit, result, Limits::MAIN, &mut out)
+                    checker.skill(catalogue, fit, result, Terms::default(), &mut out)
                 }
             };
             assert_eq!(word, record.word, "{name}, record {number}");
@@ -86,8 +85,9 @@ fn every_rule_refusal_and_call_is_recorded() {
         }
     }
     assert_eq!(rules, (1..=21).chain(24..=26).collect());
-    // The main page gives no 13.
-    let given = REFUSALS.into_iter().filter(|number| *number != 13);
+    // The main page gives no 13, and an officer gets neither 19 nor 20.
+    let is_given = |number: &u8| ![13, 19, 20].contains(number);
+    let given = REFUSALS.into_iter().filter(is_given);
     let given = given.map(u64::from);
     assert_eq!(refusals, given.chain([0]).collect());
     for call in ["list", "skill", "hall", "widen"] {

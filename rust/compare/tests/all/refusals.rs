@@ -5,7 +5,6 @@ use crate::common::*;
 use compare::checker::{Terms, refused};
 use compare::model::{Base, Catalogue, Effect, Fit, Item, Link, Name, Outcome, Skill, Type};
 use compare::names::*;
-use compare::page::Limits;
 use compare::sketch::*;
 
 fn a_type(id: i32) -> Type {
@@ -394,7 +393,7 @@ fn an_empty_list_needs_no_buffer() {
             0,
             "{name}"
         );
-        let word = checker.skill(&catalogue, &fit, 0, Limits::MAIN, &mut []);
+        let word = checker.skill(&catalogue, &fit, 0, Terms::default(), &mut []);
         assert_eq!(word, 0, "{name}");
     }
 }
@@ -442,7 +441,7 @@ fn counting_comes_before_the_buffer() {
     let chain = chain(513).finish();
     for (name, checker) in checkers() {
         let (catalogue, fit) = (chain.catalogue.image(), chain.fit.image());
-        let word = checker.skill(&catalogue, &fit, 0, Limits::MAIN, &mut []);
+        let word = checker.skill(&catalogue, &fit, 0, Terms::default(), &mut []);
         assert_eq!(word, refused(9), "{name}");
     }
 }

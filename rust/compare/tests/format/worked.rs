@@ -3,6 +3,7 @@
 use compare::case::REFUSALS;
 use compare::checker::{Checker, ENTRY, Terms};
 use compare::page::Limits;
+use compare::reader::Reader;
 
 use crate::common::checkers;
 use crate::page::{behind, bytes, hex, table};
@@ -70,11 +71,21 @@ fn limited(call: &str) -> (&str, Limits) {
     (call, limits)
 }
 
+/// The reader behind `for`, or an officer, and the call before it.
+fn read(call: &str) -> (&str, Reader) {
+    match call.split_once(" for ") {
+        Some((call, number)) => (call, Reader(number.parse().unwrap())),
+        None => (call, Reader::OFFICER),
+    }
+}
+
 /// A call as the page names it, `list`, `league 90` with the profile and this
 /// allowance, `skill 2`, `hall` or `widen`, on a buffer.
 fn called(checker: &dyn Checker, call: &str, images: &Images, out: &mut [u8]) -> u64 {
     let (call, limits) = limited(call);
+    let (call, reader) = read(call);
     let terms = Terms {
+        reader,
         limits,
         ..Terms::default()
     };
@@ -86,13 +97,13 @@ fn called(checker: &dyn Checker, call: &str, images: &Images, out: &mut [u8]) ->
             let terms = Terms {
                 profile: &images.profile,
                 allowance: allowance.parse().unwrap(),
-                limits,
+                ..terms
             };
             checker.list(&images.catalogue, &images.fit, terms, out)
         }
         Some(("skill", result)) => {
             let result = result.parse().unwrap();
-            checker.skill(&images.catalogue, &images.fit, result, limits, out)
+            checker.skill(&images.catalogue, &images.fit, result, terms, out)
         }
         _ => panic!("no call `{call}`"),
     }

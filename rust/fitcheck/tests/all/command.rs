@@ -28,6 +28,14 @@ fn fitcheck(words: &[&str]) -> Ran {
     ended(ran)
 }
 
+/// The same, and a fit is explained to an officer, who is told everything.
+fn officer(words: &[&str]) -> Ran {
+    match words[0] {
+        "explain" => fitcheck(&[words, &["--as", "officer"]].concat()),
+        _ => fitcheck(words),
+    }
+}
+
 /// The same with bytes on standard input.
 fn piped(words: &[&str], bytes: &[u8]) -> Ran {
     let mut child = Command::new(env!("CARGO_BIN_EXE_fitcheck"))
@@ -167,7 +175,7 @@ fn files_that_cannot_be_read_are_named_and_have_status_1() {
         (vec!["hall", &catalogue, &fit], &fit),
         (vec!["hall", &nowhere, itself], &nowhere),
     ] {
-        let ran = fitcheck(&words);
+        let ran = officer(&words);
         assert_eq!(ran.status, 1, "{words:?}");
         assert!(
             ran.err.starts_with(&format!("fitcheck: {about}: ")),
@@ -176,7 +184,7 @@ fn files_that_cannot_be_read_are_named_and_have_status_1() {
         );
         assert!(ran.out.is_empty());
     }
-    let ran = fitcheck(&["explain", &catalogue, &fit, "--names", &names]);
+    let ran = officer(&["explain", &catalogue, &fit, "--names", &names]);
     assert_eq!(ran.status, 1);
     assert_eq!(
         ran.err,
@@ -190,7 +198,7 @@ fn document_01s_smallest_images() {
     let folder = folder("zeros");
     let catalogue = put(&folder, "types.bin", &[0; 20]);
     let fit = put(&folder, "fit.bin", &[0; 36]);
-    let ran = fitcheck(&["explain", &catalogue, &fit]);
+    let ran = officer(&["explain", &catalogue, &fit]);
     assert_eq!(
         ran.out,
         "faulted: 1 entry\n  \
@@ -199,7 +207,7 @@ fn document_01s_smallest_images() {
     );
     assert_eq!(ran.status, 3);
 
-    let ran = fitcheck(&["explain", "--json", &catalogue, &fit]);
+    let ran = officer(&["explain", "--json", &catalogue, &fit]);
     let (begins, ends) = (
         "{\"version\":2,\"status\":\"faulted\",\"unchecked\":[{\"rule\":\"resource\",\
          \"what\":\"resources (CPU)\",\"names\":[\"cpuLoad\",\"cpuOutput\"],\"marks\":[]},",
@@ -220,7 +228,7 @@ fn a_clear_fit_has_status_0_even_where_skills_are_lacking() {
     let catalogue = put(&folder, "types.bin", &types);
     let mut fit = FitBuilder::new(587);
     let path = put(&folder, "bare.fit", &fit.build().unwrap());
-    let ran = fitcheck(&["explain", &catalogue, &path]);
+    let ran = officer(&["explain", &catalogue, &path]);
     assert_eq!(
         ran.out,
         "clear: no rule is broken\nskills: none is lacking\n"
@@ -229,7 +237,7 @@ fn a_clear_fit_has_status_0_even_where_skills_are_lacking() {
 
     fit.ship(ItemResult::default().with(182, 3329.0).with(277, 2.0));
     let path = put(&folder, "untrained.fit", &fit.build().unwrap());
-    let ran = fitcheck(&["explain", &catalogue, &path]);
+    let ran = officer(&["explain", &catalogue, &path]);
     assert_eq!(
         ran.out,
         "clear: no rule is broken\nskills: lacking for 1 of 2 results\n  \
@@ -249,7 +257,7 @@ fn a_faulted_fit_in_sentences_with_names() {
         "names.txt",
         "587 Rifter\n2048 \"Damage\\Control\"\n3394 Hull Upgrades\n".as_bytes(),
     );
-    let ran = fitcheck(&["explain", &catalogue, &fit, "--names", &names]);
+    let ran = officer(&["explain", &catalogue, &fit, "--names", &names]);
     assert_eq!(
         ran.out,
         "faulted: 3 entries\n  \
@@ -260,7 +268,7 @@ fn a_faulted_fit_in_sentences_with_names() {
     );
     assert_eq!(ran.status, 3);
 
-    let ran = fitcheck(&["explain", &catalogue, &fit, "--json", "--names", &names]);
+    let ran = officer(&["explain", &catalogue, &fit, "--json", "--names", &names]);
     assert_eq!(ran.status, 3);
     let value = Value::parse(&ran.out);
     assert_eq!(
@@ -324,13 +332,13 @@ fn a_fit_of_which_not_all_was_checked_is_faulted_and_says_why() {
     ] {
         let sentence = format!("{sentence}, so not all of it was checked");
         let fit = put(&folder, "unequal.fit", &unequal(items, results));
-        let ran = fitcheck(&["explain", &catalogue, &fit]);
+        let ran = officer(&["explain", &catalogue, &fit]);
         assert_eq!(
             ran.out,
             format!("faulted: 0 entries\n  {sentence}\nskills: none is lacking\n")
         );
         assert_eq!(ran.status, 3);
-        let ran = fitcheck(&["explain", &catalogue, &fit, "--json"]);
+        let ran = officer(&["explain", &catalogue, &fit, "--json"]);
         assert_eq!(ran.status, 3);
         let value = Value::parse(&ran.out);
         assert_eq!(value.get("status").text(), "faulted");
@@ -346,7 +354,7 @@ fn a_fit_of_which_not_all_was_checked_is_faulted_and_says_why() {
     }
     // As many of both.
     let fit = put(&folder, "equal.fit", &unequal(4, 4));
-    let ran = fitcheck(&["explain", &catalogue, &fit]);
+    let ran = officer(&["explain", &catalogue, &fit]);
     assert_eq!(
         (ran.status, ran.out.as_str()),
         (0, "clear: no rule is broken\nskills: none is lacking\n")
@@ -357,7 +365,7 @@ fn a_fit_of_which_not_all_was_checked_is_faulted_and_says_why() {
     broken.item_without_result(FitItem::new(2048, Slot::Low(0)));
     let broken = broken.build().unwrap();
     let path = put(&folder, "broken.fit", &broken);
-    let ran = fitcheck(&["explain", &catalogue, &path]);
+    let ran = officer(&["explain", &catalogue, &path]);
     assert_eq!(
         ran.out,
         "faulted: 1 entry\n  \
@@ -428,14 +436,14 @@ fn a_refused_walk_is_said_beside_the_list() {
     let folder = folder("chain");
     let catalogue = put(&folder, "types.bin", &catalogue.build().unwrap());
     let fit = put(&folder, "chain.fit", &fit);
-    let ran = fitcheck(&["explain", &catalogue, &fit]);
+    let ran = officer(&["explain", &catalogue, &fit]);
     assert_eq!(
         ran.out,
         "clear: no rule is broken\nskills: lacking for 0 of 2 results, 1 refused\n  \
          the character: refused by 9: the result wants more than 512 skills\n"
     );
     assert_eq!(ran.status, 0);
-    let ran = fitcheck(&["explain", &catalogue, &fit, "--json"]);
+    let ran = officer(&["explain", &catalogue, &fit, "--json"]);
     let value = Value::parse(&ran.out);
     let character = &value.get("skills").list()[1];
     assert_eq!(character.get("refusal").get("number").number(), 9.0);
@@ -462,7 +470,7 @@ fn a_smaller_page_says_what_it_does_not_take() {
     let folder = folder("smaller");
     let catalogue = put(&folder, "types.bin", &catalogue.build().unwrap());
     let fit = put(&folder, "two.fit", &fit);
-    let under = |limits: &[&str]| fitcheck(&[&["explain", &catalogue, &fit], limits].concat());
+    let under = |limits: &[&str]| officer(&[&["explain", &catalogue, &fit], limits].concat());
 
     let main = under(&[]);
     for limits in [
@@ -511,6 +519,150 @@ fn a_smaller_page_says_what_it_does_not_take() {
     assert_eq!(skills[2].get("entries").list().len(), 0);
 }
 
+/// A Rifter with a gun among its skills, two guns in one slot, of which one wants
+/// a skill, and the catalogue that it belongs to.
+fn shared() -> (Vec<u8>, Vec<u8>) {
+    let names = [
+        (Attribute::RequiredSkill1, 182),
+        (Attribute::RequiredSkill1Level, 277),
+        (Attribute::HiSlots, 14),
+    ];
+    let catalogue = whole(&names)
+        .type_info(587, 25, 6, None)
+        .type_info(2889, 55, 7, None)
+        .build()
+        .unwrap();
+    let online = || ItemResult::new(State::Online);
+    let fit = FitBuilder::new(587)
+        .skill(2889, 4)
+        .ship(online().with(14, 4.0))
+        .item(FitItem::new(2889, Slot::High(0)), online())
+        .item(
+            FitItem::new(2889, Slot::High(0)),
+            online().with(182, 3302.0).with(277, 1.0),
+        )
+        .build()
+        .unwrap();
+    (catalogue, fit)
+}
+
+/// Skills are private: a guest sees which slot is shared, and neither what is
+/// trained nor what is lacking.
+#[test]
+fn a_guest_is_told_nothing_of_skills() {
+    let folder = folder("guest");
+    let (types, fit) = shared();
+    let catalogue = put(&folder, "types.bin", &types);
+    let fit = put(&folder, "shared.fit", &fit);
+    let read_by = |reader: &str| fitcheck(&["explain", &catalogue, &fit, "--as", reader]);
+    let shared = "High slot 0 is shared by type 2889 (items 0, 1)";
+    let full = format!(
+        "faulted: 3 entries\n  type 2889 is listed as a skill and is not one\n  {shared}\n\
+         skills: lacking for 1 of 4 results\n  \
+         item 1 (type 2889) needs type 3302 at level 1, and it is not trained\n"
+    );
+    for reader in ["pilot", "officer"] {
+        let ran = read_by(reader);
+        assert_eq!((ran.status, &ran.out), (3, &full), "{reader}");
+    }
+    let ran = read_by("guest");
+    let guests = format!("faulted: 2 entries\n  {shared}\nskills: not for a guest\n");
+    assert_eq!((ran.status, ran.out), (3, guests));
+
+    let ran = fitcheck(&["explain", &catalogue, &fit, "--json", "--as=guest"]);
+    assert!(!ran.out.contains("3302") && !ran.out.contains("not_a_skill"));
+    let value = Value::parse(&ran.out);
+    assert_eq!(value.get("status").text(), "faulted");
+    assert_eq!(value.get("entries").list().len(), 2);
+    let skills = value.get("skills").list();
+    assert_eq!(skills.len(), 4);
+    for (result, skills) in skills.iter().enumerate() {
+        assert_eq!(skills.names(), ["result", "refusal"]);
+        assert_eq!(skills.get("result").number(), result as f64);
+        let refusal = skills.get("refusal");
+        assert_eq!(refusal.get("number").number(), 20.0);
+        let reason = refusal.get("reason").text();
+        assert_eq!(reason, Refusal::GuestSkills.to_string());
+    }
+}
+
+/// What is wrong with the training alone is not told to a guest: it is as with
+/// a fit that is clear, and neither is called so.
+#[test]
+fn a_guest_cannot_tell_a_clear_fit_from_one_with_a_false_skill() {
+    let folder = folder("guest_clear");
+    let (types, _) = shared();
+    let catalogue = put(&folder, "types.bin", &types);
+    let clear = put(&folder, "clear.fit", &FitBuilder::new(587).build().unwrap());
+    let mut fit = FitBuilder::new(587);
+    let faulted = put(&folder, "gun.fit", &fit.skill(2889, 5).build().unwrap());
+    for (fit, status) in [(&clear, 0), (&faulted, 3)] {
+        let ran = fitcheck(&["explain", &catalogue, fit, "--as", "pilot"]);
+        assert_eq!(ran.status, status);
+        let ran = fitcheck(&["explain", &catalogue, fit, "--as", "guest"]);
+        assert_eq!(ran.status, 0);
+        assert_eq!(
+            ran.out,
+            "nothing listed: no rule is broken that a guest may see\nskills: not for a guest\n"
+        );
+        let ran = fitcheck(&["explain", &catalogue, fit, "--as", "guest", "--json"]);
+        assert_eq!(ran.status, 0);
+        let value = Value::parse(&ran.out);
+        assert_eq!(value.get("status").text(), "nothing_listed");
+    }
+    // The hall is the officer's.
+    let hall = fitcheck(&["hall", &catalogue, folder.to_str().unwrap()]);
+    assert!(
+        hall.out.contains("gun.fit: faulted, 1 entry\n"),
+        "{}",
+        hall.out
+    );
+    // A fit of which not all was checked is faulted, whoever asks.
+    let half = put(&folder, "half.fit", &unequal(2, 1));
+    let ran = fitcheck(&["explain", &catalogue, &half, "--as", "guest"]);
+    assert_eq!(ran.status, 3);
+    assert!(ran.out.starts_with("faulted: "), "{}", ran.out);
+}
+
+/// Nobody is taken for the reader: without one the command says whom it could be
+/// for, and nothing of the fit.
+#[test]
+fn whom_a_fit_is_explained_to_has_to_be_said() {
+    let folder = folder("no_reader");
+    let (types, fit) = shared();
+    let catalogue = put(&folder, "types.bin", &types);
+    let fit = put(&folder, "shared.fit", &fit);
+    for (words, wrong) in [
+        (
+            &[][..],
+            "fitcheck: explain wants --as and who reads it: guest, pilot or officer\n",
+        ),
+        (
+            &["--as", "everyone"],
+            "fitcheck: --as everyone is no guest, pilot or officer\n",
+        ),
+        (&["--as"], "fitcheck: --as wants a reader\n"),
+    ] {
+        let ran = fitcheck(&[&["explain", &catalogue, &fit], words].concat());
+        assert_eq!((ran.status, ran.out.as_str()), (2, ""));
+        assert!(ran.err.starts_with(wrong), "{}", ran.err);
+        assert!(ran.err.contains("--as READER"), "{}", ran.err);
+    }
+    let ran = fitcheck(&[
+        "hall",
+        &catalogue,
+        folder.to_str().unwrap(),
+        "--as",
+        "guest",
+    ]);
+    assert_eq!(ran.status, 2);
+    assert!(
+        ran.err.starts_with("fitcheck: hall takes no --as\n"),
+        "{}",
+        ran.err
+    );
+}
+
 #[test]
 fn refused_images_are_named_and_have_status_1() {
     let folder = folder("refused");
@@ -525,11 +677,11 @@ fn refused_images_are_named_and_have_status_1() {
     ] {
         let number = refusal.number();
         let said = format!("fitcheck: {path}: refused by {number}: {refusal}\n");
-        let ran = fitcheck(&words);
+        let ran = officer(&words);
         assert_eq!((ran.status, ran.err.as_str()), (1, said.as_str()));
         assert!(ran.out.is_empty());
 
-        let ran = fitcheck(&[words[0], words[1], words[2], "--json"]);
+        let ran = officer(&[words[0], words[1], words[2], "--json"]);
         assert_eq!((ran.status, ran.err.as_str()), (1, said.as_str()));
         let value = Value::parse(&ran.out);
         assert_eq!(value.names(), ["version", "status", "refusal"]);
@@ -694,20 +846,20 @@ fn a_fit_may_come_by_standard_input() {
     let (types, fit) = faulted();
     let catalogue = put(&folder, "types.bin", &types);
     let path = put(&folder, "rifter.fit", &fit);
-    let from_file = fitcheck(&["explain", &catalogue, &path]);
-    let ran = piped(&["explain", &catalogue, "-"], &fit);
+    let from_file = officer(&["explain", &catalogue, &path]);
+    let ran = piped(&["explain", &catalogue, "-", "--as", "officer"], &fit);
     assert_eq!((ran.status, ran.out), (3, from_file.out.clone()));
-    let ran = piped(&["explain", "-", &path], &types);
+    let ran = piped(&["explain", "-", &path, "--as", "officer"], &types);
     assert_eq!((ran.status, ran.out), (3, from_file.out));
 
-    let ran = piped(&["explain", &catalogue, "-"], &fit[..50]);
+    let ran = piped(&["explain", &catalogue, "-", "--as", "officer"], &fit[..50]);
     assert_eq!(ran.status, 1);
     let said = format!(
         "fitcheck: standard input: refused by 4: {}\n",
         Refusal::FitLength
     );
     assert_eq!(ran.err, said);
-    let ran = piped(&["explain", "-", "-"], &fit);
+    let ran = piped(&["explain", "-", "-", "--as", "officer"], &fit);
     assert_eq!(ran.status, 2);
 }
 
@@ -728,7 +880,7 @@ fn what_a_catalogue_lacks_is_said_aloud() {
         "fitcheck: {bare}: warning: the catalogue has no id for 88 of 88 attribute names and no \
          effect for 8 of 8 slot marks, so these are not checked: resources; slots of the ship; "
     );
-    let ran = fitcheck(&["explain", &bare, &fit]);
+    let ran = officer(&["explain", &bare, &fit]);
     assert!(ran.err.starts_with(&warning), "{}", ran.err);
     assert!(ran.err.ends_with("; required skills\n"), "{}", ran.err);
     assert_eq!(ran.err.lines().count(), 1);
@@ -741,7 +893,7 @@ fn what_a_catalogue_lacks_is_said_aloud() {
         ["explain", &bare, &fit, "--json"],
         ["hall", &bare, hall, "--json"],
     ] {
-        let ran = fitcheck(&words);
+        let ran = officer(&words);
         assert!(ran.err.starts_with(&warning), "{}", ran.err);
         let value = Value::parse(&ran.out);
         let unchecked = value.get("unchecked").list();
@@ -753,7 +905,7 @@ fn what_a_catalogue_lacks_is_said_aloud() {
     // One that lacks nothing is warned of by nobody.
     let whole = put(&folder, "whole.bin", &whole(&[]).build().unwrap());
     assert!(fitcheck(&["hall", &whole, hall]).err.is_empty());
-    assert!(fitcheck(&["explain", &whole, &fit]).err.is_empty());
+    assert!(officer(&["explain", &whole, &fit]).err.is_empty());
 }
 
 /// An old catalogue with one base, 1.5 of attribute 182 on type 3302; and the
@@ -853,10 +1005,10 @@ fn a_league_in_words_is_packed_and_asked() {
     assert_eq!(profile.to_string(), "price 5 60\nban 464\n");
 
     let league = ["--profile", &image, "--allowance", "0"];
-    let plain = fitcheck(&["explain", &types, &fit, "--json"]);
+    let plain = officer(&["explain", &types, &fit, "--json"]);
     let entries = |ran: &Ran| Value::parse(&ran.out).get("entries").list().len();
     let without = entries(&plain);
-    let ran = fitcheck(&[&["explain", &types, &fit, "--names", &names], &league[..]].concat());
+    let ran = officer(&[&["explain", &types, &fit, "--names", &names], &league[..]].concat());
     assert_eq!(ran.status, 3);
     assert!(
         ran.out
@@ -864,7 +1016,7 @@ fn a_league_in_words_is_packed_and_asked() {
         "{}",
         ran.out
     );
-    let ran = fitcheck(&[&["explain", &types, &fit, "--json"], &league[..]].concat());
+    let ran = officer(&[&["explain", &types, &fit, "--json"], &league[..]].concat());
     assert_eq!(entries(&ran), without + 1);
     let value = Value::parse(&ran.out);
     let rule = value.get("entries").list()[without].get("rule");
@@ -876,7 +1028,7 @@ fn a_bad_profile_is_refused_and_named() {
     let folder = folder("bad_league");
     let (types, fit) = miner(&folder);
     let asked = |image: &str| {
-        fitcheck(&[
+        officer(&[
             "explain",
             &types,
             &fit,

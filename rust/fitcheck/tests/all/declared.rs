@@ -205,6 +205,13 @@ fn the_headers_numbers_are_the_crates() {
     assert_eq!(number("FITCHECK_MOST_ENTRIES"), fitcheck::MOST_ENTRIES);
     assert_eq!(number("FITCHECK_MOST_SKILLS"), fitcheck::MOST_SKILLS);
     assert_eq!(number("FITCHECK_FITS_PER_CALL"), fitcheck::FITS_PER_CALL);
+    for (name, reader) in [
+        ("FITCHECK_GUEST", fitcheck::Reader::Guest),
+        ("FITCHECK_PILOT", fitcheck::Reader::Pilot),
+        ("FITCHECK_OFFICER", fitcheck::Reader::Officer),
+    ] {
+        assert_eq!(number(name), usize::from(reader.number()));
+    }
     for (name, rule) in [
         ("FITCHECK_BANNED", "banned"),
         ("FITCHECK_POINTS", "points"),

@@ -5,7 +5,7 @@ use std::collections::BTreeSet;
 
 use fitcheck::{
     Attribute, CatalogueBuilder, CatalogueImage, FitBuilder, FitItem, ItemResult, ListOptions,
-    Mark, Missing, Rule, SkillOptions, Slot, State, Unchecked,
+    Mark, Missing, Reader, Rule, SkillOptions, Slot, State, Unchecked,
 };
 
 fn id(name: Attribute) -> i32 {
@@ -110,9 +110,9 @@ fn fit() -> FitBuilder {
 fn said(catalogue: &CatalogueBuilder, fit: &[u8]) -> BTreeSet<(String, String)> {
     let catalogue = catalogue.build().unwrap();
     let results = fitcheck::FitImage::new(fit).unwrap().results() as u32 + 2;
-    let mut entries = fitcheck::list(&catalogue, fit, &ListOptions::new()).unwrap();
+    let mut entries = fitcheck::list(&catalogue, fit, &ListOptions::new(Reader::Officer)).unwrap();
     for result in 0..results {
-        let skills = fitcheck::skills(&catalogue, fit, result, &SkillOptions::new());
+        let skills = fitcheck::skills(&catalogue, fit, result, &SkillOptions::new(Reader::Officer));
         entries.extend(skills.unwrap());
     }
     let one = |entry: &fitcheck::Entry| {

@@ -90,7 +90,7 @@ fn the_command_prints_what_the_page_shows() {
         assert_eq!(String::from_utf8(both).unwrap(), printed, "{command}");
         run += 1;
     }
-    assert!(run >= 16, "the page has {run} runs of the command");
+    assert!(run >= 19, "the page has {run} runs of the command");
 }
 
 #[test]
@@ -196,8 +196,13 @@ fn the_objects_in_json_have_the_fields_that_the_page_lists() {
     rifter::write(&at).unwrap();
     std::os::unix::fs::symlink("nowhere", at.join("fits/gone.fit")).unwrap();
     let shown = |words: &[&str]| {
+        let reader: &[&str] = match words[0] {
+            "explain" => &["--as", "pilot"],
+            _ => &[],
+        };
         let ran = Command::new(env!("CARGO_BIN_EXE_fitcheck"))
             .args(words)
+            .args(reader)
             .arg("--json")
             .current_dir(&at)
             .output()

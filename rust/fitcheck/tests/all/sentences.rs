@@ -2,7 +2,7 @@
 
 use fitcheck::{
     Attribute, CatalogueBuilder, Explainer, FitBuilder, FitItem, ItemResult, ListOptions, Mark,
-    Names, Profile, SkillOptions, Slot, State,
+    Names, Profile, Reader, SkillOptions, Slot, State,
 };
 
 const NAMES: &str = "\
@@ -62,7 +62,7 @@ fn said(catalogue: &CatalogueBuilder, fit: &FitBuilder) -> Vec<String> {
     let (catalogue, fit) = (catalogue.build().unwrap(), fit.build().unwrap());
     let names = Names::parse(NAMES).unwrap();
     let explainer = Explainer::new(&fit, &names);
-    let entries = fitcheck::list(&catalogue, &fit, &ListOptions::new()).unwrap();
+    let entries = fitcheck::list(&catalogue, &fit, &ListOptions::new(Reader::Officer)).unwrap();
     let sentences = entries.iter().map(|entry| explainer.explain(entry));
     sentences.collect()
 }
@@ -311,7 +311,7 @@ fn what_a_league_has_to_say() {
     let explainer = Explainer::new(&fit, &names);
     let said = |profile: &Profile, allowance: u32| {
         let image = profile.to_bytes();
-        let options = ListOptions::new().league(&image, allowance);
+        let options = ListOptions::new(Reader::Officer).league(&image, allowance);
         let entries = fitcheck::list(&catalogue, &fit, &options).unwrap();
         explainer.explain_all(&entries)
     };
@@ -356,7 +356,7 @@ fn types_that_are_missing() {
         ]
     );
     let (catalogue, fit) = (known.build().unwrap(), fit.build().unwrap());
-    let entries = fitcheck::list(&catalogue, &fit, &ListOptions::new()).unwrap();
+    let entries = fitcheck::list(&catalogue, &fit, &ListOptions::new(Reader::Officer)).unwrap();
     let mut names = Names::new();
     names.name_type(3330, "Caldari Frigate");
     assert_eq!(
@@ -410,7 +410,13 @@ fn skills_that_are_lacking() {
     let names = Names::parse(NAMES).unwrap();
     let explainer = Explainer::new(&fit, &names);
     let said = |result: u32| {
-        let entries = fitcheck::skills(&catalogue, &fit, result, &SkillOptions::new()).unwrap();
+        let entries = fitcheck::skills(
+            &catalogue,
+            &fit,
+            result,
+            &SkillOptions::new(Reader::Officer),
+        )
+        .unwrap();
         assert_eq!(entries.len(), 1);
         explainer.explain_skill(result, &entries[0])
     };
@@ -430,7 +436,8 @@ fn skills_that_are_lacking() {
         said(3),
         "item 1 needs Minmatar Frigate at level 5, and it is trained to level 2"
     );
-    let entries = fitcheck::skills(&catalogue, &fit, 0, &SkillOptions::new()).unwrap();
+    let entries =
+        fitcheck::skills(&catalogue, &fit, 0, &SkillOptions::new(Reader::Officer)).unwrap();
     assert_eq!(
         explainer.explain(&entries[0]),
         "the fit needs Minmatar Frigate at level 3, and it is trained to level 2"
@@ -462,7 +469,7 @@ fn what_repeats_is_said_once() {
         )
         .item(FitItem::new(99, Slot::High(1)), result());
     let (catalogue, fit) = (catalogue().build().unwrap(), fit.build().unwrap());
-    let entries = fitcheck::list(&catalogue, &fit, &ListOptions::new()).unwrap();
+    let entries = fitcheck::list(&catalogue, &fit, &ListOptions::new(Reader::Officer)).unwrap();
     let names = Names::parse(NAMES).unwrap();
     assert_eq!(
         Explainer::new(&fit, &names).explain_all(&entries),
@@ -505,7 +512,13 @@ fn skills_that_several_items_lack_are_said_once() {
     let (catalogue, fit) = (catalogue().build().unwrap(), fit.build().unwrap());
     let mut lacking = Vec::new();
     for result in 0..6 {
-        let skills = fitcheck::skills(&catalogue, &fit, result, &SkillOptions::new()).unwrap();
+        let skills = fitcheck::skills(
+            &catalogue,
+            &fit,
+            result,
+            &SkillOptions::new(Reader::Officer),
+        )
+        .unwrap();
         lacking.extend(skills.into_iter().map(|entry| (result, entry)));
     }
     let names = Names::parse(NAMES).unwrap();

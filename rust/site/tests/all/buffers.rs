@@ -2,15 +2,15 @@
 
 use compare::rng::Rng;
 use fitcheck::{
-    CatalogueImage, Entry, Explainer, FitImage, ListOptions, Names, Refusal, Rule, SkillOptions,
-    Target,
+    CatalogueImage, Entry, Explainer, FitImage, ListOptions, Names, Reader, Refusal, Rule,
+    SkillOptions, Target,
 };
 
 use crate::common::{images, numbers};
 
 const UNTOUCHED: u8 = 0xC3;
-const LIST: ListOptions = ListOptions::new();
-const SKILL: SkillOptions = SkillOptions::new();
+const LIST: ListOptions = ListOptions::new(Reader::Officer);
+const SKILL: SkillOptions = SkillOptions::new(Reader::Officer);
 
 /// Document 01: "A refusal returns its number and writes nothing. An answered
 /// call returns the count and writes that many entries from byte 0."

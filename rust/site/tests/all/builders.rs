@@ -9,7 +9,7 @@ use compare::reference::Original;
 use compare::rng::Rng;
 use fitcheck::{
     Attribute, BuildError, CatalogueBuilder, FitBuilder, FitItem, FitPart, ItemResult, ListOptions,
-    Mark, Slot, SlotType, State,
+    Mark, Reader, Slot, SlotType, State,
 };
 
 use crate::common::{models, numbers};
@@ -108,7 +108,7 @@ fn assert_accepted(catalogue: &[u8], fit: &[u8]) {
         let word = checker.list(catalogue, fit, Terms::default(), &mut room);
         assert_eq!(word >> 32, 0, "refused");
     }
-    let listed = fitcheck::list(catalogue, fit, &ListOptions::new());
+    let listed = fitcheck::list(catalogue, fit, &ListOptions::new(Reader::Officer));
     assert!(listed.is_ok(), "{listed:?}");
 }
 
@@ -381,7 +381,7 @@ fn a_catalogue_at_its_limit_is_built_and_accepted_and_a_longer_one_is_not_built(
     assert_eq!(image.len(), 16_777_216);
     let fit = FitBuilder::new(1).build().unwrap();
     assert_eq!(
-        fitcheck::list(&image, &fit, &ListOptions::new()),
+        fitcheck::list(&image, &fit, &ListOptions::new(Reader::Officer)),
         Ok(vec![])
     );
 

@@ -4,8 +4,8 @@ use compare::checker::{Checker, Terms};
 use compare::model::{Damage, hall_image};
 use compare::reference::Original;
 use fitcheck::{
-    CatalogueBuilder, FitBuilder, FitItem, Hall, ItemResult, ListOptions, Refusal, Slot, Unpaired,
-    Verdict,
+    CatalogueBuilder, FitBuilder, FitItem, Hall, ItemResult, ListOptions, Reader, Refusal, Slot,
+    Unpaired, Verdict,
 };
 
 use crate::common::{images, numbers, slices};
@@ -89,7 +89,7 @@ fn unequal_numbers_are_faulted_and_said() {
         (256, 256),
     ] {
         let fit = held(items, results);
-        let listed = fitcheck::list(&catalogue(), &fit, &ListOptions::new());
+        let listed = fitcheck::list(&catalogue(), &fit, &ListOptions::new(Reader::Officer));
         assert_eq!(listed, Ok(Vec::new()), "{items} items, {results} results");
         let verdict = match items.cmp(&results) {
             std::cmp::Ordering::Equal => Verdict::Clear,
@@ -228,7 +228,7 @@ fn a_fit_longer_than_any_is_refused_by_4_and_counted() {
     let long = vec![0; fitcheck::FIT_BYTES + 1];
     let fits = [clear(), long.clone(), faulted()];
     assert_eq!(
-        fitcheck::list(&catalogue(), &long, &ListOptions::new()),
+        fitcheck::list(&catalogue(), &long, &ListOptions::new(Reader::Officer)),
         Err(Refusal::FitLength)
     );
     assert_eq!(

@@ -5,7 +5,7 @@ use compare::cases;
 use compare::checker::Terms;
 use compare::profile::BANNED;
 use compare::reference::{self, Catalogue, Fit, League};
-use fitcheck::{Entry, ListOptions, Price, Profile, Refusal, Rule};
+use fitcheck::{Entry, ListOptions, Price, Profile, Reader, Refusal, Rule};
 
 use crate::common::numbers;
 
@@ -28,7 +28,7 @@ fn a_list_with_a_profile_is_the_references() {
             let (fit, league) = (Fit::decode(&fit)?, League::decode(terms)?);
             Ok(reference::list(&catalogue, &fit, &league))
         });
-        let options = ListOptions::new().league(&profile, allowance);
+        let options = ListOptions::new(Reader::Officer).league(&profile, allowance);
         match (fitcheck::list(&catalogue, &fit, &options), expected) {
             (Ok(list), Ok(expected)) => {
                 let bytes: Vec<_> = list.iter().map(Entry::to_bytes).collect();
@@ -111,12 +111,12 @@ fn what_is_built_is_accepted() {
             };
         }
         let image = profile.to_bytes();
-        let options = ListOptions::new().league(&image, league.allowance);
+        let options = ListOptions::new(Reader::Officer).league(&image, league.allowance);
         let listed = fitcheck::list(&[0; 20], &[0; 36], &options);
         assert!(listed.is_ok(), "case {number}: {listed:?}");
         assert_eq!(Profile::from_bytes(&image), Ok(profile));
     }
-    let short = ListOptions::new().league(&[0; 3], 0);
+    let short = ListOptions::new(Reader::Officer).league(&[0; 3], 0);
     let refused = fitcheck::list(&[0; 20], &[0; 36], &short);
     assert_eq!(refused, Err(Refusal::ProfileLength));
 }

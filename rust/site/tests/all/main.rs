@@ -12,5 +12,6 @@ mod league;
 mod mapping;
 mod original;
 mod page;
+mod reader;
 mod threads;
 mod widen;

@@ -5,7 +5,7 @@ use std::cell::RefCell;
 use std::collections::BTreeSet;
 
 use compare::reference::{Catalogue, Fit};
-use fitcheck::{ListOptions, SkillOptions, TypeData};
+use fitcheck::{ListOptions, Reader, SkillOptions, TypeData};
 use original::{Info, Run, Vector, Violation, eve};
 use site::mapping;
 
@@ -64,7 +64,9 @@ fn what_a_site_has_is_answered_as_the_original_does() {
                 .collect();
             let expected = from_plus_zero(printed_originals(&found));
             for catalogue in [&all, &own] {
-                let list = fitcheck::list(catalogue, &mapped_image, &ListOptions::new()).unwrap();
+                let list =
+                    fitcheck::list(catalogue, &mapped_image, &ListOptions::new(Reader::Officer))
+                        .unwrap();
                 let (list, unknown) = without_unknown(list);
                 assert_eq!(printed(&list), expected, "case {case}");
                 assert_eq!(unknown, unknown_types(&run), "case {case}");
@@ -72,7 +74,12 @@ fn what_a_site_has_is_answered_as_the_original_does() {
             }
             for result in 0..fit.calculation.items.len().min(6) as u32 + 2 {
                 let skills = |catalogue: &[u8]| {
-                    fitcheck::skills(catalogue, &mapped_image, result, &SkillOptions::new())
+                    fitcheck::skills(
+                        catalogue,
+                        &mapped_image,
+                        result,
+                        &SkillOptions::new(Reader::Officer),
+                    )
                 };
                 let expected = skills(&catalogue_image);
                 assert_eq!(skills(&all), expected, "case {case}, result {result}");

@@ -5,7 +5,7 @@
 
 use compare::page::Limits;
 use compare::reference::{self, Catalogue, Fit};
-use fitcheck::{Entry, ListOptions, Refusal, Rule, SkillOptions};
+use fitcheck::{Entry, ListOptions, Reader, Refusal, Rule, SkillOptions};
 use original::{Info, Run, Target, Violation};
 
 use crate::common::{images, numbers};
@@ -72,7 +72,7 @@ fn a_list_is_the_originals() {
     for case in numbers(700) {
         let (catalogue_image, fits) = images(11, case);
         for image in fits {
-            let list = fitcheck::list(&catalogue_image, &image, &ListOptions::new());
+            let list = fitcheck::list(&catalogue_image, &image, &ListOptions::new(Reader::Officer));
             let decoded = Catalogue::decode(&catalogue_image)
                 .and_then(|catalogue| Ok((catalogue, Fit::decode(&image)?)));
             let (catalogue, fit) = match decoded {
@@ -135,8 +135,12 @@ fn skills_are_the_originals() {
                 continue;
             };
             for result in 0..fit.calculation.items.len().min(4) as u32 + 2 {
-                let skills =
-                    fitcheck::skills(&catalogue_image, image, result, &SkillOptions::new());
+                let skills = fitcheck::skills(
+                    &catalogue_image,
+                    image,
+                    result,
+                    &SkillOptions::new(Reader::Officer),
+                );
                 if let Err(refusal) = reference::skill(&catalogue, &fit, result, Limits::MAIN) {
                     assert_eq!(number(skills), u32::from(refusal), "case {case}");
                     continue;
@@ -165,7 +169,14 @@ fn skills_are_the_originals() {
 
 #[test]
 fn a_result_beyond_the_last_is_refused_by_8() {
-    let skills = |result| fitcheck::skills(&[0; 20], &[0; 36], result, &SkillOptions::new());
+    let skills = |result| {
+        fitcheck::skills(
+            &[0; 20],
+            &[0; 36],
+            result,
+            &SkillOptions::new(Reader::Officer),
+        )
+    };
     assert!(skills(1).is_ok());
     for result in [2, 3, 258, u32::MAX] {
         assert_eq!(skills(result), Err(Refusal::NoSuchResult));

@@ -4,7 +4,7 @@
 use compare::cases;
 use compare::checker::Terms;
 use compare::reference::{self, Catalogue, Fit, League};
-use fitcheck::{Entry, Limits, ListOptions, Passed, Refusal, SkillOptions};
+use fitcheck::{Entry, Limits, ListOptions, Passed, Reader, Refusal, SkillOptions};
 
 use crate::common::numbers;
 
@@ -55,12 +55,13 @@ fn lists_and_skills_under_limits_are_the_references() {
             profile: &profile,
             allowance: case.league.allowance,
             limits: case.limits,
+            ..Terms::default()
         };
         let limits = of(case.limits);
-        let of_list = ListOptions::new()
+        let of_list = ListOptions::new(Reader::Officer)
             .league(&profile, case.league.allowance)
             .limits(limits);
-        let of_skills = SkillOptions::new().limits(limits);
+        let of_skills = SkillOptions::new(Reader::Officer).limits(limits);
         let expected = reference::page::pairs(&fit, case.limits)
             .and_then(|()| League::decode(terms))
             .map(|league| reference::list(&known, &fit, &league));
@@ -106,10 +107,10 @@ fn a_refusal_into_a_buffer_says_as_much() {
     let limits = Limits::main().pairs(1);
     let refused = Refusal::PageLimit(Some(Passed::Pairs { pairs: 2, limit: 1 }));
     let mut buffer = [7; 48];
-    let list = ListOptions::new().limits(limits);
+    let list = ListOptions::new(Reader::Officer).limits(limits);
     let given = fitcheck::list_into(&catalogue, &fit, &list, &mut buffer);
     assert_eq!(given, Err(refused));
-    let skills = SkillOptions::new().limits(limits);
+    let skills = SkillOptions::new(Reader::Officer).limits(limits);
     let given = fitcheck::skills_into(&catalogue, &fit, 0, &skills, &mut buffer);
     assert_eq!(given, Err(refused));
     assert_eq!(buffer, [7; 48]);

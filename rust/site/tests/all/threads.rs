@@ -4,7 +4,7 @@ use std::thread;
 
 use compare::checker::{Checker, Terms};
 use compare::reference::Original;
-use fitcheck::ListOptions;
+use fitcheck::{ListOptions, Reader};
 
 use crate::common::images;
 
@@ -19,8 +19,12 @@ fn threads_do_not_disturb_each_other() {
                         let mut expected = vec![0; 24 * fitcheck::MOST_ENTRIES];
                         let word = Original.list(&catalogue, &fit, Terms::default(), &mut expected);
                         let mut room = vec![0; 24 * fitcheck::MOST_ENTRIES];
-                        let listed =
-                            fitcheck::list_into(&catalogue, &fit, &ListOptions::new(), &mut room);
+                        let listed = fitcheck::list_into(
+                            &catalogue,
+                            &fit,
+                            &ListOptions::new(Reader::Officer),
+                            &mut room,
+                        );
                         match listed {
                             Ok(entries) => {
                                 assert_eq!(entries.len() as u64, word);

@@ -4,7 +4,7 @@
 use compare::model::Catalogue;
 use compare::page::Limits;
 use compare::reference;
-use fitcheck::{ListOptions, Refusal, SkillOptions};
+use fitcheck::{ListOptions, Reader, Refusal, SkillOptions};
 
 use crate::common::{models, numbers};
 
@@ -47,12 +47,17 @@ fn a_widened_catalogue_is_document_02s_and_lists_what_the_old_one_did() {
             if before.either_zero.is_some() {
                 continue;
             }
-            let ours = bytes(fitcheck::list(&new, &image, &ListOptions::new()));
+            let ours = bytes(fitcheck::list(
+                &new,
+                &image,
+                &ListOptions::new(Reader::Officer),
+            ));
             assert_eq!(ours, Ok(before.entries), "case {case}");
             for result in 0..3 {
                 let original = reference::skill(&decoded, &fit, result, Limits::MAIN);
                 let original = original.map(|list| list.entries).map_err(u32::from);
-                let ours = fitcheck::skills(&new, &image, result, &SkillOptions::new());
+                let ours =
+                    fitcheck::skills(&new, &image, result, &SkillOptions::new(Reader::Officer));
                 assert_eq!(bytes(ours), original, "case {case}, result {result}");
                 listed += 1;
             }
@@ -76,7 +81,7 @@ fn the_longest_old_catalogue_is_widened_and_a_longer_one_refused() {
     old.resize(fitcheck::CATALOGUE_BYTES, 0);
     let new = fitcheck::widen(&old).unwrap();
     assert_eq!(new.len(), old.len() + 4 * 1_398_099);
-    let listed = fitcheck::list(&new, &[0; 36], &ListOptions::new());
+    let listed = fitcheck::list(&new, &[0; 36], &ListOptions::new(Reader::Officer));
     assert_eq!(listed, Err(Refusal::CatalogueLength));
     old.push(0);
     assert_eq!(fitcheck::widen(&old), Err(Refusal::CatalogueLength));

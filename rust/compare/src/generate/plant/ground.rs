@@ -8,6 +8,7 @@ use crate::model::{Base, Catalogue, Fit, Outcome, Skill};
 use crate::names::{CAPACITY, MAX_ACTIVE_DRONES, REQUIRED, RIG_SIZE};
 use crate::page::Limits;
 use crate::profile::{League, Profile};
+use crate::reader::Reader;
 use crate::rng::Rng;
 use crate::sketch::*;
 
@@ -17,6 +18,7 @@ pub struct Ground {
     pub fit: Fit,
     pub league: League,
     pub limits: Limits,
+    pub reader: Reader,
     pub result: u32,
     pub room: Room,
 }
@@ -41,6 +43,7 @@ impl Ground {
             fit: sketch.fit,
             league: League::default(),
             limits: Limits::MAIN,
+            reader: Reader::OFFICER,
             result: 0,
             room: Room::Longer(48),
         }
@@ -76,6 +79,7 @@ impl Ground {
             fit,
             league: League::default(),
             limits: Limits::MAIN,
+            reader: Reader::OFFICER,
             result: 0,
             room: Room::Longer(24 * 700),
         }

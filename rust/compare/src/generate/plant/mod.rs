@@ -3,6 +3,7 @@
 
 mod ground;
 mod page;
+mod reader;
 mod table;
 
 use crate::case::{Ask, CAUSES, Case, Cause, Plant};
@@ -13,7 +14,8 @@ pub use ground::Ground;
 use table::{Dig, PLANTS};
 
 /// Every plant: why the call is refused, how that is deserved, and the change
-/// that does it.
+/// that does it. Those of readers come last, so that the numbers of the others
+/// stay.
 pub fn plants() -> Vec<Row> {
     let numbered = PLANTS.iter();
     let numbered = numbered.map(|(number, how, dig)| (Cause::Number(*number), *how, *dig));
@@ -21,12 +23,23 @@ pub fn plants() -> Vec<Row> {
     let pairs = pairs.map(|(how, dig)| (Cause::Pairs, *how, *dig));
     let skills = page::SKILLS.iter();
     let skills = skills.map(|(how, dig)| (Cause::Skills, *how, *dig));
-    numbered.chain(pairs).chain(skills).collect()
+    let above = reader::ABOVE.iter();
+    let above = above.map(|(how, dig)| (Cause::Number(19), *how, *dig));
+    let guests = reader::GUESTS.iter();
+    let guests = guests.map(|(how, dig)| (Cause::Number(20), *how, *dig));
+    let others = numbered.chain(pairs).chain(skills);
+    others.chain(above).chain(guests).collect()
+}
+
+/// How many plants are not of readers.
+pub fn others() -> usize {
+    plants().len() - reader::ABOVE.len() - reader::GUESTS.len()
 }
 
 type Row = (Cause, &'static str, Dig);
 
-/// The pairs of refusals that can meet in one call, the first to be given.
+/// The pairs of refusals that can meet in one call, the first to be given. Those
+/// of readers come last, as their plants do.
 pub fn pairs() -> Vec<(Cause, Cause)> {
     let mut found = Vec::new();
     for (place, first) in CAUSES.into_iter().enumerate() {
@@ -34,16 +47,31 @@ pub fn pairs() -> Vec<(Cause, Cause)> {
         let met = behind.filter(|second| can_meet(first, **second));
         found.extend(met.map(|second| (first, *second)));
     }
+    found.sort_by_key(|pair| is_of_a_reader(pair.0));
     found
 }
 
+fn is_of_a_reader(cause: Cause) -> bool {
+    matches!(cause, Cause::Number(19 | 20))
+}
+
+/// How many pairs are not of readers.
+pub fn other_pairs() -> usize {
+    let pairs = pairs().into_iter();
+    pairs.filter(|pair| !is_of_a_reader(pair.0)).count()
+}
+
 /// A result that is not there wants no skills and lists nothing; the skill
-/// call takes no profile, and the list call asks for no skills.
+/// call takes no profile, and the list call asks for no skills. A reader above 2
+/// is no guest, and a guest is refused in the skill call alone.
 fn can_meet(first: Cause, second: Cause) -> bool {
     use Cause::{Number, Skills};
     !matches!(
         (first, second),
-        (Number(8), Number(9 | 10) | Skills) | (Number(11 | 12), Number(8 | 9) | Skills)
+        (Number(8), Number(9 | 10) | Skills)
+            | (Number(11 | 12), Number(8 | 9) | Skills)
+            | (Number(19), Number(20))
+            | (Number(20), Number(11 | 12))
     )
 }
 
@@ -99,7 +127,7 @@ fn planted(rng: &mut Rng, mut ground: Ground, plants: &[Row]) -> Case {
     }
     let has = |cause: Cause| plants.iter().any(|plant| plant.0 == cause);
     let takes_a_profile = has(Cause::Number(11)) || has(Cause::Number(12));
-    let takes_a_result = has(Cause::Number(8)) || has(Cause::Number(9)) || has(Cause::Skills);
+    let takes_a_result = [8, 9, 20].map(Cause::Number).into_iter().any(has) || has(Cause::Skills);
     let ask = if takes_a_result || (!takes_a_profile && rng.chance(400)) {
         Ask::Skill(ground.result, ground.room)
     } else {
@@ -111,6 +139,7 @@ fn planted(rng: &mut Rng, mut ground: Ground, plants: &[Row]) -> Case {
         fits: vec![ground.fit],
         league: ground.league,
         limits: ground.limits,
+        reader: ground.reader,
         asks: vec![ask],
         planted: plants
             .iter()
@@ -125,10 +154,21 @@ mod tests {
     use super::*;
 
     #[test]
-    fn every_refusal_has_a_plant_and_69_pairs_can_meet() {
+    fn every_refusal_has_a_plant_and_93_pairs_can_meet() {
         for cause in CAUSES {
             assert!(plants().iter().any(|plant| plant.0 == cause));
         }
-        assert_eq!(pairs().len(), 69);
+        assert_eq!(pairs().len(), 93);
+        assert_eq!(other_pairs(), 69);
+    }
+
+    #[test]
+    fn plants_and_pairs_of_readers_come_last() {
+        let plants = plants();
+        let is_last =
+            |(place, plant): (usize, &Row)| is_of_a_reader(plant.0) == (place >= others());
+        assert!(plants.iter().enumerate().all(is_last));
+        let pairs = pairs().into_iter().map(|pair| is_of_a_reader(pair.0));
+        assert!(pairs.is_sorted());
     }
 }

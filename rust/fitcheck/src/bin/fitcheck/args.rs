@@ -3,13 +3,13 @@
 use std::ffi::OsString;
 use std::path::PathBuf;
 
-use fitcheck::Limits;
+use fitcheck::{Limits, Reader};
 
 use crate::files::Source;
 
 pub const USAGE: &str = "\
-Usage: fitcheck explain CATALOGUE FIT [--names FILE] [--profile FILE --allowance N]
-                        [--pairs N] [--skills N] [--json]
+Usage: fitcheck explain CATALOGUE FIT --as READER [--names FILE]
+                        [--profile FILE --allowance N] [--pairs N] [--skills N] [--json]
        fitcheck hall CATALOGUE FOLDER [--json]
        fitcheck pack FIT.txt [--types FILE] [--out FOLDER]
        fitcheck profile WORDS NEW [--names FILE]
@@ -19,8 +19,8 @@ Usage: fitcheck explain CATALOGUE FIT [--names FILE] [--profile FILE --allowance
 pub const HELP: &str = "\
 Says which fitting rules of EVE Online a fit breaks.
 
-Usage: fitcheck explain CATALOGUE FIT [--names FILE] [--profile FILE --allowance N]
-                        [--pairs N] [--skills N] [--json]
+Usage: fitcheck explain CATALOGUE FIT --as READER [--names FILE]
+                        [--profile FILE --allowance N] [--pairs N] [--skills N] [--json]
        fitcheck hall CATALOGUE FOLDER [--json]
        fitcheck pack FIT.txt [--types FILE] [--out FOLDER]
        fitcheck profile WORDS NEW [--names FILE]
@@ -31,7 +31,7 @@ explain  One fit: every rule that it breaks, in a sentence each, and the skills
          that the ship, the character and each item want and the character
          lacks. What repeats is said once. Items without a result are said too,
          as no rule looks at them, and so are results without an item: a fit
-         that has some is not clear.
+         that has some is not clear. It is said to a reader, whom --as names.
 hall     Every file of a folder, in the order of the names' bytes: clear,
          faulted with the number of entries and what was not checked, or
          refused with the reason; then the three numbers. A file that cannot be
@@ -48,6 +48,10 @@ widen    An old catalogue, whose base values are f32, made into the file NEW in
 CATALOGUE, FIT and OLD are images; one of them may be -, standard input. A catalogue
 that lacks names or effects leaves rules unchecked: which, a warning says.
 
+--as READER   Who reads what explain says: guest, pilot or officer. Skills are
+              private: a guest is told neither which are lacking nor which
+              listed ones are none, and so never that a fit is clear. Pilots and
+              officers are told everything. It has to be named.
 --names FILE  What types and groups are called: a line `2048 Damage Control II`
               for a type, `group 60 Damage Control` for a group; empty lines
               and lines that begin with # are passed over.
@@ -67,7 +71,8 @@ that lacks names or effects leaves rules unchecked: which, a warning says.
 --            Everything behind it is a path.
 
 Status: 0  explain: the fit is clear, which is that no rule is broken and all
-           of it was checked (skills may be lacking);
+           of it was checked (skills may be lacking); for a guest, that nothing
+           is listed and all of it was checked;
            hall: all files counted, whatever the numbers;
            pack, profile, widen: written
         1  refused, or a file cannot be read or written
@@ -90,6 +95,7 @@ pub enum Command {
 pub struct Explain {
     pub catalogue: Source,
     pub fit: Source,
+    pub reader: Reader,
     pub names: Option<PathBuf>,
     /// A league's profile and what it allows.
     pub league: Option<(PathBuf, u32)>,
@@ -138,7 +144,8 @@ struct Words {
 }
 
 /// Options that have a value, and what it is.
-const VALUED: [(&str, &str); 7] = [
+const VALUED: [(&str, &str); 8] = [
+    ("--as", "reader"),
     ("--names", "file"),
     ("--types", "file"),
     ("--out", "folder"),
@@ -261,11 +268,23 @@ fn explain(
     Ok(Command::Explain(Explain {
         catalogue,
         fit,
+        reader: reader(words)?,
         names: words.value("--names"),
         league: league(words)?,
         limits: limits(words)?,
         json: std::mem::take(&mut words.json),
     }))
+}
+
+/// Who reads it. Nobody is taken for granted: what is right for one reader says
+/// too much to another, or too little.
+fn reader(words: &mut Words) -> Result<Reader, String> {
+    const READERS: &str = "guest, pilot or officer";
+    let Some(named) = words.value("--as") else {
+        return Err(format!("explain wants --as and who reads it: {READERS}"));
+    };
+    let reader = named.to_str().and_then(Reader::from_name);
+    reader.ok_or_else(|| format!("--as {} is no {READERS}", named.display()))
 }
 
 /// A profile and its allowance. Either alone is a slip: without an allowance
@@ -329,15 +348,16 @@ mod tests {
         let expected = Command::Explain(Explain {
             catalogue: file("c"),
             fit: file("f"),
+            reader: Reader::Officer,
             names: Some("n".into()),
             league: None,
             limits: Limits::main(),
             json: true,
         });
         for line in [
-            "explain c f --names n --json",
-            "--json explain --names=n c f",
-            "explain c --json --names n -- f",
+            "explain c f --names n --json --as officer",
+            "--json explain --names=n c f --as officer",
+            "explain c --as=officer --json --names n -- f",
         ] {
             assert_eq!(parsed(line).as_ref(), Ok(&expected), "{line}");
         }
@@ -356,14 +376,15 @@ mod tests {
         let priced = Command::Explain(Explain {
             catalogue: file("c"),
             fit: file("f"),
+            reader: Reader::Officer,
             names: None,
             league: Some(("p".into(), 120)),
             limits: Limits::main(),
             json: false,
         });
         for line in [
-            "explain c f --profile p --allowance 120",
-            "--allowance=120 explain --profile=p c f",
+            "explain c f --profile p --allowance 120 --as officer",
+            "--allowance=120 explain --profile=p c f --as officer",
         ] {
             assert_eq!(parsed(line).as_ref(), Ok(&priced), "{line}");
         }
@@ -386,6 +407,7 @@ mod tests {
             Command::Explain(Explain {
                 catalogue: file("c"),
                 fit: file("f"),
+                reader: Reader::Officer,
                 names: None,
                 league: None,
                 limits,
@@ -394,12 +416,28 @@ mod tests {
         };
         let main = Limits::main();
         for (line, limits) in [
-            ("explain c f --pairs 64", main.pairs(64)),
-            ("explain --skills=0 c f", main.skills(0)),
-            ("explain c f --skills 5 --pairs 7", main.pairs(7).skills(5)),
-            ("explain c f --pairs 4294967295 --skills 513", main),
+            ("explain c f --pairs 64 --as officer", main.pairs(64)),
+            ("explain --skills=0 c f --as officer", main.skills(0)),
+            (
+                "explain c f --skills 5 --pairs 7 --as officer",
+                main.pairs(7).skills(5),
+            ),
+            (
+                "explain c f --pairs 4294967295 --skills 513 --as officer",
+                main,
+            ),
         ] {
             assert_eq!(parsed(line), Ok(under(limits)), "{line}");
+        }
+    }
+
+    #[test]
+    fn each_reader_has_a_name() {
+        for reader in Reader::ALL {
+            let Ok(Command::Explain(asked)) = parsed(&format!("explain c f --as {reader}")) else {
+                panic!("it is asked for {reader}");
+            };
+            assert_eq!(asked.reader, *reader);
         }
     }
 
@@ -408,14 +446,15 @@ mod tests {
         let piped = Command::Explain(Explain {
             catalogue: file("c"),
             fit: Source::StandardInput,
+            reader: Reader::Officer,
             names: None,
             league: None,
             limits: Limits::main(),
             json: false,
         });
-        assert_eq!(parsed("explain c -"), Ok(piped));
+        assert_eq!(parsed("explain c - --as officer"), Ok(piped));
         assert_eq!(
-            parsed("explain - -"),
+            parsed("explain - - --as pilot"),
             Err("standard input is one image, not both".to_string())
         );
     }
@@ -427,45 +466,71 @@ mod tests {
             ("explain", "explain wants a CATALOGUE"),
             ("explain c", "explain wants a FIT"),
             ("hall c", "hall wants a FOLDER"),
-            ("explain c f g", "g is one word too many"),
+            ("explain c f g --as pilot", "g is one word too many"),
             ("explain c f --names", "--names wants a file"),
             ("explain c f --names=", "--names wants a file"),
             ("explain c f --names a --names b", "--names stands twice"),
             ("hall c f --names a", "hall takes no --names"),
             ("pack f --json", "pack takes no --json"),
-            ("explain c f --types t", "explain takes no --types"),
+            (
+                "explain c f --types t --as pilot",
+                "explain takes no --types",
+            ),
             ("pack", "pack wants a FIT.txt"),
             ("widen o", "widen wants a NEW"),
             ("widen o n --json", "widen takes no --json"),
             (
-                "explain c f --profile p",
+                "explain c f --profile p --as pilot",
                 "--profile wants --allowance beside it",
             ),
             (
-                "explain c f --allowance 5",
+                "explain c f --allowance 5 --as pilot",
                 "--allowance wants --profile beside it",
             ),
             (
-                "explain c f --profile p --allowance many",
+                "explain c f --profile p --allowance many --as pilot",
                 "--allowance many is no whole number up to 4294967295",
             ),
             (
-                "explain c f --profile p --allowance 4294967296",
+                "explain c f --profile p --allowance 4294967296 --as pilot",
                 "--allowance 4294967296 is no whole number up to 4294967295",
             ),
             ("explain c f --allowance", "--allowance wants a number"),
             ("hall c f --profile p", "hall takes no --profile"),
             (
-                "explain c f --pairs -1",
+                "explain c f --pairs -1 --as pilot",
                 "--pairs -1 is no whole number up to 4294967295",
             ),
             (
-                "explain c f --skills 4294967296",
+                "explain c f --skills 4294967296 --as pilot",
                 "--skills 4294967296 is no whole number up to 4294967295",
             ),
             ("explain c f --pairs", "--pairs wants a number"),
             ("explain c f --skills 1 --skills 1", "--skills stands twice"),
             ("hall c f --pairs 64", "hall takes no --pairs"),
+            ("hall c f --as officer", "hall takes no --as"),
+            ("pack f --as guest", "pack takes no --as"),
+            ("widen o n --as pilot", "widen takes no --as"),
+            (
+                "explain c f",
+                "explain wants --as and who reads it: guest, pilot or officer",
+            ),
+            (
+                "explain c f --json",
+                "explain wants --as and who reads it: guest, pilot or officer",
+            ),
+            (
+                "explain c f --as admin",
+                "--as admin is no guest, pilot or officer",
+            ),
+            (
+                "explain c f --as Guest",
+                "--as Guest is no guest, pilot or officer",
+            ),
+            ("explain c f --as 0", "--as 0 is no guest, pilot or officer"),
+            ("explain c f --as", "--as wants a reader"),
+            ("explain c f --as=", "--as wants a reader"),
+            ("explain c f --as pilot --as pilot", "--as stands twice"),
             ("hall c f --skills 64", "hall takes no --skills"),
             ("profile w", "profile wants a NEW"),
             ("pack f --out=", "--out wants a folder"),

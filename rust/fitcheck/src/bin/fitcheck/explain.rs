@@ -2,7 +2,7 @@
 
 use std::io::Write;
 
-use fitcheck::{Explainer, ListOptions, Refusal, Report, SkillOptions};
+use fitcheck::{Explainer, ListOptions, Refusal, Report};
 
 use crate::args::Explain;
 use crate::files::{self, Source};
@@ -13,16 +13,14 @@ pub fn run(asked: &Explain, out: &mut impl Write) -> Result<u8, Trouble> {
     let catalogue = files::catalogue(&asked.catalogue)?;
     let fit = files::fit(&asked.fit)?;
 
-    let mut options = ListOptions::new().limits(asked.limits);
+    let mut options = ListOptions::new(asked.reader).limits(asked.limits);
     let profile;
     if let Some((path, allowance)) = &asked.league {
         profile = files::profile(path)?;
         options = options.league(&profile, *allowance);
     }
 
-    let of_skills = SkillOptions::new().limits(asked.limits);
-    let made = Report::new(&catalogue, &fit, &options, &of_skills);
-    let report = match made {
+    let report = match Report::new(&catalogue, &fit, &options) {
         Ok(report) => report,
         Err(refusal) => return refused(out, &blamed(asked, refusal), refusal, asked.json),
     };
@@ -32,7 +30,7 @@ pub fn run(asked: &Explain, out: &mut impl Write) -> Result<u8, Trouble> {
         true => writeln!(out, "{}", report.json(&explainer))?,
         false => out.write_all(report.text(&explainer).as_bytes())?,
     }
-    Ok(if report.is_clear() { DONE } else { FAULTED })
+    Ok(if report.is_faulted() { FAULTED } else { DONE })
 }
 
 /// What is refused.

@@ -22,7 +22,7 @@ use Rattle.limits.specs.Limits.{GROUP-LIMITS, groupLimitAt, groupLimit, groupLi
 use Rattle.league.specs.League.{bannedAt, banned, overAllowance, league}
 use Rattle.validate.specs.Kind.{isHull, notAMode, notASkill}
 use Rattle.validate.specs.Validate.{hullRules, listWith}
-use Rattle.promises.proofs.All.{All, nil, cons, all-join, all-when, all-unless, all-cond, all-bind, all-each}
+use Rattle.words.proofs.All.{All, nil, cons, all-join, all-when, all-unless, all-cond, all-bind, all-each}
 
 -- ---- a filter of a list whose elements all pass, or all fail
 module _ {A : Type 0} (t : A → Bool) where
@@ -98,7 +98,7 @@ module _ (x : Context) (ps : List Pair) where
   low-rules = all-join (all-join (all-join (all-join low-resources low-racks) (all-each ps low-checks)) low-items) low-limits
 
 -- ---- those of the Rust's list have numbers below 22, a league's below 26
-raise : (n m : ℕ) → n ≤ m → {l : List Entry} → All (Low n) l → All (Low m) l
+pub raise : (n m : ℕ) → n ≤ m → {l : List Entry} → All (Low n) l → All (Low m) l
 raise n m h nil = nil
 raise n m h (cons {x} p ps) = cons (let k = ltb-true (number x) n p in lt-ltb (number x) m (omega arith)) (raise n m h ps)
 
