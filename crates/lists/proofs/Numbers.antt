@@ -3,9 +3,9 @@ use Prim.Native.Nat.{ℕ, _≤_}
 use native.Mathlib.Omega.{arith}
 use borrow.Author.Tests.{ltb-true, lt-ltb}
 use mathlib.Core.Path.{_≡_, refl, sym, ap, _∙_, subst}
-use mathlib.Core.Bool.{Bool, true, false, not, cond}
-use mathlib.Core.List.{List, [], _∷_, _++_}
-use lib.Dec.{T, ltb, eqb, eqb→eq}
+use mathlib.Core.Bool.{Bool, true, false, not, _&&_, cond, true≢false}
+use mathlib.Core.List.{List, [], _∷_, _++_, append-assoc}
+use lib.Dec.{T, leb, ltb, eqb, eqb→eq}
 use lib.Ieee.{Float}
 use Rattle.words.specs.Words.{whenAny, whenAbove, only}
 use Rattle.catalogue.specs.Catalogue.{Id, Catalogue}
@@ -15,10 +15,10 @@ use Rattle.entry.specs.declared.Entry.{Entry}
 use Rattle.entry.specs.Entries.{fields, number}
 use Rattle.context.specs.Context.{Pair, Context, context}
 use Rattle.resource.specs.Resource.{LOADS, resource, loads, launchedDrones, cargo, resources}
-use Rattle.racks.specs.Racks.{RACKS, HARDPOINTS, slots, racks, hardpoints}
-use Rattle.slot.specs.Slot.{wrongSlot, notAModule, notADrone, notAFighter, notAnImplant, wrongSlotIndex, slotTaken, subsystemTaken, slotChecks}
-use Rattle.item.specs.Item.{isStructure, rigSizeAt, rigSize, shipRestrictedAt, shipRestricted, capitalItemAt, capitalItem, standupAt, standup}
-use Rattle.limits.specs.Limits.{GROUP-LIMITS, groupLimitAt, groupLimit, groupLimits, typeLimitAt, typeLimit}
+use Rattle.racks.specs.Racks.{RACKS, HARDPOINTS, slots, racks, hardpoints, racksAndHardpoints}
+use Rattle.slot.specs.Slot.{wrongSlot, notAModule, notADrone, notAFighter, notAnImplant, wrongSlotIndex, slotTaken, subsystemTaken, slotChecks, slotRules}
+use Rattle.item.specs.Item.{isStructure, rigSizeAt, rigSize, shipRestrictedAt, shipRestricted, capitalItemAt, capitalItem, standupAt, standup, itemRules}
+use Rattle.limits.specs.Limits.{GROUP-LIMITS, groupLimitAt, groupLimit, groupLimits, typeLimitAt, typeLimit, limitRules}
 use Rattle.league.specs.League.{bannedAt, banned, overAllowance, league}
 use Rattle.validate.specs.Kind.{isHull, notAMode, notASkill}
 use Rattle.validate.specs.Validate.{hullRules, listWith}
@@ -40,15 +40,27 @@ module _ {A : Type 0} (t : A → Bool) where
 abbrev pub Low : ℕ → Entry → Type 0
 Low n e = ltb (number e) n ≡ true
 
+and-right : (a b : Bool) → (a && b) ≡ true → b ≡ true
+and-right true b h = h
+and-right false b h = absurd (true≢false (sym h))
+
+-- and those behind the resources above 1
+abbrev pub Between : Entry → Type 0
+Between e = (leb 2 (number e) && ltb (number e) 19) ≡ true
+
+all-low : {l : List Entry} → All Between l → All (Low 19) l
+all-low nil = nil
+all-low (cons {x} p h) = cons (and-right (leb 2 (number x)) (ltb (number x) 19) p) (all-low h)
+
 module _ (x : Context) (ps : List Pair) where
   abbrev Hulls : List Entry → Type 0
-  Hulls = All (Low 19)
+  Hulls = All Between
 
-  low-resource : (k : ℕ) (u a : Float) → Hulls (resource k u a)
+  low-resource : (k : ℕ) (u a : Float) → All (Low 19) (resource k u a)
   unfolding resource fields
   low-resource k u a = all-when _ _ (λ _. refl)
 
-  low-resources : Hulls (resources x ps)
+  low-resources : All (Low 19) (resources x ps)
   unfolding resources loads launchedDrones cargo
   low-resources =
       all-join (all-join
@@ -93,9 +105,23 @@ module _ (x : Context) (ps : List Pair) where
       (all-each GROUP-LIMITS λ g. all-bind _ λ id. all-each ps λ p. all-bind _ λ allowed. all-when _ _ (λ _. refl))
       (all-bind _ λ id. all-each ps λ p. all-bind _ λ allowed. all-when _ _ (λ _. refl))
 
-  pub low-rules : Hulls (hullRules x ps)
+  -- all that stands behind them
+  abbrev pub behind : List Entry
+  behind = racksAndHardpoints x ps ++ slotRules x ps ++ itemRules x ps ++ limitRules x ps
+
+  pub between-behind : Hulls behind
+  between-behind = all-join (all-join (all-join low-racks (all-each ps low-checks)) low-items) low-limits
+
+  -- the hold stands by itself
+  pub parted : hullRules x ps ≡ (loads x ++ launchedDrones x ps) ++ (cargo x ps ++ behind)
+  unfolding hullRules resources
+  parted = simp (append-assoc)
+
+  pub low-rules : All (Low 19) (hullRules x ps)
   unfolding hullRules
-  low-rules = all-join (all-join (all-join (all-join low-resources low-racks) (all-each ps low-checks)) low-items) low-limits
+  low-rules =
+      all-join (all-join (all-join (all-join low-resources (all-low low-racks)) (all-low (all-each ps low-checks))) (all-low low-items))
+      (all-low low-limits)
 
 -- ---- those of the Rust's list have numbers below 22, a league's below 26
 pub raise : (n m : ℕ) → n ≤ m → {l : List Entry} → All (Low n) l → All (Low m) l

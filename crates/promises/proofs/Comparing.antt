@@ -106,7 +106,7 @@ module _ (old new : Fit) (g : Grown old new) where
   all-results : allResults new ≡ allResults old ++ drop (length (old .results)) (new .results)
   all-results = ap₂ (λ (k : Frame) (l : List Result). k .shipResult ∷ k .characterResult ∷ l) (g .frame) (begins (old .results) (new .results) (g .results))
 
-  same-result : (n : ℕ) → n ≤ length (old .results) + 1 → resultAt new n ≡ resultAt old n
+  pub same-result : (n : ℕ) → n ≤ length (old .results) + 1 → resultAt new n ≡ resultAt old n
   unfolding resultAt
   same-result n h = ap (λ (l : List Result). getElem? l n) all-results ∙ get-append (allResults old) _ n (omega arith)
 

@@ -1,5 +1,6 @@
 -- What grows: any fit with as many results as items, by whatever is put behind them; and the two images, by computing.
 use Prim.Native.Nat.{ℕ, zero, suc, _≤_, zero-le}
+use native.Mathlib.Nat.{le-refl}
 use native.Mathlib.Omega.{arith}
 use mathlib.Core.Path.{_≡_, refl, ap}
 use mathlib.Core.Bool.{Bool, true, _&&_}
@@ -12,7 +13,8 @@ use Rattle.floats.specs.Floats.{isVolume}
 use Rattle.catalogue.specs.Catalogue.{catalogueOf}
 use Rattle.fit.specs.Fit.{Item, Result, Fit, fitOf}
 use Rattle.promises.specs.Compare.{Bytes, Grown, volumeAllowed, addedItems}
-use Rattle.promises.specs.GrownCase.{grownBy, CATALOGUE, OLD, NEW, Example, GuestExample}
+use Rattle.promises.specs.Hauls.{Hauled}
+use Rattle.promises.specs.GrownCase.{grownBy, CATALOGUE, OLD, NEW, LOADED, LIGHTENED, Example, GuestExample, HaulExample}
 use Rattle.promises.proofs.Placed.{and-left, and-right}
 use Rattle.words.proofs.All.{All, nil, cons, all-mem}
 use Rattle.promises.proofs.Opened.{opened}
@@ -101,4 +103,59 @@ guest-example = record {
   guests-new = refl;
   guests-skills = refl;
   pilots-skills = refl;
+}
+
+-- ---- cargo
+loads : Hauled (fitOf OLD) (fitOf LOADED)
+unfolding opened
+loads = record {
+  grown = record { frame = refl; skills = refl; levels = λ i. le-refl (getD (3 ∷ []) i 0); even = refl; items = refl; results = refl };
+  levels = refl;
+  cargo = all-mem (cons refl (cons refl (cons refl (cons refl nil))));
+}
+
+lightens : Hauled (fitOf OLD) (fitOf LIGHTENED)
+unfolding opened
+lightens = record {
+  grown = record { frame = refl; skills = refl; levels = λ i. le-refl (getD (3 ∷ []) i 0); even = refl; items = refl; results = refl };
+  levels = refl;
+  cargo = all-mem (cons refl nil);
+}
+
+loaded-bytes : Bytes LOADED
+unfolding below opened
+loaded-bytes = are-bytes LOADED tt
+
+lightened-bytes : Bytes LIGHTENED
+unfolding below opened
+lightened-bytes = are-bytes LIGHTENED tt
+
+loaded-volumes : All (λ (i : Item). i .slot ≡ Slots.cargo → T (volumeAllowed (catalogueOf CATALOGUE) (i .type))) (addedItems (fitOf OLD) (fitOf LOADED))
+unfolding opened volumeAllowed isVolume le
+loaded-volumes = cons (λ _. tt) (cons (λ _. tt) (cons (λ _. tt) (cons (λ _. tt) nil)))
+
+pub haul-example : HaulExample
+unfolding opened
+haul-example = record {
+  loaded-fit = refl;
+  lightened-fit = refl;
+  items = refl;
+  results = refl;
+  bytes = loaded-bytes;
+  lightened-bytes = lightened-bytes;
+  loads = loads;
+  volumes = all-mem loaded-volumes;
+  lightens = lightens;
+  loaded-list = refl;
+  lightened-list = refl;
+  loaded-skills = refl;
+  outside = refl;
+  outside-bans = refl;
+  outside-points = refl;
+  kept = refl;
+  held = refl;
+  gone = refl;
+  armed-fit = refl;
+  armed-grows = record { frame = refl; skills = refl; levels = λ i. le-refl (getD (3 ∷ []) i 0); even = refl; items = refl; results = refl };
+  armed-list = refl;
 }

@@ -139,7 +139,7 @@ drones-grow : (x : Context) {ps qs : List Pair} → Into ps qs → Within (launc
 unfolding launchedDrones launched
 drones-grow x s = placed-bind _ λ limit. resource-grows 5 _ _ _ λ _. ofNat-mono _ _ (sum-into _ (only-into _ s))
 
-only-mem : {A : Type 0} (t : A → Bool) (l : List A) (p : A) → List·Memᴰ p (only t l) → T (t p) × List·Memᴰ p l
+pub only-mem : {A : Type 0} (t : A → Bool) (l : List A) (p : A) → List·Memᴰ p (only t l) → T (t p) × List·Memᴰ p l
 unfolding only
 only-mem t [] p m = absurd (List·Memᴰ·not-nil m)
 only-mem t (x ∷ l) p m = go (t x) refl (only-mem t l p) m
@@ -241,18 +241,20 @@ allowed-volume c t h = go (typeOf c t) h
 pub begins : {A : Type 0} (l m : List A) → take (length l) m ≡ l → m ≡ l ++ drop (length l) m
 begins l m h = sym (take-append-drop (length l) m) ∙ ap (λ k. k ++ drop (length l) m) h
 
-module _ (c : Catalogue) (old new : Fit) (g : Grown old new) (v : AddedVolumes c old new)
-    (small : (i : Fit.Item) → List·Memᴰ i (addedItems old new) → i .quantity < 2 ^ 32) where
-  added : List Pair
+module _ (c : Catalogue) (old new : Fit) (g : Grown old new) where
+  -- the pairs that are added
+  unfoldable pub added : List Pair
   added = pairsFrom c (0 + length (old .items)) (addedItems old new) (drop (length (old .results)) (new .results))
 
-  new-pairs : pairs c new ≡ pairs c old ++ added
+  pub new-pairs : pairs c new ≡ pairs c old ++ added
   unfolding pairs added
   new-pairs =
       ap₂ (pairsFrom c 0) (begins (old .items) (new .items) (g .items)) (begins (old .results) (new .results) (g .results))
       ∙ pairs-append c 0 (old .items) (addedItems old new) (old .results) (drop (length (old .results)) (new .results)) (g .even)
 
-  volumes : (p : Pair) → List·Memᴰ p added → T (isIn Slots.cargo p) → (p .quantity < 2 ^ 32) × T (isVolume (p .volume))
+module _ (c : Catalogue) (old new : Fit) (g : Grown old new) (v : AddedVolumes c old new)
+    (small : (i : Fit.Item) → List·Memᴰ i (addedItems old new) → i .quantity < 2 ^ 32) where
+  volumes : (p : Pair) → List·Memᴰ p (added c old new g) → T (isIn Slots.cargo p) → (p .quantity < 2 ^ 32) × T (isVolume (p .volume))
   unfolding added isIn
   volumes p m t =
       let h = pairs-items c (0 + length (old .items)) (addedItems old new) (drop (length (old .results)) (new .results)) p m in (
@@ -263,9 +265,10 @@ module _ (c : Catalogue) (old new : Fit) (g : Grown old new) (v : AddedVolumes c
   whole-grows : {t t′ : Terms} → Alike t t′ → Within (wholeList t c old) (wholeList t′ c new)
   unfolding wholeList
   whole-grows {t} {t′} alike =
-      let e : wholeList t′ c new ≡ wholeWith t′ c (old .frame) (old .skills) (pairs c old ++ added) =
-      ap (λ (k : Frame). wholeWith t′ c k (new .skills) (pairs c new)) (g .frame) ∙ ap₂ (wholeWith t′ c (old .frame)) (g .skills) new-pairs in
-      subst (Within (wholeList t c old)) (sym e) (wholeWith-grows (pairs c old) added volumes alike c (old .frame) (old .skills))
+      let e : wholeList t′ c new ≡ wholeWith t′ c (old .frame) (old .skills) (pairs c old ++ added c old new g) =
+      ap (λ (k : Frame). wholeWith t′ c k (new .skills) (pairs c new)) (g .frame)
+      ∙ ap₂ (wholeWith t′ c (old .frame)) (g .skills) (new-pairs c old new g) in
+      subst (Within (wholeList t c old)) (sym e) (wholeWith-grows (pairs c old) (added c old new g) volumes alike c (old .frame) (old .skills))
 
   -- a guest is not told of the same ones, old and new
   reader-grows : (reader : ℕ) {es fs : List Entry} → Within es fs → Within (forReader reader es) (forReader reader fs)

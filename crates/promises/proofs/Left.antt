@@ -4,6 +4,7 @@ use native.Mathlib.Omega.{arith}
 use mathlib.Core.Path.{_≡_, refl, sym, ap, _∙_}
 use mathlib.Core.Bool.{Bool, true, false, cond}
 use mathlib.Core.List.{List, [], _∷_, map}
+use lib.Dec.{eqb}
 use lib.ListN.{length, getD}
 use Rattle.words.specs.Words.{only, table, tableFrom}
 use Rattle.words.proofs.Tables.{table-same}
@@ -11,6 +12,7 @@ use Rattle.words.proofs.Elements.{table-later}
 use Rattle.entry.specs.declared.Entry.{Entry}
 use Rattle.entry.specs.declared.Rule.the-variants.{NotAHull}
 use Rattle.entry.specs.Entries.{onShip, entryBytes}
+use Rattle.lists.specs.Lists.{forGuests, forReader}
 use Rattle.promises.specs.Answers.{Outcome, refusal, entryAt, entriesOf, Conditions, Answers}
 use Rattle.promises.proofs.Answering.{elem-of}
 
@@ -56,3 +58,12 @@ only-swap s t (x ∷ l) = go (s x) (t x) refl refl (only-swap s t l)
     go true false p q e = rw q e
     go false true p q e = rw p e
     go false false p q e = e
+
+-- what a reader gets of what passes a test is what passes it of what he gets
+pub only-for : (t : Entry → Bool) (reader : ℕ) (es : List Entry) → only t (forReader reader es) ≡ forReader reader (only t es)
+unfolding forReader
+only-for t reader es = go (eqb reader 0)
+  where
+    go : (guest : Bool) → only t (cond guest (only forGuests es) es) ≡ cond guest (only forGuests (only t es)) (only t es)
+    go true = only-swap t forGuests es
+    go false = refl

@@ -23,6 +23,8 @@ pub mod Leagues
 pub mod Left
 pub mod Unknowns
 pub mod Readers
+pub mod Haul
+pub mod Hauling
 pub mod Widening
 pub mod Edges
 pub mod Deciding

@@ -4,11 +4,12 @@ use Rattle.words.specs.Words.{each, tableFrom}
 use Rattle.lists.specs.Terms.{Terms, readBy, main}
 use Rattle.promises.specs.Answers.{refusal}
 use Rattle.promises.specs.Compare.{Alike, Kept}
-use Rattle.promises.specs.GrownCase.{CATALOGUE, OLD, NEW, RETRAINED, BANNING, PRICING, NARROW, WIDER, ROOM}
+use Rattle.promises.specs.Hauls.{outsideHold}
+use Rattle.promises.specs.GrownCase.{CATALOGUE, OLD, NEW, RETRAINED, LOADED, BANNING, PRICING, NARROW, WIDER, ROOM}
 use Rattle.promises.specs.Promises.{listOutcome, skillOutcome, Names, Promises}
 use Rattle.promises.proofs.Calls.{list-answers, skill-answers, list-room, skill-room}
 use Rattle.promises.proofs.Comparing.{list-kept, skills-kept}
-use Rattle.promises.proofs.Growing.{any-growth, example, guest-example}
+use Rattle.promises.proofs.Growing.{any-growth, example, guest-example, haul-example}
 use Rattle.promises.proofs.Keeping.{tables}
 use Rattle.promises.proofs.Wanting.{more-wanted, skill-lists}
 use Rattle.promises.proofs.Judging.{hall-answers, judged}
@@ -17,6 +18,7 @@ use Rattle.promises.proofs.Seven.{no-seven, list-as-before, drones-exac
 use Rattle.promises.proofs.Leagues.{no-profile}
 use Rattle.promises.proofs.Readers.{guest-blind, guest-skills, guest-list, full-list}
 use Rattle.promises.proofs.Unknowns.{unknowns, unknowns-left}
+use Rattle.promises.proofs.Hauling.{haul-lists, haul-skills, hold-one, hold-kept}
 use Rattle.promises.proofs.Pages.{small-page, small-page-skills, main-page}
 use Rattle.promises.proofs.Widening.{widen-answers, widen-decodes, widen-stands}
 use Rattle.promises.proofs.Edges.{edges}
@@ -47,6 +49,11 @@ promised = record {
   drones-exact = drones-exact;
   list-kept = list-kept;
   skill-kept = skills-kept;
+  haul-lists = haul-lists;
+  haul-skills = λ t t′ catalogue old new before after n. haul-skills t t′ catalogue old new before after n;
+  hold-once = hold-one;
+  hold-kept = hold-kept;
+  haul-example = haul-example;
   any-growth = any-growth;
   example = example;
   tables = tables;
@@ -92,6 +99,12 @@ blind-applies : listOutcome (readBy 0 PRICING) CATALOGUE OLD ROOM ≡ listOutcom
 blind-applies =
     let e = guest-example in
     promised .guest-blind (readBy 0 PRICING) CATALOGUE OLD RETRAINED ROOM refl (e .old-fine) (e .retrained-fine) (e .apart)
+
+-- P7 as it is promised, of two images
+haul-applies : outsideHold (listOutcome main CATALOGUE OLD ROOM) ≡ outsideHold (listOutcome main CATALOGUE LOADED ROOM)
+unfolding opened
+haul-applies =
+    promised .haul-lists main main CATALOGUE OLD LOADED ROOM ROOM (record { profile = refl; allowance = refl; reader = refl }) (haul-example .loads) refl refl
 
 skill-applies : Kept (skillOutcome NARROW CATALOGUE OLD 2 ROOM) (skillOutcome WIDER CATALOGUE NEW 2 ROOM)
 unfolding opened

@@ -17,13 +17,13 @@ use Rattle.validate.specs.Kind.{isHull}
 use Rattle.validate.specs.Validate.{listWith, listOf}
 use Rattle.lists.specs.Terms.{Terms, terms}
 use Rattle.lists.specs.Unknown.{unknownTypeAt, unknownTypes}
-use Rattle.lists.specs.Lists.{onHull, leagueOf, leagueWith, wholeWith, leagueList, wholeList, forGuests, forReader, listFor}
+use Rattle.lists.specs.Lists.{onHull, leagueOf, leagueWith, wholeWith, leagueList, wholeList, forReader, listFor}
 use Rattle.lists.proofs.Behind.{rust-list}
 use Rattle.fitcheck.specs.Calls.{listCall}
 use Rattle.promises.specs.Answers.{outcome, refusal, entriesOf}
 use Rattle.words.proofs.All.{All, nil, all-join, all-when, all-each}
 use Rattle.lists.proofs.Numbers.{only-all, only-no, low-before, low-league, all-below}
-use Rattle.promises.proofs.Left.{entries-are, only-map, only-swap}
+use Rattle.promises.proofs.Left.{entries-are, only-map, only-for}
 use Rattle.promises.proofs.Calls.{list-answers}
 
 abbrev Other : Entry → Bool
@@ -66,15 +66,6 @@ unknowns t c f = (
   λ e. ap (λ (profile : List ℕ). leagueList (terms profile (t .allowance)) c f) e ∙ rust-list (t .allowance) c f,
 )
 
--- whoever reads it
-other-for : (reader : ℕ) (es : List Entry) → only Other (forReader reader es) ≡ forReader reader (only Other es)
-unfolding forReader
-other-for reader es = go (eqb reader 0)
-  where
-    go : (guest : Bool) → only Other (cond guest (only forGuests es) es) ≡ cond guest (only forGuests (only Other es)) (only Other es)
-    go true = only-swap Other forGuests es
-    go false = refl
-
 same-test : (e : Entry) → not (eqb (u8At (entryBytes e) 1) 26) ≡ Other e
 unfolding entryBytes
 same-test e = refl
@@ -88,5 +79,5 @@ unknowns-left t catalogue fit buffer h =
     ap (only λ e. not (eqb (u8At e 1) 26)) (entries-are (list-answers t catalogue fit buffer) h)
     ∙ only-map entryBytes (λ e. not (eqb (u8At e 1) 26)) Other same-test es
     ∙ ap (map entryBytes)
-    (other-for (t .reader) (wholeList t (catalogueOf catalogue) (fitOf fit))
+    (only-for Other (t .reader) (wholeList t (catalogueOf catalogue) (fitOf fit))
     ∙ ap (forReader (t .reader)) (unknowns t (catalogueOf catalogue) (fitOf fit) .0))

@@ -4,7 +4,7 @@ use mathlib.Core.Path.{_≡_}
 use mathlib.Core.Bool.{true, false}
 use mathlib.Core.List.{List, [], _∷_, _++_, map}
 use lib.IntN.{pos, negsuc}
-use lib.ListN.{length, drop, replicate}
+use lib.ListN.{length, take, drop, replicate}
 use lib.Ieee.{Float, nan, inf, fin, binary32, toBits}
 use Rattle.words.specs.Words.{each}
 use Rattle.numbers.specs.Names.{capacity, hiSlots, maxGroupFitted, maxTypeFitted, requiredSkill1, requiredSkill1Level}
@@ -15,11 +15,12 @@ use Rattle.catalogue.specs.Catalogue.{Id, TypeData, Catalogue, catalogueOf}
 use Rattle.fit.specs.Fit.{Item, Result, Fit, allResults, fitOf}
 use Rattle.entry.specs.declared.Entry.{Entry}
 use Rattle.entry.specs.declared.Rule.the-variants.{Resource, Slots, NotAnImplant, SlotTaken, Skill, MaxGroup, MaxType, NotASkill, Banned, Points, UnknownType}
-use Rattle.entry.specs.Entries.{onShip, onItem}
+use Rattle.entry.specs.Entries.{onShip, onItem, entryBytes}
 use Rattle.lists.specs.Terms.{Terms, terms, limited, readBy, main}
 use Rattle.fitcheck.specs.Calls.{Refused, Listed, listCall, skillCall}
-use Rattle.promises.specs.Answers.{fitConditions, None}
+use Rattle.promises.specs.Answers.{outcome, fitConditions, None}
 use Rattle.promises.specs.Compare.{Bytes, Grown, AddedVolumes, Apart}
+use Rattle.promises.specs.Hauls.{Hauled, outsideHold, inHold}
 use Rattle.promises.specs.Cases.{ship, gun, gunnery, ore, ghost, unknown, attribute, has, result, Thing, stack, one}
 use Rattle.promises.specs.CallCases.{words}
 
@@ -201,6 +202,39 @@ RETRAINED = fitBytes retrained
 abbrev pub GUESTS-LIST : List Entry
 GUESTS-LIST = drop 1 OLD-LIST ++ (onShip (Points 6 5) ∷ OLD-LAST)
 
+-- P7: cargo behind the old fit with a volume, with none as its flag is 0, and with none as it is not in the catalogue; the last has no result
+abbrev loaded : Fit
+loaded =
+    let cargo = stack 1 ore Slots.cargo 0 0 [] ∷ stack 1 ghost Slots.cargo 0 0 [] ∷ stack 1 unknown Slots.cargo 0 0 [] ∷ [] in
+    grownBy old (old .levels) (map (λ t. t .0) cargo ++ (stack 1 ore Slots.cargo 0 0 [] .0 ∷ [])) (map (λ t. t .1) cargo)
+
+-- five of a volume below zero; a gun, which is no cargo
+abbrev lightened : Fit
+lightened = let scraps = stack 5 scrap Slots.cargo 0 0 [] in grownBy old (old .levels) (scraps .0 ∷ []) (scraps .1 ∷ [])
+
+abbrev armed : Fit
+armed = let third = one gun Slots.high 1 [] in grownBy old (old .levels) (third .0 ∷ []) (third .1 ∷ [])
+
+-- entries of which the last two are the hold's and a missing type's
+abbrev pub SORTS : List Entry
+SORTS =
+    onShip (Resource 3 (ofNat 4) (ofNat 1))
+    ∷ onShip (Slots 11 3 1)
+    ∷ onItem 1 (Banned (pos 50))
+    ∷ onShip (Points 6 5)
+    ∷ onShip (Resource 11 (ofNat 4) (ofNat 1))
+    ∷ onItem 7 (UnknownType unknown)
+    ∷ []
+
+abbrev pub LOADED : List ℕ
+LOADED = fitBytes loaded
+
+abbrev pub LIGHTENED : List ℕ
+LIGHTENED = fitBytes lightened
+
+abbrev pub ARMED : List ℕ
+ARMED = fitBytes armed
+
 -- room for all of them
 abbrev pub ROOM : List ℕ
 ROOM = replicate 336 7
@@ -248,3 +282,38 @@ pub record GuestExample : Type 0 where
   pub guests-new : listCall (readBy 0 PRICING) CATALOGUE NEW ROOM ≡ Listed (drop 1 NEW-LIST ++ (onShip (Points 9 5) ∷ NEW-LAST))
   pub guests-skills : skillCall (readBy 0 main) CATALOGUE OLD 2 ROOM ≡ Refused 20
   pub pilots-skills : skillCall (readBy 1 main) CATALOGUE OLD 2 ROOM ≡ Listed (lacks 3)
+
+-- P7: images that meet its premises. 6.5 in the hold where there were 4; nothing listed of it, as what was added is below zero, so that the
+-- premise on volumes is needed; and with a gun in the place of cargo entries outside the hold are others, so that they have to be cargo
+pub record HaulExample : Type 0 where
+  pub loaded-fit : fitOf LOADED ≡ loaded
+  pub lightened-fit : fitOf LIGHTENED ≡ lightened
+  pub items : length (loaded .items) ≡ length (old .items) + 4
+  pub results : length (loaded .results) ≡ length (old .results) + 3
+  pub bytes : Bytes LOADED
+  pub lightened-bytes : Bytes LIGHTENED
+  pub loads : Hauled (fitOf OLD) (fitOf LOADED)
+  pub volumes : AddedVolumes (catalogueOf CATALOGUE) (fitOf OLD) (fitOf LOADED)
+  pub lightens : Hauled (fitOf OLD) (fitOf LIGHTENED)
+  pub loaded-list : listCall main CATALOGUE LOADED ROOM
+      ≡ Listed ((onShip (NotASkill gunnery) ∷ onShip (Resource 11 (fin false 13 (negsuc 0)) (ofNat 1)) ∷ drop 2 OLD-LIST)
+      ++ (onItem 4 (UnknownType lost) ∷ onItem 7 (UnknownType unknown) ∷ []))
+  pub lightened-list : listCall main CATALOGUE LIGHTENED ROOM ≡ Listed ((onShip (NotASkill gunnery) ∷ drop 2 OLD-LIST) ++ OLD-LAST)
+  pub loaded-skills : skillCall main CATALOGUE LOADED 2 ROOM ≡ Listed (lacks 3)
+  -- what the calls left outside the hold, and in it
+  pub outside : outsideHold (outcome ROOM (listCall main CATALOGUE LOADED ROOM)) ≡ map entryBytes (onShip (NotASkill gunnery) ∷ drop 2 OLD-LIST)
+  pub outside-bans : outsideHold (outcome ROOM (listCall BANNING CATALOGUE LOADED ROOM))
+      ≡ map entryBytes ((onShip (NotASkill gunnery) ∷ drop 2 OLD-LIST) ++ bans (0 ∷ 1 ∷ []))
+  pub outside-points : outsideHold (outcome ROOM (listCall (readBy 0 PRICING) CATALOGUE LOADED ROOM))
+      ≡ map entryBytes (drop 2 OLD-LIST ++ (onShip (Points 6 5) ∷ []))
+  -- CargoBay and rule 26 are taken out of entries that a call might have left, and no other
+  pub kept : outsideHold (record { word = 6; buffer = each SORTS entryBytes }) ≡ map entryBytes (take 4 SORTS)
+  pub held : inHold (outcome ROOM (listCall main CATALOGUE OLD ROOM)) ≡ entryBytes (onShip (Resource 11 (ofNat 4) (ofNat 1))) ∷ []
+  pub gone : inHold (outcome ROOM (listCall main CATALOGUE LIGHTENED ROOM)) ≡ []
+  pub armed-fit : fitOf ARMED ≡ armed
+  pub armed-grows : Grown (fitOf OLD) (fitOf ARMED)
+  pub armed-list : listCall main CATALOGUE ARMED ROOM
+      ≡ Listed (take 2 OLD-LIST
+      ++ (onShip (Slots 0 3 1) ∷ onItem 0 SlotTaken ∷ onItem 1 SlotTaken ∷ onItem 4 NotAnImplant ∷ [])
+      ++ (onItem 0 (MaxGroup (pos 50) 0 3 1) ∷ onItem 0 (MaxType gun 3 1) ∷ [])
+      ++ OLD-LAST)

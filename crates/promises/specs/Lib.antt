@@ -8,6 +8,7 @@ pub mod KeptCases
 pub mod Walks
 pub mod Halls
 pub mod Widens
+pub mod Hauls
 pub mod Names
 pub mod Edges
 pub mod Cases

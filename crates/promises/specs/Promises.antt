@@ -5,7 +5,7 @@
 use Prim.Native.Nat.{ℕ, _*_, _/_, _≤_}
 use mathlib.Core.Path.{_≡_}
 use mathlib.Core.Bool.{false, not}
-use mathlib.Core.List.{List, [], map}
+use mathlib.Core.List.{List, [], map, List·Memᴰ}
 use mathlib.Core.Logic.{_↔_}
 use lib.Dec.{T, eqb}
 use lib.ListN.{length, getD}
@@ -30,7 +30,8 @@ use Rattle.fitcheck.specs.Hall.{hallCall, hallReturned}
 use Rattle.promises.specs.Answers.{Outcome, outcome, refusal, count, entriesOf, catalogueConditions, fitConditions, listConditions, skillConditions, None, Answers}
 use Rattle.promises.specs.Before.{listBefore, rustCall}
 use Rattle.promises.specs.Compare.{Bytes, Grown, AddedVolumes, Alike, Apart, Kept}
-use Rattle.promises.specs.GrownCase.{grownBy, Example, GuestExample}
+use Rattle.promises.specs.Hauls.{Hauled, outsideHold, inHold, StaysIn}
+use Rattle.promises.specs.GrownCase.{grownBy, Example, GuestExample, HaulExample}
 use Rattle.promises.specs.KeptCases.{Tables}
 use Rattle.promises.specs.Walks.{MoreWanted, SkillsOf}
 use Rattle.promises.specs.Halls.{HallAnswers, Judged}
@@ -169,6 +170,34 @@ SkillKept = (t t′ : Terms) (catalogue old new oldBuffer newBuffer : List ℕ) 
     → refusal (skillOutcome t′ catalogue new result newBuffer) ≡ 0
     → Kept (skillOutcome t catalogue old result oldBuffer) (skillOutcome t′ catalogue new result newBuffer)
 
+-- P7. Cargo put behind a finished fit, of any types, quantities and volumes, touches the hold alone: both lists without CargoBay and rule 26
+-- are the same entries, byte for byte, in the same order, for every reader, profile and allowance that both calls share and any limits.
+abbrev pub HaulLists : Type 0
+HaulLists = (t t′ : Terms) (catalogue old new oldBuffer newBuffer : List ℕ) → Alike t t′ → Hauled (fitOf old) (fitOf new)
+    → refusal (listOutcome t catalogue old oldBuffer) ≡ 0
+    → refusal (listOutcome t′ catalogue new newBuffer) ≡ 0
+    → outsideHold (listOutcome t catalogue old oldBuffer) ≡ outsideHold (listOutcome t′ catalogue new newBuffer)
+
+-- The skill lists of every old result, ship and character included, are equal, byte for byte.
+abbrev pub HaulSkills : Type 0
+HaulSkills = (t t′ : Terms) (catalogue old new oldBuffer newBuffer : List ℕ) (result : ℕ) → Hauled (fitOf old) (fitOf new)
+    → refusal (skillOutcome t catalogue old result oldBuffer) ≡ 0
+    → refusal (skillOutcome t′ catalogue new result newBuffer) ≡ 0
+    → entriesOf (skillOutcome t catalogue old result oldBuffer) ≡ entriesOf (skillOutcome t′ catalogue new result newBuffer)
+
+-- The hold: no list has more than one entry of it, and where the added volumes are finite and not below zero one that was there is there, its
+-- used number no lower.
+abbrev pub HoldOnce : Type 0
+HoldOnce = (t : Terms) (catalogue fit buffer : List ℕ) → refusal (listOutcome t catalogue fit buffer) ≡ 0
+    → length (inHold (listOutcome t catalogue fit buffer)) ≤ 1
+
+abbrev pub HoldKept : Type 0
+HoldKept = (t t′ : Terms) (catalogue old new oldBuffer newBuffer : List ℕ) → Alike t t′ → Bytes new
+    → Hauled (fitOf old) (fitOf new) → AddedVolumes (catalogueOf catalogue) (fitOf old) (fitOf new)
+    → refusal (listOutcome t catalogue old oldBuffer) ≡ 0
+    → refusal (listOutcome t′ catalogue new newBuffer) ≡ 0
+    → (e : List ℕ) → List·Memᴰ e (inHold (listOutcome t catalogue old oldBuffer)) → StaysIn (inHold (listOutcome t′ catalogue new newBuffer)) e
+
 -- The premises leave nothing out: a fit with as many results as items has grown by any items and any results behind its own, none and
 -- unequal numbers included, and by any levels that are no higher. `Example` has two images that meet them all.
 abbrev pub AnyGrowth : Type 0
@@ -241,6 +270,11 @@ pub record Promises : Type 0 where
   pub drones-exact : DronesExact
   pub list-kept : ListKept
   pub skill-kept : SkillKept
+  pub haul-lists : HaulLists
+  pub haul-skills : HaulSkills
+  pub hold-once : HoldOnce
+  pub hold-kept : HoldKept
+  pub haul-example : HaulExample
   pub any-growth : AnyGrowth
   pub example : Example
   -- old and new lists in bytes, kept and not kept: `list-kept` alone would survive a claim that lets more bytes change

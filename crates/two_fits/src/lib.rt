@@ -1,11 +1,11 @@
 // Demand 3 of the two calls as they are exported: an old and a new call, each with its own buffer, and what their contracts say of both.
-// Document 01, "Two fits compared".
+// Document 01, "Two fits compared"; and what Cargo put behind a fit leaves as it was: document 02, P7.
 ghost use mathlib.Core.Path.{_≡_};
 ghost use Rattle.lists.specs.Terms.{terms, limited, readBy, main};
 ghost use Rattle.fitcheck.specs.Calls.{listCall, skillCall};
 ghost use Rattle.promises.specs.Answers.{outcome};
 ghost use Rattle.promises.specs.Compare.{Bytes};
-ghost use Rattle.two_fits.specs.Kept.{left, ListsKept, SkillsKept};
+ghost use Rattle.two_fits.specs.Kept.{left, ListsKept, SkillsKept, HeldOnce, ListsHauled, SkillsHauled};
 
 // The words of an old and of a new call.
 pub struct Words {
@@ -32,7 +32,7 @@ fn bytes(b: &[u8]) -> usize
 }
 
 // Two list calls of one reader with one profile and one allowance, each on its own page: their words and their buffers are the call's.
-// Where both are answered, no entry of the old list vanishes.
+// Where both are answered, no entry of the old list vanishes, and Cargo put behind the old fit touches the hold alone.
 pub fn lists(
     reader: u32,
     catalogue: &[u8],
@@ -54,7 +54,10 @@ pub fn lists(
         let o′ = left (r .new) (now (after .exit)) in
         ⌜ (outcome (now (before .entry)) (listCall t c (now (old .entry)) (now (before .entry))) ≡ o)
         × (outcome (now (after .entry)) (listCall t′ c (now (new .entry)) (now (after .entry))) ≡ o′)
-        × ListsKept c (now (old .entry)) (now (new .entry)) o o′ ⌝ }
+        × ListsKept c (now (old .entry)) (now (new .entry)) o o′
+        × ListsHauled c (now (old .entry)) (now (new .entry)) o o′
+        × HeldOnce o
+        × HeldOnce o′ ⌝ }
 {
     let _ = bytes(new);
     let a = fitcheck::fit_list(
@@ -100,7 +103,8 @@ pub fn skills(
         let o′ = left (r .new) (now (after .exit)) in
         ⌜ (outcome (now (before .entry)) (skillCall t c (now (old .entry)) result (now (before .entry))) ≡ o)
         × (outcome (now (after .entry)) (skillCall t′ c (now (new .entry)) result (now (after .entry))) ≡ o′)
-        × SkillsKept (now (old .entry)) (now (new .entry)) o o′ ⌝ }
+        × SkillsKept (now (old .entry)) (now (new .entry)) o o′
+        × SkillsHauled (now (old .entry)) (now (new .entry)) o o′ ⌝ }
 {
     let pairs = first.pairs;
     let most = first.skills;

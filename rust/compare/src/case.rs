@@ -28,6 +28,8 @@ pub struct Case {
     pub training: Vec<Skill>,
     /// What the first fit grows by, for the comparison of two fits.
     pub growth: Growth,
+    /// The cargo that is put behind the first fit; no level falls.
+    pub haul: Growth,
     pub asks: Vec<Ask>,
     /// The refusals that were planted: every call must give the first of them
     /// in document 01's order.
@@ -51,6 +53,11 @@ pub enum Ask {
     GrownList,
     /// The same for the skills of one old result.
     GrownSkill(u32),
+    /// The lists of the first fit and of the hauled one: nothing but the hold
+    /// may differ.
+    HauledList,
+    /// The skills of one old result in both, which are the same.
+    HauledSkill(u32),
     /// The catalogue's old form, widened.
     Widen(Room),
     /// The list under the widened catalogue, beside the one under the old.

@@ -36,7 +36,7 @@ pub fn places(old: &[Entry], new: &[Entry]) -> Result<Vec<usize>, String> {
 
 /// Whether all bytes but used number and trained level are equal, the used
 /// number is no lower and the trained level no higher.
-fn stands_for(old: &Entry, new: &Entry) -> bool {
+pub(crate) fn stands_for(old: &Entry, new: &Entry) -> bool {
     let word = |entry: &Entry, at: usize| {
         u32::from_le_bytes([entry[at], entry[at + 1], entry[at + 2], entry[at + 3]])
     };

@@ -10,6 +10,7 @@ pub mod fixed;
 pub mod generate;
 pub mod grown;
 pub mod guard;
+pub mod hauled;
 pub mod large;
 pub mod model;
 pub mod names;

@@ -65,6 +65,7 @@ impl Record {
             Ask::Skill(result, room) => (image(&case.fits[0]), result, Some(room)),
             Ask::Widen(room) => (Vec::new(), WIDEN, Some(room)),
             Ask::GrownList | Ask::GrownSkill(_) => return None,
+            Ask::HauledList | Ask::HauledSkill(_) => return None,
             Ask::WidenedList | Ask::WidenedSkill(_) => return None,
             Ask::RetrainedList(_) | Ask::RetrainedSkill(..) => return None,
         };

@@ -95,6 +95,8 @@ impl Small<'_> {
         self.rows(|case| &mut case.growth.items);
         self.rows(|case| &mut case.growth.results);
         self.rows(|case| &mut case.growth.lowered);
+        self.rows(|case| &mut case.haul.items);
+        self.rows(|case| &mut case.haul.results);
         for number in 0..self.case.fits.len() {
             self.fit(number);
         }
@@ -115,6 +117,8 @@ impl Small<'_> {
             Ask::GrownSkill(result) => (Ask::Skill(result, Room::Exact), grown(&self.case)),
             Ask::RetrainedList(room) => (Ask::List(room), self.case.retrained()),
             Ask::RetrainedSkill(result, room) => (Ask::Skill(result, room), self.case.retrained()),
+            Ask::HauledList => (Ask::List(Room::Exact), hauled(&self.case)),
+            Ask::HauledSkill(result) => (Ask::Skill(result, Room::Exact), hauled(&self.case)),
             _ => return,
         };
         let alone = self.change(|case| case.asks[0] = single);
@@ -130,6 +134,7 @@ impl Small<'_> {
     /// fewer skills under a lower limit.
     fn page(&mut self) {
         self.change(|case| case.growth.limits = Limits::MAIN);
+        self.change(|case| case.haul.limits = Limits::MAIN);
         self.change(|case| case.limits.pairs = Limits::MAIN.pairs);
         self.change(|case| case.limits.skills = Limits::MAIN.skills);
         while self.pair_less() {}
@@ -189,6 +194,7 @@ impl Small<'_> {
                 for ask in &mut case.asks {
                     if let Ask::Skill(result, _)
                     | Ask::GrownSkill(result)
+                    | Ask::HauledSkill(result)
                     | Ask::WidenedSkill(result)
                     | Ask::RetrainedSkill(result, _) = ask
                         && *result as usize > place + 2
@@ -252,6 +258,10 @@ fn grown(case: &Case) -> Fit {
     case.growth.of(&case.fits[0])
 }
 
+fn hauled(case: &Case) -> Fit {
+    case.haul.of(&case.fits[0])
+}
+
 /// A result of a fit: 0 ship, 1 character, 2 first item.
 fn outcome(fit: &mut Fit, result: usize) -> &mut Outcome {
     match result {
@@ -270,6 +280,7 @@ fn same(a: &Case, b: &Case) -> bool {
         && a.reader == b.reader
         && a.training == b.training
         && a.growth == b.growth
+        && a.haul == b.haul
         && a.asks == b.asks
         && a.planted == b.planted
 }

@@ -2,7 +2,8 @@
 use Rattle.lists.specs.Terms.{limited, readBy, main}
 use Rattle.fitcheck.specs.Calls.{skillCall}
 use Rattle.promises.proofs.Comparing.{skills-kept}
-use Rattle.two_fits.specs.Kept.{SkillsKept}
+use Rattle.promises.proofs.Hauling.{haul-skills}
+use Rattle.two_fits.specs.Kept.{SkillsKept, SkillsHauled}
 use Rattle.two_fits.proofs.Left.{left-is, of-both}
 use borrow.Author.Needs.{needs}
 use Rattle.two_fits.proofs.skills.Statement.{statement}
@@ -21,7 +22,8 @@ returns c =
     let e = left-is (a .before .now) (skillCall t catalogue old (a .result) (a .before .now)) (o .fit-skill .ensures) in
     let e′ = left-is (a .after .now) (skillCall t′ catalogue new (a .result) (a .after .now)) (n .fit-skill2 .ensures) in
     let kept = skills-kept t t′ catalogue old new (a .before .now) (a .after .now) (a .result) in
-    (e, e′, of-both (SkillsKept old new) e e′ kept)
+    let hauled = haul-skills t t′ catalogue old new (a .before .now) (a .after .now) (a .result) in
+    (e, e′, of-both (SkillsKept old new) e e′ kept, of-both (SkillsHauled old new) e e′ hauled)
 
 pub skills-spec : {M : Type 1} → statement M
 skills-spec = tie.close (tie.spec (λ c κs. search needs) (λ c κs. search needs) (λ c. search needs) (λ c. search needs) returns)

@@ -4,6 +4,7 @@
 
 mod chains;
 mod document;
+mod haul;
 mod items;
 mod league;
 mod page;
@@ -38,7 +39,7 @@ const TABLES: [&[Make]; 8] = [
 /// are, and how each is made.
 type Row = (fn() -> usize, fn(usize) -> Case);
 
-const MADE: [Row; 15] = [
+const MADE: [Row; 16] = [
     (plant::others, alone),
     (plant::other_pairs, together),
     (|| hall::CORNERS, hall::corner),
@@ -76,6 +77,7 @@ const MADE: [Row; 15] = [
         |number| together(plant::other_pairs() + number),
     ),
     (reader::count, reader::case),
+    (|| haul::CASES.len(), |number| haul::CASES[number]()),
     (|| limits::LENGTHS, limits::lengths),
 ];
 

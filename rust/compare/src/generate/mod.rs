@@ -3,6 +3,7 @@
 pub mod fit;
 pub mod growth;
 pub mod hall;
+pub mod haul;
 pub mod league;
 pub mod limits;
 pub mod page;
@@ -24,6 +25,9 @@ const PATCH: u64 = 0x0050_4154_4348;
 /// The same of who reads it.
 const READER: u64 = 0x5245_4144_4552;
 
+/// Has cargo behind a fit drawn from other numbers than the fit.
+const HAUL: u64 = 0x4841_554C;
+
 /// The generated case of a number. What a patch takes away and what its calls
 /// bring beside the images is drawn by itself, so that the rest is the same with
 /// and without.
@@ -33,6 +37,7 @@ pub fn case(seed: u64, number: u64) -> Case {
     league::bring(&mut Rng::for_case(!seed, number), &mut case);
     page::bring(&mut Rng::for_case(!seed, !number), &mut case);
     reader::bring(&mut Rng::for_case(seed ^ READER, number), &mut case);
+    haul::bring(&mut Rng::for_case(seed ^ HAUL, number), &mut case);
     case
 }
 

@@ -4,7 +4,7 @@
 use super::catalogue::Catalogue;
 use super::entry::{Entries, Target};
 use super::fault::Fault;
-use super::fit::{FIGHTER_TUBE, Fit, HIGH_TO_SERVICE, Item, SERVICE};
+use super::fit::{CARGO, FIGHTER_TUBE, Fit, HIGH_TO_SERVICE, Item, SERVICE};
 use super::{Flaw, Rows};
 
 const CATEGORY_SHIP: i32 = 6;
@@ -115,6 +115,7 @@ fn is_fitted(kind: u8, flaw: Flaw) -> bool {
     match kind {
         SERVICE => !flaw.has(Fault::FittedNoService),
         FIGHTER_TUBE => flaw.has(Fault::FittedInTubes),
+        CARGO => flaw.has(Fault::CargoFitted),
         _ => HIGH_TO_SERVICE.contains(&kind),
     }
 }

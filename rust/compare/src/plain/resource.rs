@@ -93,6 +93,7 @@ pub fn drone_total(context: &Context) -> u64 {
         .filter(|pair| {
             pair.item.kind == DRONE_BAY
                 || (pair.item.kind == FIGHTER_TUBE && flaw.has(Fault::DronesInTubes))
+                || (pair.item.kind == CARGO && flaw.has(Fault::CargoLaunched))
         })
         .filter(|pair| pair.state >= least || flaw.has(Fault::DronesAnyState))
         .filter(|pair| pair.state <= ACTIVE || !flaw.has(Fault::DronesActiveOnly))
@@ -162,7 +163,13 @@ fn cargo(context: &Context, entries: &mut Entries) {
             _ if flaw.has(Fault::CargoNoVolume) => 1.0,
             _ => 0.0,
         };
-        let volume = row.and_then(|row| row.volume).unwrap_or(none);
+        let mut volume = row.and_then(|row| row.volume).unwrap_or(none);
+        if volume.is_nan() && flaw.has(Fault::CargoNanFree) {
+            volume = 0.0;
+        }
+        if flaw.has(Fault::CargoLastAlone) {
+            used = 0.0;
+        }
         let quantity = if flaw.has(Fault::CargoUnits) {
             1
         } else {
@@ -179,6 +186,12 @@ fn cargo(context: &Context, entries: &mut Entries) {
 
     let available = context.amount(SHIP, id);
     if over(used, available, flaw) {
-        entries.add_resource(CARGO_BAY, used, available);
+        let count = match flaw.has(Fault::CargoEach) {
+            true => items.iter().filter(|item| item.kind == CARGO).count(),
+            false => 1,
+        };
+        for _ in 0..count {
+            entries.add_resource(CARGO_BAY, used, available);
+        }
     }
 }

@@ -37,7 +37,10 @@ pub fn validate(context: &Context, entries: &mut Entries) {
             let used = context
                 .pairs
                 .iter()
-                .filter(|pair| pair.item.kind == rack)
+                .filter(|pair| {
+                    let is_cargo = pair.item.kind == CARGO && rack == 0;
+                    pair.item.kind == rack || (is_cargo && context.flaw.has(Fault::CargoInRack))
+                })
                 .count();
             slots(context, entries, rack, RACKS + usize::from(rack), used);
         }
@@ -157,6 +160,7 @@ fn slot_taken(context: &Context, pair: &Pair, entries: &mut Entries) {
     let flaw = context.flaw;
     let item = pair.item;
     let shared = match item.kind {
+        CARGO if flaw.has(Fault::TakenInCargo) => false,
         DRONE_BAY | FIGHTER_BAY | CARGO => !flaw.has(Fault::TakenInBays),
         FIGHTER_TUBE => flaw.has(Fault::TakenTubesShared),
         _ => false,

@@ -1,5 +1,6 @@
 //! Runs one case: the original's answer and the checker's, held together.
 
+mod hauled;
 mod page;
 mod reader;
 mod shown;
@@ -124,6 +125,7 @@ pub struct Stage<'a> {
     fit: OnceCell<Subject>,
     grown: OnceCell<Subject>,
     retrained: OnceCell<Subject>,
+    hauled: OnceCell<Subject>,
     hall: OnceCell<Hall>,
     old: OnceCell<Old>,
     widened: OnceCell<Option<(Source, Subject)>>,
@@ -148,6 +150,7 @@ impl<'a> Stage<'a> {
             fit: OnceCell::new(),
             grown: OnceCell::new(),
             retrained: OnceCell::new(),
+            hauled: OnceCell::new(),
             hall: OnceCell::new(),
             old: OnceCell::new(),
             widened: OnceCell::new(),
@@ -281,6 +284,8 @@ impl<'a> Stage<'a> {
             Ask::Skill(result, room) => own(Some(result), room),
             Ask::GrownList => both(None),
             Ask::GrownSkill(result) => both(Some(result)),
+            Ask::HauledList => self.haul_calls(reader, None),
+            Ask::HauledSkill(result) => self.haul_calls(reader, Some(result)),
             Ask::WidenedList => wide(None),
             Ask::WidenedSkill(result) => wide(Some(result)),
             Ask::Hall | Ask::Widen(_) => Vec::new(),
@@ -299,6 +304,8 @@ impl<'a> Stage<'a> {
                 Ask::Hall => self.count_hall(tally),
                 Ask::GrownList => self.count_grown(None, tally),
                 Ask::GrownSkill(result) => self.count_grown(Some(result), tally),
+                Ask::HauledList => self.count_hauled(None, tally),
+                Ask::HauledSkill(result) => self.count_hauled(Some(result), tally),
                 Ask::Widen(room) => self.count_widen(room, tally),
                 Ask::WidenedList => self.count_widened(None, tally),
                 Ask::WidenedSkill(result) => self.count_widened(Some(result), tally),
@@ -514,6 +521,12 @@ impl<'a> Stage<'a> {
         checker: &dyn Checker,
         zeros: &mut Zeros,
     ) -> Result<(), String> {
+        // First the property, so that its own words are what is reported.
+        match ask {
+            Ask::HauledList => self.hold_hauled(None, readers, checker)?,
+            Ask::HauledSkill(result) => self.hold_hauled(Some(result), readers, checker)?,
+            _ => {}
+        }
         for (source, subject, call) in self.lists(ask, readers) {
             if self.is_own(ask, call) && !self.case.planted.is_empty() {
                 self.planted(self.expected(source, subject, call).0.word)?;
@@ -527,7 +540,9 @@ impl<'a> Stage<'a> {
             Ask::GrownSkill(result) => self.grown_keeps(Some(result)),
             Ask::Widen(room) => self.hold_widen(room, checker),
             Ask::RetrainedList(_) | Ask::RetrainedSkill(..) => self.same_for_a_guest(ask, checker),
-            Ask::List(_) | Ask::Skill(..) | Ask::WidenedList | Ask::WidenedSkill(_) => Ok(()),
+            Ask::List(_) | Ask::Skill(..) => Ok(()),
+            Ask::HauledList | Ask::HauledSkill(_) => Ok(()),
+            Ask::WidenedList | Ask::WidenedSkill(_) => Ok(()),
         }
     }
 

@@ -1,6 +1,7 @@
 //! Counts what the cases met, and names what they never met.
 
 mod edge;
+mod haul;
 mod league;
 mod look;
 mod page;
@@ -21,6 +22,7 @@ use crate::reader::Reader;
 use crate::reference::{self, Catalogue, Fate, Fit, League, Listed, More, Refusal};
 
 pub use edge::{Hangar, Shape, Spot};
+pub use haul::{Haul, HaulEdge};
 pub use league::LeagueEdge;
 pub use page::{PageEdge, pairs_beside, skills_beside};
 pub use point::{Beside, Call, Point, RoomKind};
@@ -323,6 +325,22 @@ impl Tally {
     /// A call under a widened catalogue.
     pub fn under_widened(&mut self, call: Call) {
         self.meet(Point::Under(call));
+    }
+
+    /// The lists of a fit without and with cargo behind it.
+    pub fn hauled(&mut self, haul: &Haul, old: &[Entry], new: &[Entry]) {
+        haul::lists(self, haul, old, new);
+    }
+
+    /// Both calls of a reader, without and with cargo behind the fit, and the old
+    /// list as an officer gets it.
+    pub fn hauled_for(&mut self, reader: Reader, is_skill: bool, full: &[Entry]) {
+        haul::read_by(self, reader, is_skill, full);
+    }
+
+    /// The skills of an old result without and with cargo behind the fit.
+    pub fn hauled_skills(&mut self, haul: &Haul, listed: &[Entry]) {
+        haul::skills(self, haul, listed);
     }
 
     /// Two lists held against each other.

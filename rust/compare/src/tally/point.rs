@@ -3,6 +3,7 @@
 use std::fmt;
 
 use super::edge::{CapitalEdge, Edge, Hangar, Shape, Spot};
+use super::haul::HaulEdge;
 use super::league::LeagueEdge;
 use super::page::PageEdge;
 use super::reader::ReaderEdge;
@@ -95,6 +96,8 @@ pub enum Point {
     Page(PageEdge),
     /// Who a call is for, and what comes of that.
     Reader(ReaderEdge),
+    /// Cargo behind a fit, and what becomes of the hold.
+    Haul(HaulEdge),
 }
 
 #[derive(Clone, Copy, Debug, PartialEq, Eq, PartialOrd, Ord)]
@@ -244,6 +247,7 @@ pub fn required() -> Vec<Point> {
     points.extend(UnknownEdge::all().into_iter().map(Point::Unknown));
     points.extend(PageEdge::all().into_iter().map(Point::Page));
     points.extend(ReaderEdge::all().into_iter().map(Point::Reader));
+    points.extend(HaulEdge::all().into_iter().map(Point::Haul));
     points
 }
 
@@ -351,6 +355,7 @@ impl fmt::Display for Point {
             Point::Unknown(edge) => out.write_str(&edge.words()),
             Point::Page(edge) => out.write_str(&edge.words()),
             Point::Reader(edge) => out.write_str(&edge.words()),
+            Point::Haul(edge) => out.write_str(&edge.words()),
             Point::Fine(fine) => write!(out, "base value finer than an f32: {}", fine.words()),
             size => size.fmt_size(out),
         }

@@ -4,7 +4,7 @@
 mod entry;
 mod tables;
 
-use crate::case::{Ask, Case, Room};
+use crate::case::{Ask, Case, Growth, Room};
 use crate::checker::{Checker, ENTRY, Terms, in_words, refused};
 use crate::model::{Catalogue, Damage, Fit, Name, Outcome, hall_image};
 use crate::names::{MARKS, NAMES};
@@ -56,6 +56,13 @@ pub fn case(case: &Case) -> String {
         things(&mut text, &more, names);
         limits(&mut text, "limits for the grown fit", growth.limits);
     }
+    if case
+        .asks
+        .iter()
+        .any(|ask| matches!(ask, Ask::HauledList | Ask::HauledSkill(_)))
+    {
+        haul(&mut text, &case.haul, names);
+    }
     for planted in &case.planted {
         text += &format!("planted: refusal {} by {}\n", planted.cause, planted.how);
     }
@@ -81,6 +88,22 @@ fn readers(text: &mut String, case: &Case) {
     });
 }
 
+/// What is put behind the fit.
+fn haul(text: &mut String, haul: &Growth, names: &[Name]) {
+    *text += &format!(
+        "{} items of cargo and {} results are put behind the fit\n",
+        haul.items.len(),
+        haul.results.len()
+    );
+    let more = Fit {
+        items: haul.items.clone(),
+        results: haul.results.clone(),
+        ..Fit::default()
+    };
+    things(text, &more, names);
+    limits(text, "limits for the hauled fit", haul.limits);
+}
+
 /// What the original answers to each kind of call of a case, whatever the
 /// buffers.
 pub fn answers(case: &Case) -> String {
@@ -96,13 +119,13 @@ pub fn answers(case: &Case) -> String {
     for one in &case.asks {
         let mut terms = own;
         let (what, result) = match one {
-            Ask::List(_) | Ask::GrownList => ("list".to_string(), None),
+            Ask::List(_) | Ask::GrownList | Ask::HauledList => ("list".to_string(), None),
             Ask::RetrainedList(_) => {
                 terms.reader = Reader::GUEST;
                 ("list for a guest".to_string(), None)
             }
             Ask::RetrainedSkill(..) => continue,
-            Ask::Skill(result, _) | Ask::GrownSkill(result) => {
+            Ask::Skill(result, _) | Ask::GrownSkill(result) | Ask::HauledSkill(result) => {
                 (format!("skill of {}", holder(*result)), Some(*result))
             }
             Ask::Hall => {
@@ -151,6 +174,10 @@ pub fn ask(ask: Ask) -> String {
         Ask::GrownList => "list of the fit and of the grown fit".to_string(),
         Ask::GrownSkill(result) => {
             format!("skill of {}, in the fit and the grown fit", holder(result))
+        }
+        Ask::HauledList => "list of the fit and of the one with cargo behind it".to_string(),
+        Ask::HauledSkill(result) => {
+            format!("skill of {}, without and with cargo behind", holder(result))
         }
         Ask::Widen(room) => format!("widening of the old form, {}", self::room(room)),
         Ask::WidenedList => "list under the widened catalogue".to_string(),
