@@ -1,6 +1,6 @@
--- From the answer of a type lookup, by its cases, to what the rules read.
-use mathlib.Core.Path.{_≡_, refl}
-use mathlib.Core.Bool.{true, false}
+-- What is read of a type lookup's answer by its cases is what is read of the catalogue by whether it has the type.
+use mathlib.Core.Path.{_≡_, refl, sym, ap, _∙_}
+use mathlib.Core.Bool.{Bool, true, false}
 use mathlib.Core.Option.{Option, none, some}
 use lib.IntN.{pos}
 use Rattle.words.specs.Words.{given}
@@ -9,42 +9,49 @@ use Rattle.catalogue.specs.Catalogue.{Id, Catalogue, TypeData}
 use Rattle.catalogue.specs.Lookups.{typeOf, isKnown, groupOf, categoryOf, volumeOf}
 use Rattle.catalogue.specs.Answers.{infoOfType}
 use Rattle.catalogue.specs.declared.TypeInfo.{TypeInfo}
+use Rattle.context.specs.Gathered.{answerOf}
 
-module _ (c : Catalogue) (id : Id) where
-  -- a type that is there
-  pub record Known (info : TypeInfo) : Type 0 where
-    pub group : info .group ≡ groupOf c id
-    pub category : info .category ≡ categoryOf c id
-    pub volume : info .volume ≡ volumeOf c id
-    pub known : true ≡ isKnown c id
+module _ {A : Type 0} (missing : A) (read : TypeInfo → A) where
+  -- of an answer by its cases
+  pub when-known : {o : Option TypeInfo} {info : TypeInfo} → o ≡ some info → read info ≡ given o missing read
+  unfolding given
+  when-known e = sym (ap (λ (o : Option TypeInfo). given o missing read) e)
 
-  pub known : (info : TypeInfo) → some info ≡ given (typeOf c id) none (λ x. some (infoOfType x)) → Known info
-  unfolding given groupOf categoryOf volumeOf isKnown
-  known info e = go (typeOf c id) refl e
-    where
-      go : (o : Option TypeData) → typeOf c id ≡ o → some info ≡ given o none (λ x. some (infoOfType x)) → Known info
-      go none p q = absurd (clash q)
-        where
-          clash : some info ≡ none → ⊥
-          clash q = let z : _≡_ {A = Prim.Native.Nat.ℕ} 0 1 = cc in omega native.Mathlib.Omega.arith
-      go (some x) p q =
-          let h : info ≡ infoOfType x = cc in
-          record { group = rw (p, h); category = rw (p, h); volume = rw (p, h); known = rw p }
+  pub when-missing : {o : Option TypeInfo} → o ≡ none → missing ≡ given o missing read
+  unfolding given
+  when-missing e = sym (ap (λ (o : Option TypeInfo). given o missing read) e)
 
-  -- one that is not
-  pub record Unknown : Type 0 where
-    pub group : pos 0 ≡ groupOf c id
-    pub category : pos 0 ≡ categoryOf c id
-    pub volume : zeroF ≡ volumeOf c id
-    pub known : false ≡ isKnown c id
+  by-type : (o : Option TypeData) → given (given o none (λ x. some (infoOfType x))) missing read ≡ given o missing (λ x. read (infoOfType x))
+  unfolding given
+  by-type none = refl
+  by-type (some x) = refl
 
-  pub unknown : none ≡ given (typeOf c id) none (λ x. some (infoOfType x)) → Unknown
-  unfolding given groupOf categoryOf volumeOf isKnown
-  unknown e = go (typeOf c id) refl e
-    where
-      go : (o : Option TypeData) → typeOf c id ≡ o → none ≡ given o none (λ x. some (infoOfType x)) → Unknown
-      go none p q = record { group = rw p; category = rw p; volume = rw p; known = rw p }
-      go (some x) p q = absurd (clash q)
-        where
-          clash : none ≡ some (infoOfType x) → ⊥
-          clash q = let z : _≡_ {A = Prim.Native.Nat.ℕ} 0 1 = cc in omega native.Mathlib.Omega.arith
+  pub told : (c : Catalogue) (id : Id) {o : Option TypeInfo} → o ≡ answerOf c id
+      → given o missing read ≡ given (typeOf c id) missing (λ x. read (infoOfType x))
+  told c id {o} e = ap (λ (a : Option TypeInfo). given a missing read) e ∙ by-type (typeOf c id)
+
+-- whether it is there
+pub told-known : (c : Catalogue) (id : Id) {o : Option TypeInfo} → o ≡ answerOf c id → given o false (λ x. true) ≡ isKnown c id
+unfolding isKnown
+told-known c id e = told false (λ x. true) c id e
+
+-- what the rules read
+pub told-group : (c : Catalogue) (id : Id) {o : Option TypeInfo} → o ≡ answerOf c id → given o (pos 0) (λ x. x .group) ≡ groupOf c id
+unfolding groupOf
+told-group c id e = told (pos 0) (λ x. x .group) c id e
+
+pub told-category : (c : Catalogue) (id : Id) {o : Option TypeInfo} → o ≡ answerOf c id → given o (pos 0) (λ x. x .category) ≡ categoryOf c id
+unfolding categoryOf
+told-category c id e = told (pos 0) (λ x. x .category) c id e
+
+pub told-volume : (c : Catalogue) (id : Id) {o : Option TypeInfo} → o ≡ answerOf c id → given o zeroF (λ x. x .volume) ≡ volumeOf c id
+unfolding volumeOf
+told-volume c id e = told zeroF (λ x. x .volume) c id e
+
+-- a test of a category: a type that is not there does not pass it, and neither does category 0
+module _ (test : Id → Bool) (failed : test (pos 0) ≡ false) where
+  pub passes : (o : Option TypeInfo) {category : Id} → given o (pos 0) (λ x. x .category) ≡ category
+      → given o false (λ x. test (x .category)) ≡ test category
+  unfolding given
+  passes none e = sym failed ∙ ap test e
+  passes (some x) e = ap test e

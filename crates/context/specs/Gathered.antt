@@ -7,10 +7,11 @@ use mathlib.Core.Option.{Option, none, some}
 use lib.Dec.{eqb, ltb}
 use lib.ListN.{getD, set}
 use lib.Ieee.{Float, binary64, ofBits}
+use Rattle.words.specs.Words.{given}
 use Rattle.image.specs.Bytes.{signed32}
 use Rattle.catalogue.specs.Catalogue.{Id, Catalogue, catalogueOf}
-use Rattle.catalogue.specs.Lookups.{isKnown, groupOf, categoryOf, volumeOf, rackOf, hardpointOf}
-use Rattle.catalogue.specs.Answers.{slotOf}
+use Rattle.catalogue.specs.Lookups.{typeOf, rackOf, hardpointOf}
+use Rattle.catalogue.specs.Answers.{infoOfType, slotOf}
 use Rattle.catalogue.specs.declared.TypeInfo.{TypeInfo}
 use Rattle.catalogue.specs.declared.SlotMarks.{SlotMarks}
 use Rattle.fit.specs.Fit.{itemCount, resultCount, itemAt, resultOf, fitOf}
@@ -18,7 +19,6 @@ use Rattle.catalogue.specs.Sound as CatalogueSound
 use Rattle.fit.specs.Sound as Fit
 use Rattle.fit.specs.Sound.{Starts}
 use Rattle.context.specs.declared.TypeWords.{TypeWords}
-use Rattle.context.specs.declared.ShipWords.{ShipWords}
 use Rattle.context.specs.Context.{Pair, pairOf, pairs, Context, context}
 
 -- document 01: pairs are the first min(F, R)
@@ -43,52 +43,65 @@ slotIn code = cond (ltb code 8) (some code) none
 abbrev pub ofHalves : ℕ → ℕ → Float
 ofHalves low high = ofBits binary64 (low + 2 ^ 32 * high)
 
+-- what the type lookup answers, if the type is there
+abbrev pub answerOf : Catalogue → Id → Option TypeInfo
+answerOf c id = given (typeOf c id) none (λ x. some (infoOfType x))
+
 -- ---- the facts: all that a call gathers, in one array of words
--- where in it stand the ship's group and category and whether its type is there, and the sections of the pairs, a word for each pair; where
--- each result's attributes begin stands before them, from place 0 on
-abbrev pub shipGroupAt : ℕ
-shipGroupAt = 259
+-- where each result's attributes begin, from place 0 on; then sections, each with a place for every pair and the last one for the ship
+abbrev pub placeCount : ℕ
+placeCount = 257
 
-abbrev pub shipCategoryAt : ℕ
-shipCategoryAt = 260
-
-abbrev pub shipKnownAt : ℕ
-shipKnownAt = 261
+abbrev pub shipAt : ℕ
+shipAt = 256
 
 abbrev pub groupsAt : ℕ
-groupsAt = 262
+groupsAt = 259
 
 abbrev pub categoriesAt : ℕ
-categoriesAt = 518
-
-abbrev pub racksAt : ℕ
-racksAt = 774
-
-abbrev pub hardpointsAt : ℕ
-hardpointsAt = 1030
+categoriesAt = 516
 
 -- the lower and the upper half of a volume's bits
 abbrev pub lowsAt : ℕ
-lowsAt = 1286
+lowsAt = 773
 
 abbrev pub highsAt : ℕ
-highsAt = 1542
+highsAt = 1030
 
 -- 1 where the type is there
 abbrev pub knownsAt : ℕ
-knownsAt = 1798
+knownsAt = 1287
+
+abbrev pub racksAt : ℕ
+racksAt = 1544
+
+abbrev pub hardpointsAt : ℕ
+hardpointsAt = 1801
 
 abbrev pub factCount : ℕ
-factCount = 2054
+factCount = 2058
+
+-- a type that is there, by the words that are kept of it
+abbrev pub infoOfWords : (group category low high : ℕ) → TypeInfo
+infoOfWords group category low high = record { group = signed32 group; category = signed32 category; volume = ofHalves low high }
+
+abbrev pub infoAt : List ℕ → ℕ → TypeInfo
+infoAt facts i =
+    infoOfWords (getD facts (groupsAt + i) 0) (getD facts (categoriesAt + i) 0) (getD facts (lowsAt + i) 0) (getD facts (highsAt + i) 0)
+
+-- the type at a place, if it is there: the other words say nothing of one that is not
+unfoldable pub typeIn : List ℕ → ℕ → Option TypeInfo
+typeIn facts i = cond (eqb (getD facts (knownsAt + i) 0) 1) (some (infoAt facts i)) none
+
+-- what is kept at a place of the type of a pair: what the lookup answers of it, and the marks that stand by its id
+pub record Kept (c : Catalogue) (id : Id) (i : ℕ) (facts : List ℕ) : Type 0 where
+  pub type : typeIn facts i ≡ answerOf c id
+  pub rack : slotIn (getD facts (racksAt + i) 0) ≡ rackOf c id
+  pub hardpoint : slotIn (getD facts (hardpointsAt + i) 0) ≡ hardpointOf c id
 
 -- the facts of the first n pairs
-pub record Pairs (catalogue fit : List ℕ) (n : ℕ) (facts : List ℕ) : Type 0 where
-  pub groups : (i : ℕ) → i < n → signed32 (getD facts (groupsAt + i) 0) ≡ pairAt catalogue fit i .group
-  pub categories : (i : ℕ) → i < n → signed32 (getD facts (categoriesAt + i) 0) ≡ pairAt catalogue fit i .category
-  pub racks : (i : ℕ) → i < n → slotIn (getD facts (racksAt + i) 0) ≡ pairAt catalogue fit i .rack
-  pub hardpoints : (i : ℕ) → i < n → slotIn (getD facts (hardpointsAt + i) 0) ≡ pairAt catalogue fit i .hardpoint
-  pub volumes : (i : ℕ) → i < n → ofHalves (getD facts (lowsAt + i) 0) (getD facts (highsAt + i) 0) ≡ pairAt catalogue fit i .volume
-  pub knowns : (i : ℕ) → i < n → eqb (getD facts (knownsAt + i) 0) 1 ≡ isKnown (catalogueOf catalogue) (pairAt catalogue fit i .type)
+abbrev pub Pairs : (catalogue fit : List ℕ) → ℕ → List ℕ → Type 0
+Pairs catalogue fit n facts = (i : ℕ) → i < n → Kept (catalogueOf catalogue) (pairAt catalogue fit i .type) i facts
 
 -- two arrays are the same before a place
 abbrev pub Before : ℕ → (old new : List ℕ) → Type 0
@@ -99,53 +112,33 @@ pub record Gathered (catalogue fit facts : List ℕ) : Type 0 where
   pub catalogue-sound : CatalogueSound.Sound catalogue
   pub fit-sound : Fit.Sound fit
   pub begins : Starts fit facts
-  pub ship-group : signed32 (getD facts shipGroupAt 0) ≡ contextOf catalogue fit .group
-  pub ship-category : signed32 (getD facts shipCategoryAt 0) ≡ contextOf catalogue fit .category
-  pub ship-known : eqb (getD facts shipKnownAt 0) 1 ≡ isKnown (catalogueOf catalogue) (fitOf fit .frame .ship)
+  pub ship : typeIn facts shipAt ≡ answerOf (catalogueOf catalogue) (fitOf fit .frame .ship)
   pub pairs : Pairs catalogue fit (pairCount fit) facts
 
--- ---- of one type
--- what the catalogue says of the ship's type, as words
-pub record ShipOf (c : Catalogue) (id : Id) (w : ShipWords) : Type 0 where
-  pub group : signed32 (w .group) ≡ groupOf c id
-  pub category : signed32 (w .category) ≡ categoryOf c id
-  pub known : eqb (w .known) 1 ≡ isKnown c id
-
--- what is known of a type that is there, as words
-pub record KnownWords (info : TypeInfo) (marks : SlotMarks) (w : TypeWords) : Type 0 where
-  pub group : signed32 (w .group) ≡ info .group
-  pub category : signed32 (w .category) ≡ info .category
-  pub rack : slotIn (w .rack) ≡ slotOf (marks .rack)
-  pub hardpoint : slotIn (w .hardpoint) ≡ slotOf (marks .hardpoint)
-  pub volume : ofHalves (w .low) (w .high) ≡ info .volume
-  pub known : w .known ≡ 1
-
--- of one that is not
-pub record UnknownWords (marks : SlotMarks) (w : TypeWords) : Type 0 where
-  pub group : w .group ≡ 0
-  pub category : w .category ≡ 0
-  pub rack : slotIn (w .rack) ≡ slotOf (marks .rack)
-  pub hardpoint : slotIn (w .hardpoint) ≡ slotOf (marks .hardpoint)
-  pub low : w .low ≡ 0
-  pub high : w .high ≡ 0
-  pub known : w .known ≡ 0
-
--- what the catalogue says of one type, as words
-pub record WordsOf (c : Catalogue) (id : Id) (w : TypeWords) : Type 0 where
-  pub group : signed32 (w .group) ≡ groupOf c id
-  pub category : signed32 (w .category) ≡ categoryOf c id
-  pub rack : slotIn (w .rack) ≡ rackOf c id
-  pub hardpoint : slotIn (w .hardpoint) ≡ hardpointOf c id
-  pub volume : ofHalves (w .low) (w .high) ≡ volumeOf c id
-  pub known : eqb (w .known) 1 ≡ isKnown c id
-
--- words put at place i of sections of 256, the first of which begins at `at`
+-- ---- words that are put
+-- at place i of the sections from `at` on, one after the other
 abbrev pub fill : List ℕ → ℕ → ℕ → List ℕ → List ℕ
 fill facts i at [] = facts
-fill facts i at (w ∷ ws) = fill (set facts (at + i) w) i (at + 256) ws
+fill facts i at (w ∷ ws) = fill (set facts (at + i) w) i (at + placeCount) ws
 
+-- of a type that is there
 abbrev pub listOfWords : TypeWords → List ℕ
-listOfWords w = w .group ∷ w .category ∷ w .rack ∷ w .hardpoint ∷ w .low ∷ w .high ∷ w .known ∷ []
+listOfWords w = w .group ∷ w .category ∷ w .low ∷ w .high ∷ 1 ∷ []
+
+-- place i of n sections from `at` on may be new, and all else is as it was
+abbrev pub Only : (i at n : ℕ) → (old new : List ℕ) → Type 0
+Only i at n old new = (j : ℕ) → ((s : ℕ) → s < n → j ≡ at + placeCount * s + i → ⊥) → getD new j 0 ≡ getD old j 0
+
+-- what is said of the type at place i
+pub record TypePut (i : ℕ) (answer : Option TypeInfo) (old new : List ℕ) : Type 0 where
+  pub type : typeIn new i ≡ answer
+  pub others : Only i groupsAt 5 old new
+
+-- the marks at place i
+pub record MarksPut (i : ℕ) (marks : SlotMarks) (old new : List ℕ) : Type 0 where
+  pub rack : slotIn (getD new (racksAt + i) 0) ≡ slotOf (marks .rack)
+  pub hardpoint : slotIn (getD new (hardpointsAt + i) 0) ≡ slotOf (marks .hardpoint)
+  pub others : Only i racksAt 2 old new
 
 -- below a limit, where there is a slot
 abbrev pub Below : ℕ → Option ℕ → Type 0

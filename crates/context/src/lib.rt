@@ -6,65 +6,52 @@ use catalogue::TypeInfo;
 use numbers::categories;
 use numbers::slots;
 ghost use mathlib.Core.Path.{_≡_};
-ghost use mathlib.Core.List.{List};
+ghost use mathlib.Core.List.{List, [], _∷_};
 ghost use Prim.Native.Nat.{ℕ, _+_, _/_, _%_, _^_, _<_};
-ghost use lib.Dec.{leb};
+ghost use lib.Dec.{eqb, leb};
 ghost use lib.ListN.{length, getD};
 ghost use Rattle.numbers.specs.Slots as Slots;
 ghost use Rattle.catalogue.specs.Catalogue.{catalogueOf};
 ghost use Rattle.catalogue.specs.Sound as Catalogue;
-ghost use Rattle.catalogue.specs.Lookups.{isKnown};
-ghost use Rattle.catalogue.specs.Answers.{slotOf};
+ghost use Rattle.catalogue.specs.Answers.{infoOf, slotOf};
 ghost use Rattle.fit.specs.Fit.{fitOf};
 ghost use Rattle.fit.specs.Sound as Fit;
 ghost use Rattle.context.specs.Context.{isFitted, isIn, isOnHull, isModuleCategory};
-ghost use Rattle.context.specs.Gathered.{pairCount, pairAt, contextOf, slotIn, Below, ShipOf};
-ghost use Rattle.context.specs.Gathered.{groupsAt, factCount, Pairs, Gathered};
-ghost use Rattle.context.specs.Gathered.{KnownWords, UnknownWords, WordsOf, fill, listOfWords, Before};
+ghost use Rattle.context.specs.Gathered.{pairCount, pairAt, slotIn, ofHalves, infoOfWords, infoAt, typeIn, answerOf};
+ghost use Rattle.context.specs.Gathered.{groupsAt, knownsAt, placeCount, factCount, Kept, Pairs, Before, Gathered};
+ghost use Rattle.context.specs.Gathered.{fill, listOfWords, Only, TypePut, MarksPut, Below};
 
-// What a call gathers stands in one array of words: where each result's attributes begin, and what the catalogue says of the type of the
-// ship and of each pair: whether it is there, and, as the rules read it, group 0, category 0 and no volume where it is not. A slot of 8
-// is none.
-const SHIP_GROUP: usize = 259;
+// What a call gathers stands in one array of words: where each result's attributes begin, then sections of 257, with a place for each
+// pair and the last for the ship. They keep what the catalogue says of a type: whether it is there, and of one that is there its group,
+// its category and its volume. Of a type that it lacks none of these is put. A slot of 8 is none.
+const SHIP: usize = 256;
 
-const SHIP_CATEGORY: usize = 260;
+const GROUPS: usize = 259;
 
-const SHIP_KNOWN: usize = 261;
-
-const GROUPS: usize = 262;
-
-const CATEGORIES: usize = 518;
-
-const RACKS: usize = 774;
-
-const HARDPOINTS: usize = 1030;
+const CATEGORIES: usize = 516;
 
 // The two halves of a volume's bits.
-const LOWS: usize = 1286;
+const LOWS: usize = 773;
 
-const HIGHS: usize = 1542;
+const HIGHS: usize = 1030;
 
-const KNOWNS: usize = 1798;
+// 1 where the type is there.
+const KNOWNS: usize = 1287;
+
+// Those of the pairs alone.
+const RACKS: usize = 1544;
+
+const HARDPOINTS: usize = 1801;
 
 // So many hints has a list: four searches in step fill them just ahead of use. A hall, whose fits name the same types again, has more.
 pub const LIST_HINTS: usize = 64;
 
-// What is kept of a pair's type; `known` is 1 where the catalogue has it.
+// What is kept of a type that is there.
 struct TypeWords {
     group: u32,
     category: u32,
-    rack: u32,
-    hardpoint: u32,
     low: u32,
     high: u32,
-    known: u32,
-}
-
-// What is kept of the ship's type.
-struct ShipWords {
-    group: u32,
-    category: u32,
-    known: u32,
 }
 
 // A slot as a word.
@@ -91,85 +78,56 @@ fn high(x: u64) -> u32
     (x / 4294967296) as u32
 }
 
-// Of a type that is there.
-fn known_words(info: TypeInfo, marks: SlotMarks) -> TypeWords
-    requires { ⌜ Below 8 (slotOf (marks .rack)) × Below 8 (slotOf (marks .hardpoint)) ⌝ }
-    ensures { λ r. ⌜ KnownWords info marks r ⌝ }
+fn words_of(info: TypeInfo) -> TypeWords
+    ensures { λ r. ⌜ infoOfWords (r .group) (r .category) (r .low) (r .high) ≡ info ⌝ }
 {
-    let rack = marks.rack;
-    let hardpoint = marks.hardpoint;
     let volume = floats::f64_bits(info.volume);
     TypeWords {
         group: image::bits(info.group),
         category: image::bits(info.category),
-        rack: code(rack),
-        hardpoint: code(hardpoint),
         low: low(volume),
         high: high(volume),
-        known: 1,
-    }
-}
-
-// Of a type that the catalogue lacks: its marks alone, which stand by its id.
-fn unknown_words(marks: SlotMarks) -> TypeWords
-    requires { ⌜ Below 8 (slotOf (marks .rack)) × Below 8 (slotOf (marks .hardpoint)) ⌝ }
-    ensures { λ r. ⌜ UnknownWords marks r ⌝ }
-{
-    let rack = marks.rack;
-    let hardpoint = marks.hardpoint;
-    TypeWords {
-        group: 0,
-        category: 0,
-        rack: code(rack),
-        hardpoint: code(hardpoint),
-        low: 0,
-        high: 0,
-        known: 0,
-    }
-}
-
-fn words_of(catalogue: &[u8], id: i32, hints: &mut [u32]) -> TypeWords
-    requires { ⌜ Catalogue.Sound (now catalogue) ⌝ }
-    ensures { λ r. ⌜ WordsOf (catalogueOf (now (catalogue .entry))) id r ⌝ }
-{
-    let marks = catalogue::slots_of(catalogue, id, hints);
-    let answer = catalogue::type_of(catalogue, id, hints);
-    match answer {
-        TypeAnswer::Known(info) => known_words(info, marks),
-        TypeAnswer::Unknown => unknown_words(marks),
-    }
-}
-
-fn ship_words(catalogue: &[u8], id: i32, hints: &mut [u32]) -> ShipWords
-    requires { ⌜ Catalogue.Sound (now catalogue) ⌝ }
-    ensures { λ r. ⌜ ShipOf (catalogueOf (now (catalogue .entry))) id r ⌝ }
-{
-    let answer = catalogue::type_of(catalogue, id, hints);
-    match answer {
-        TypeAnswer::Known(info) => ShipWords {
-            group: image::bits(info.group),
-            category: image::bits(info.category),
-            known: 1,
-        },
-        TypeAnswer::Unknown => ShipWords {
-            group: 0,
-            category: 0,
-            known: 0,
-        },
     }
 }
 
 fn put_words(facts: &mut [u32], i: usize, w: TypeWords)
-    requires { ⌜ (length (now facts) ≡ factCount) × (i < 256) ⌝ }
+    requires { ⌜ (length (now facts) ≡ factCount) × (i < placeCount) ⌝ }
     ensures { λ r. ⌜ now (facts .exit) ≡ fill (now (facts .entry)) i groupsAt (listOfWords w) ⌝ }
 {
     facts[GROUPS + i] = w.group;
     facts[CATEGORIES + i] = w.category;
-    facts[RACKS + i] = w.rack;
-    facts[HARDPOINTS + i] = w.hardpoint;
     facts[LOWS + i] = w.low;
     facts[HIGHS + i] = w.high;
-    facts[KNOWNS + i] = w.known;
+    facts[KNOWNS + i] = 1;
+}
+
+fn put_missing(facts: &mut [u32], i: usize)
+    requires { ⌜ (length (now facts) ≡ factCount) × (i < placeCount) ⌝ }
+    ensures { λ r. ⌜ now (facts .exit) ≡ fill (now (facts .entry)) i knownsAt (0 ∷ []) ⌝ }
+{
+    facts[KNOWNS + i] = 0;
+}
+
+// What the lookup answered of a type, at its place.
+fn put_type(facts: &mut [u32], i: usize, answer: TypeAnswer)
+    requires { ⌜ (length (now facts) ≡ factCount) × (i < placeCount) ⌝ }
+    ensures { λ r. ⌜ TypePut i (infoOf answer) (now (facts .entry)) (now (facts .exit)) ⌝ }
+{
+    match answer {
+        TypeAnswer::Known(info) => put_words(facts, i, words_of(info)),
+        TypeAnswer::Unknown => put_missing(facts, i),
+    }
+}
+
+fn put_marks(facts: &mut [u32], i: usize, marks: SlotMarks)
+    requires { ⌜ (length (now facts) ≡ factCount) × (i < placeCount) ⌝ }
+    requires { ⌜ Below 8 (slotOf (marks .rack)) × Below 8 (slotOf (marks .hardpoint)) ⌝ }
+    ensures { λ r. ⌜ MarksPut i marks (now (facts .entry)) (now (facts .exit)) ⌝ }
+{
+    let rack = marks.rack;
+    let hardpoint = marks.hardpoint;
+    facts[RACKS + i] = code(rack);
+    facts[HARDPOINTS + i] = code(hardpoint);
 }
 
 // At every fourth pair the next four are looked for at once. A hall, which has more hints than a list, looks for none twice.
@@ -193,6 +151,19 @@ fn seek_pairs(catalogue: &[u8], fit: &[u8], i: usize, hints: &mut [u32])
     catalogue::seek_links(catalogue, a, b, c, d, hints);
 }
 
+// The facts of pair i, whose type has this id: the marks stand by it, whether the type is there or not.
+fn gather_pair(catalogue: &[u8], id: i32, i: usize, hints: &mut [u32], facts: &mut [u32])
+    requires { ⌜ Catalogue.Sound (now catalogue) × (length (now facts) ≡ factCount) × (i < placeCount) ⌝ }
+    ensures { λ r.
+        let c = catalogueOf (now (catalogue .entry)) in
+        ⌜ Kept c id i (now (facts .exit)) × Only i groupsAt 7 (now (facts .entry)) (now (facts .exit)) ⌝ }
+{
+    let marks = catalogue::slots_of(catalogue, id, hints);
+    put_marks(facts, i, marks);
+    let answer = catalogue::type_of(catalogue, id, hints);
+    put_type(facts, i, answer);
+}
+
 // The facts of all pairs; what stands before them stays.
 fn gather_pairs(catalogue: &[u8], fit: &[u8], hints: &mut [u32], facts: &mut [u32])
     requires { ⌜ Catalogue.Sound (now catalogue) × Fit.Sound (now fit) × (length (now facts) ≡ factCount) ⌝ }
@@ -205,24 +176,21 @@ fn gather_pairs(catalogue: &[u8], fit: &[u8], hints: &mut [u32], facts: &mut [u3
     let mut i: usize = 0;
     while i < n {
         seek_pairs(catalogue, fit, i, hints);
-        let w = words_of(catalogue, fit::item_type(fit, i), hints);
-        put_words(facts, i, w);
+        gather_pair(catalogue, fit::item_type(fit, i), i, hints, facts);
         i += 1;
     }
 }
 
 // `hints` are those of `catalogue::type_of`.
-pub fn gather(catalogue: &[u8], fit: &[u8], hints: &mut [u32]) -> [u32; 2054]
+pub fn gather(catalogue: &[u8], fit: &[u8], hints: &mut [u32]) -> [u32; 2058]
     requires { ⌜ Catalogue.Sound (now catalogue) × Fit.Sound (now fit) ⌝ }
     ensures { λ r. ⌜ Gathered (now (catalogue .entry)) (now (fit .entry)) r ⌝ }
 {
-    let mut facts = [0u32; 2054];
+    let mut facts = [0u32; 2058];
     fit::find_starts(fit, &mut facts);
-    let ship = ship_words(catalogue, fit::ship(fit), hints);
-    facts[SHIP_GROUP] = ship.group;
-    facts[SHIP_CATEGORY] = ship.category;
-    facts[SHIP_KNOWN] = ship.known;
     gather_pairs(catalogue, fit, hints, &mut facts);
+    let answer = catalogue::type_of(catalogue, fit::ship(fit), hints);
+    put_type(&mut facts, SHIP, answer);
     facts
 }
 
@@ -241,7 +209,7 @@ pub fn is_module_category(category: i32) -> bool
 
 // ---- what was gathered
 
-fn word(facts: &[u32; 2054], at: usize) -> u32
+fn word(facts: &[u32; 2058], at: usize) -> u32
     requires { ⌜ at < factCount ⌝ }
     ensures { λ r. ⌜ r ≡ getD (now (facts .entry)) at 0 ⌝ }
 {
@@ -255,43 +223,63 @@ fn slot_in(w: u32) -> u8
     if w < 8 { w as u8 } else { 8 }
 }
 
-pub fn ship_group(catalogue: &[u8], fit: &[u8], facts: &[u32; 2054]) -> i32
-    requires { ⌜ Gathered (now catalogue) (now fit) (now facts) ⌝ }
-    ensures { λ r. ⌜ r ≡ contextOf (now (catalogue .entry)) (now (fit .entry)) .group ⌝ }
+fn of_halves(lower: u32, upper: u32) -> f64
+    ensures { λ r. ⌜ r ≡ ofHalves lower upper ⌝ }
 {
-    image::signed(word(facts, SHIP_GROUP))
+    floats::of_bits64((lower as u64) + 4294967296 * (upper as u64))
 }
 
-pub fn ship_category(catalogue: &[u8], fit: &[u8], facts: &[u32; 2054]) -> i32
-    requires { ⌜ Gathered (now catalogue) (now fit) (now facts) ⌝ }
-    ensures { λ r. ⌜ r ≡ contextOf (now (catalogue .entry)) (now (fit .entry)) .category ⌝ }
+fn info_in(facts: &[u32; 2058], place: usize) -> TypeInfo
+    requires { ⌜ place < placeCount ⌝ }
+    ensures { λ r. ⌜ r ≡ infoAt (now (facts .entry)) place ⌝ }
 {
-    image::signed(word(facts, SHIP_CATEGORY))
+    let lower = word(facts, LOWS + place);
+    let upper = word(facts, HIGHS + place);
+    TypeInfo {
+        group: image::signed(word(facts, GROUPS + place)),
+        category: image::signed(word(facts, CATEGORIES + place)),
+        volume: of_halves(lower, upper),
+    }
 }
 
-pub fn ship_is_known(catalogue: &[u8], fit: &[u8], facts: &[u32; 2054]) -> bool
-    requires { ⌜ Gathered (now catalogue) (now fit) (now facts) ⌝ }
-    ensures { λ r. ⌜ r ≡ isKnown (catalogueOf (now (catalogue .entry))) (fitOf (now (fit .entry)) .frame .ship) ⌝ }
+fn is_kept(facts: &[u32; 2058], place: usize) -> bool
+    requires { ⌜ place < placeCount ⌝ }
+    ensures { λ r. ⌜ r ≡ eqb (getD (now (facts .entry)) (knownsAt + place) 0) 1 ⌝ }
 {
-    word(facts, SHIP_KNOWN) == 1
+    word(facts, KNOWNS + place) == 1
 }
 
-pub fn group(catalogue: &[u8], fit: &[u8], facts: &[u32; 2054], i: usize) -> i32
+// What was kept of the type at a place.
+fn type_in(facts: &[u32; 2058], place: usize) -> TypeAnswer
+    requires { ⌜ place < placeCount ⌝ }
+    ensures { λ r. ⌜ infoOf r ≡ typeIn (now (facts .entry)) place ⌝ }
+{
+    if is_kept(facts, place) {
+        return TypeAnswer::Known(info_in(facts, place));
+    }
+    TypeAnswer::Unknown
+}
+
+// What the lookup answered of the ship's type.
+pub fn ship_type(catalogue: &[u8], fit: &[u8], facts: &[u32; 2058]) -> TypeAnswer
+    requires { ⌜ Gathered (now catalogue) (now fit) (now facts) ⌝ }
+    ensures { λ r. ⌜ infoOf r ≡ answerOf (catalogueOf (now (catalogue .entry))) (fitOf (now (fit .entry)) .frame .ship) ⌝ }
+{
+    type_in(facts, SHIP)
+}
+
+// What it answered of the type of pair i.
+pub fn type_at(catalogue: &[u8], fit: &[u8], facts: &[u32; 2058], i: usize) -> TypeAnswer
     requires { ⌜ Gathered (now catalogue) (now fit) (now facts) × (i < pairCount (now fit)) ⌝ }
-    ensures { λ r. ⌜ r ≡ pairAt (now (catalogue .entry)) (now (fit .entry)) i .group ⌝ }
+    ensures { λ r.
+        let c = now (catalogue .entry) in
+        ⌜ infoOf r ≡ answerOf (catalogueOf c) (pairAt c (now (fit .entry)) i .type) ⌝ }
 {
-    image::signed(word(facts, GROUPS + i))
-}
-
-pub fn category(catalogue: &[u8], fit: &[u8], facts: &[u32; 2054], i: usize) -> i32
-    requires { ⌜ Gathered (now catalogue) (now fit) (now facts) × (i < pairCount (now fit)) ⌝ }
-    ensures { λ r. ⌜ r ≡ pairAt (now (catalogue .entry)) (now (fit .entry)) i .category ⌝ }
-{
-    image::signed(word(facts, CATEGORIES + i))
+    type_in(facts, i)
 }
 
 // The rack that pair i asks for; 8 and above are none.
-pub fn rack(catalogue: &[u8], fit: &[u8], facts: &[u32; 2054], i: usize) -> u8
+pub fn rack(catalogue: &[u8], fit: &[u8], facts: &[u32; 2058], i: usize) -> u8
     requires { ⌜ Gathered (now catalogue) (now fit) (now facts) × (i < pairCount (now fit)) ⌝ }
     ensures { λ r. ⌜ slotIn r ≡ pairAt (now (catalogue .entry)) (now (fit .entry)) i .rack ⌝ }
 {
@@ -299,28 +287,11 @@ pub fn rack(catalogue: &[u8], fit: &[u8], facts: &[u32; 2054], i: usize) -> u8
 }
 
 // The hardpoint that it takes; 8 and above are none.
-pub fn hardpoint(catalogue: &[u8], fit: &[u8], facts: &[u32; 2054], i: usize) -> u8
+pub fn hardpoint(catalogue: &[u8], fit: &[u8], facts: &[u32; 2058], i: usize) -> u8
     requires { ⌜ Gathered (now catalogue) (now fit) (now facts) × (i < pairCount (now fit)) ⌝ }
     ensures { λ r. ⌜ slotIn r ≡ pairAt (now (catalogue .entry)) (now (fit .entry)) i .hardpoint ⌝ }
 {
     slot_in(word(facts, HARDPOINTS + i))
-}
-
-pub fn volume(catalogue: &[u8], fit: &[u8], facts: &[u32; 2054], i: usize) -> f64
-    requires { ⌜ Gathered (now catalogue) (now fit) (now facts) × (i < pairCount (now fit)) ⌝ }
-    ensures { λ r. ⌜ r ≡ pairAt (now (catalogue .entry)) (now (fit .entry)) i .volume ⌝ }
-{
-    floats::of_bits64((word(facts, LOWS + i) as u64) + 4294967296 * (word(facts, HIGHS + i) as u64))
-}
-
-// Whether the catalogue has the type of pair i.
-pub fn is_known(catalogue: &[u8], fit: &[u8], facts: &[u32; 2054], i: usize) -> bool
-    requires { ⌜ Gathered (now catalogue) (now fit) (now facts) × (i < pairCount (now fit)) ⌝ }
-    ensures { λ r.
-        let c = now (catalogue .entry) in
-        ⌜ r ≡ isKnown (catalogueOf c) (pairAt c (now (fit .entry)) i .type) ⌝ }
-{
-    word(facts, KNOWNS + i) == 1
 }
 
 // ---- where a pair is

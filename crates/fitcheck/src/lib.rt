@@ -94,7 +94,7 @@ fn counted_list(
     catalogue: &[u8],
     fit: &[u8],
     profile: &[u8],
-    facts: &[u32; 2054],
+    facts: &[u32; 2058],
     hints: &mut [u32],
     out: &mut [u8],
 ) -> u64

@@ -1,5 +1,6 @@
 // Which items go on which ship: Rust's `validate/item.rs`, all but its limits, which `limits` has.
 use catalogue::AttributeId;
+use catalogue::TypeAnswer;
 use entry::Entry;
 use entry::Rule;
 use entry::Target;
@@ -8,18 +9,19 @@ use numbers::categories;
 use numbers::names;
 use numbers::slots;
 ghost use mathlib.Core.Path.{_≡_};
-ghost use mathlib.Core.Bool.{not, _&&_, _||_};
+ghost use mathlib.Core.Bool.{false, not, _&&_, _||_};
 ghost use mathlib.Core.List.{List};
 ghost use Prim.Native.Nat.{ℕ, _+_, _*_, _/_, _<_, _≤_};
 ghost use lib.ListN.{length};
 ghost use lib.Ieee.{ne};
-ghost use Rattle.words.specs.Words.{anyOf, table};
+ghost use lib.IntN.{pos};
+ghost use Rattle.words.specs.Words.{anyOf, table, given, same};
 ghost use Rattle.numbers.specs.Sizes.{mostPairs};
 ghost use Rattle.floats.specs.Floats.{zeroF};
 ghost use Rattle.keys.specs.Keys.{keyAt};
 ghost use Rattle.catalogue.specs.Catalogue.{catalogueOf};
 ghost use Rattle.catalogue.specs.Lookups.{nameId};
-ghost use Rattle.catalogue.specs.Answers.{idOf};
+ghost use Rattle.catalogue.specs.Answers.{idOf, infoOf};
 ghost use Rattle.catalogue.specs.Sound as Catalogue;
 ghost use Rattle.fit.specs.Fit.{resultCount, resultOf};
 ghost use Rattle.fit.specs.Lookups.{amount};
@@ -160,7 +162,7 @@ fn standup_ids(catalogue: &[u8]) -> [u64; 3]
 
 fn rig_size_at(
     fit: &[u8],
-    facts: &[u32; 2054],
+    facts: &[u32; 2058],
     id: i32,
     ship: f64,
     i: usize,
@@ -191,7 +193,7 @@ fn rig_size_at(
 pub fn rig_size(
     catalogue: &[u8],
     fit: &[u8],
-    facts: &[u32; 2054],
+    facts: &[u32; 2058],
     out: &mut [u8],
     n: usize,
 ) -> usize
@@ -257,14 +259,14 @@ fn any_flagged(ids: &[u8], flags: &[bool; 8192]) -> bool
 }
 
 // Whether a result may list ships: most list none, and need no search for each of the 33 ids.
-fn may_list(fit: &[u8], facts: &[u32; 2054], j: usize, flags: &[bool; 8192]) -> bool
+fn may_list(fit: &[u8], facts: &[u32; 2058], j: usize, flags: &[bool; 8192]) -> bool
     requires { ⌜ Fit.Sound (now fit) × Starts (now fit) (now facts) × (j < resultCount (now fit) + 2) ⌝ }
     ensures { λ r. ⌜ r ≡ anyFlagged (now (flags .entry)) (resultOf (now (fit .entry)) j) ⌝ }
 {
     any_flagged(fit::ids_of(fit, facts, j), flags)
 }
 
-fn listed_under(fit: &[u8], facts: &[u32; 2054], j: usize, code: u64, id: i32) -> Listing
+fn listed_under(fit: &[u8], facts: &[u32; 2058], j: usize, code: u64, id: i32) -> Listing
     requires { ⌜ Fit.Sound (now fit) × Starts (now fit) (now facts) × (j < resultCount (now fit) + 2) ⌝ }
     ensures { λ r. ⌜ ListingOf id (listedUnder (resultOf (now (fit .entry)) j) (idIn code)) r ⌝ }
 {
@@ -289,7 +291,7 @@ fn listed_under(fit: &[u8], facts: &[u32; 2054], j: usize, code: u64, id: i32) -
 }
 
 // What the item lists under a set of attributes; nothing for an item that goes on any ship.
-fn listed(fit: &[u8], facts: &[u32; 2054], j: usize, codes: &[u64], id: i32) -> Listing
+fn listed(fit: &[u8], facts: &[u32; 2058], j: usize, codes: &[u64], id: i32) -> Listing
     requires { ⌜ Fit.Sound (now fit) × Starts (now fit) (now facts) × (j < resultCount (now fit) + 2) ⌝ }
     ensures { λ r. ⌜ ListingOf id (listedIn (resultOf (now (fit .entry)) j) (now (codes .entry))) r ⌝ }
 {
@@ -318,10 +320,20 @@ fn lists_others(types: Listing, groups: Listing) -> bool
     words::either(types.any, groups.any)
 }
 
+// The group by which an item names a ship. It names one that the catalogue lacks by 0.
+fn group_named(ship: TypeAnswer) -> i32
+    ensures { λ r. ⌜ r ≡ given (infoOf ship) (pos 0) (λ x. x .group) ⌝ }
+{
+    match ship {
+        TypeAnswer::Known(info) => info.group,
+        TypeAnswer::Unknown => 0,
+    }
+}
+
 fn is_restricted(
     catalogue: &[u8],
     fit: &[u8],
-    facts: &[u32; 2054],
+    facts: &[u32; 2058],
     types: &[u64; 13],
     groups: &[u64; 20],
     flags: &[bool; 8192],
@@ -340,7 +352,7 @@ fn is_restricted(
         return false;
     }
     let ship = fit::ship(fit);
-    let group = context::ship_group(catalogue, fit, facts);
+    let group = group_named(context::ship_type(catalogue, fit, facts));
     let of_types = listed(fit, facts, i + 2, types, ship);
     let of_groups = listed(fit, facts, i + 2, groups, group);
     lists_others(of_types, of_groups)
@@ -349,7 +361,7 @@ fn is_restricted(
 pub fn ship_restricted(
     catalogue: &[u8],
     fit: &[u8],
-    facts: &[u32; 2054],
+    facts: &[u32; 2058],
     out: &mut [u8],
     n: usize,
 ) -> usize
@@ -377,18 +389,28 @@ pub fn ship_restricted(
     m
 }
 
-fn is_structure(catalogue: &[u8], fit: &[u8], facts: &[u32; 2054]) -> bool
+// Whether a type is of a category. One that the catalogue lacks is of none.
+fn is_of(answer: TypeAnswer, category: i32) -> bool
+    ensures { λ r. ⌜ r ≡ given (infoOf answer) false (λ x. same (x .category) category) ⌝ }
+{
+    match answer {
+        TypeAnswer::Known(info) => words::same_id(info.category, category),
+        TypeAnswer::Unknown => false,
+    }
+}
+
+fn is_structure(catalogue: &[u8], fit: &[u8], facts: &[u32; 2058]) -> bool
     requires { ⌜ Gathered (now catalogue) (now fit) (now facts) ⌝ }
     ensures { λ r. ⌜ r ≡ isStructure (contextOf (now (catalogue .entry)) (now (fit .entry))) ⌝ }
 {
-    words::same_id(
-        context::ship_category(catalogue, fit, facts),
+    is_of(
+        context::ship_type(catalogue, fit, facts),
         categories::STRUCTURE,
     )
 }
 
 // A capital ship, or a structure.
-fn takes_capitals(catalogue: &[u8], fit: &[u8], facts: &[u32; 2054], capital: i32) -> bool
+fn takes_capitals(catalogue: &[u8], fit: &[u8], facts: &[u32; 2058], capital: i32) -> bool
     requires { ⌜ Gathered (now catalogue) (now fit) (now facts) ⌝ }
     ensures { λ r.
         let x = contextOf (now (catalogue .entry)) (now (fit .entry)) in
@@ -401,7 +423,7 @@ fn takes_capitals(catalogue: &[u8], fit: &[u8], facts: &[u32; 2054], capital: i3
 }
 
 // A capital rig is held apart by its rig size instead.
-fn is_capital_item(fit: &[u8], facts: &[u32; 2054], volume: i32, i: usize) -> bool
+fn is_capital_item(fit: &[u8], facts: &[u32; 2058], volume: i32, i: usize) -> bool
     requires { ⌜ Fit.Sound (now fit) × Starts (now fit) (now facts) × (i < pairCount (now fit)) ⌝ }
     ensures { λ r. ⌜ ((catalogue : List ℕ) → r ≡ isCapitalItem volume (pairAt catalogue (now (fit .entry)) i)) ⌝ }
 {
@@ -416,7 +438,7 @@ fn is_capital_item(fit: &[u8], facts: &[u32; 2054], volume: i32, i: usize) -> bo
 
 fn capital_item_at(
     fit: &[u8],
-    facts: &[u32; 2054],
+    facts: &[u32; 2058],
     volume: i32,
     i: usize,
     out: &mut [u8],
@@ -442,7 +464,7 @@ fn capital_item_at(
 pub fn capital_item(
     catalogue: &[u8],
     fit: &[u8],
-    facts: &[u32; 2054],
+    facts: &[u32; 2058],
     out: &mut [u8],
     n: usize,
 ) -> usize
@@ -473,7 +495,7 @@ pub fn capital_item(
     m
 }
 
-fn marked_under(fit: &[u8], facts: &[u32; 2054], j: usize, code: u64) -> bool
+fn marked_under(fit: &[u8], facts: &[u32; 2058], j: usize, code: u64) -> bool
     requires { ⌜ Fit.Sound (now fit) × Starts (now fit) (now facts) × (j < resultCount (now fit) + 2) ⌝ }
     ensures { λ r. ⌜ r ≡ markedUnder (resultOf (now (fit .entry)) j) (idIn code) ⌝ }
 {
@@ -484,7 +506,7 @@ fn marked_under(fit: &[u8], facts: &[u32; 2054], j: usize, code: u64) -> bool
     fit::amount(fit, facts, j, attribute_id) != 0.0
 }
 
-fn is_marked(fit: &[u8], facts: &[u32; 2054], j: usize, codes: &[u64]) -> bool
+fn is_marked(fit: &[u8], facts: &[u32; 2058], j: usize, codes: &[u64]) -> bool
     requires { ⌜ Fit.Sound (now fit) × Starts (now fit) (now facts) × (j < resultCount (now fit) + 2) ⌝ }
     ensures { λ r. ⌜ r ≡ markedIn (resultOf (now (fit .entry)) j) (now (codes .entry)) ⌝ }
 {
@@ -501,7 +523,7 @@ fn is_marked(fit: &[u8], facts: &[u32; 2054], j: usize, codes: &[u64]) -> bool
 fn is_standup(
     catalogue: &[u8],
     fit: &[u8],
-    facts: &[u32; 2054],
+    facts: &[u32; 2058],
     markers: &[u64; 3],
     i: usize,
 ) -> bool
@@ -511,10 +533,8 @@ fn is_standup(
         let x = contextOf (now (catalogue .entry)) (now (fit .entry)) in
         ⌜ r ≡ isStandup x (pairAt (now (catalogue .entry)) (now (fit .entry)) i) ⌝ }
 {
-    if words::same_id(
-        context::category(catalogue, fit, facts, i),
-        categories::STRUCTURE_MODULE,
-    ) {
+    let answer = context::type_at(catalogue, fit, facts, i);
+    if is_of(answer, categories::STRUCTURE_MODULE) {
         return true;
     }
     is_marked(fit, facts, i + 2, markers)
@@ -523,7 +543,7 @@ fn is_standup(
 fn standup_at(
     catalogue: &[u8],
     fit: &[u8],
-    facts: &[u32; 2054],
+    facts: &[u32; 2058],
     markers: &[u64; 3],
     i: usize,
     out: &mut [u8],
@@ -549,7 +569,7 @@ fn standup_at(
     entry::emit_when(out, n, standup, Entry { target, rule })
 }
 
-pub fn standup(catalogue: &[u8], fit: &[u8], facts: &[u32; 2054], out: &mut [u8], n: usize) -> usize
+pub fn standup(catalogue: &[u8], fit: &[u8], facts: &[u32; 2058], out: &mut [u8], n: usize) -> usize
     requires { ⌜ Gathered (now catalogue) (now fit) (now facts) × Room n mostPairs ⌝ }
     ensures { λ r.
         let x = contextOf (now (catalogue .entry)) (now (fit .entry)) in
@@ -570,7 +590,7 @@ pub fn standup(catalogue: &[u8], fit: &[u8], facts: &[u32; 2054], out: &mut [u8]
 pub fn validate(
     catalogue: &[u8],
     fit: &[u8],
-    facts: &[u32; 2054],
+    facts: &[u32; 2058],
     out: &mut [u8],
     n: usize,
 ) -> usize

@@ -1,4 +1,5 @@
 // The rules of a league: groups that its profile bans or prices. Document 02, P2.
+use catalogue::TypeAnswer;
 use entry::Entry;
 use entry::Rule;
 use entry::Target;
@@ -7,12 +8,14 @@ ghost use mathlib.Core.Path.{_≡_};
 ghost use mathlib.Core.Bool.{cond};
 ghost use mathlib.Core.List.{List};
 ghost use Prim.Native.Nat.{ℕ, _+_, _≤_, _<_};
-ghost use Rattle.words.specs.Words.{when};
+ghost use lib.IntN.{pos};
+ghost use Rattle.words.specs.Words.{when, given};
 ghost use Rattle.numbers.specs.Sizes as Sizes;
 ghost use Rattle.numbers.specs.Sizes.{mostPairs};
 ghost use Rattle.profile.specs.Profile.{isBan, pricesOf, pointsOf};
 ghost use Rattle.profile.specs.Sound as Profile;
 ghost use Rattle.profile.specs.Sound.{Fair};
+ghost use Rattle.catalogue.specs.Answers.{infoOf};
 ghost use Rattle.fit.specs.Sound as Fit;
 ghost use Rattle.entry.specs.declared.Rule.the-variants.{Banned};
 ghost use Rattle.entry.specs.Entries.{onItem};
@@ -20,6 +23,16 @@ ghost use Rattle.entry.specs.Wrote.{Wrote, Room};
 ghost use Rattle.context.specs.Context.{isFitted};
 ghost use Rattle.context.specs.Gathered.{pairCount, pairAt, pairsOf, Gathered};
 ghost use Rattle.league.specs.League.{banned, points, league};
+
+// The group by which a profile bans and prices a type. It lists those that the catalogue lacks under 0.
+fn group_priced(answer: TypeAnswer) -> i32
+    ensures { λ r. ⌜ r ≡ given (infoOf answer) (pos 0) (λ x. x .group) ⌝ }
+{
+    match answer {
+        TypeAnswer::Known(info) => info.group,
+        TypeAnswer::Unknown => 0,
+    }
+}
 
 // The points of pair i, whose group is known; 0 where it is not fitted, as no rule asks for its group.
 fn price_at(profile: &[u8], fit: &[u8], group: i32, i: usize) -> u32
@@ -69,7 +82,7 @@ fn tally(
     profile: &[u8],
     catalogue: &[u8],
     fit: &[u8],
-    facts: &[u32; 2054],
+    facts: &[u32; 2058],
     out: &mut [u8],
     n: usize,
 ) -> Spent
@@ -85,7 +98,7 @@ fn tally(
     let mut points: u32 = 0;
     let mut i = 0;
     while i < count {
-        let group = context::group(catalogue, fit, facts, i);
+        let group = group_priced(context::type_at(catalogue, fit, facts, i));
         let price = price_at(profile, fit, group, i);
         k = banned_at(group, price, i, out, k);
         points += cost_of(price);
@@ -100,7 +113,7 @@ pub fn validate(
     allowance: u32,
     catalogue: &[u8],
     fit: &[u8],
-    facts: &[u32; 2054],
+    facts: &[u32; 2058],
     out: &mut [u8],
     n: usize,
 ) -> usize

@@ -1,12 +1,18 @@
--- A limit that an item has: an entry where more are used than it allows. One law for groups and types.
-use Prim.Native.Nat.{ℕ, zero, suc, _≤_}
-use mathlib.Core.Path.{_≡_, refl}
+-- The groups of the pairs, one more at a time; and a limit that an item has: an entry where more are used than it allows. One law for
+-- groups and types.
+use Prim.Native.Nat.{ℕ, zero, suc, _+_, _<_, _≤_}
+use native.Mathlib.Nat.{eq-or-lt-of-le, ne-of-lt}
+use native.Mathlib.Omega.{arith}
+use mathlib.Core.Path.{_≡_, refl, sym, subst, _∙_}
 use mathlib.Core.Bool.{Bool, true, false}
 use mathlib.Core.List.{List, map}
+use mathlib.Core.Logic.{⊎-elim}
 use mathlib.Core.Option.{Option, none, some}
 use lib.Dec.{ltb}
 use lib.Ieee.{Float}
-use lib.ListN.{length, getD}
+use lib.IntN.{pos}
+use lib.ListN.{length, getD, set}
+use lib.Seq.{getD-set-same, getD-set-other}
 use Rattle.words.specs.Words.{_>>=_, each, when, whenAbove, countOf}
 use Rattle.words.proofs.Lengths.{few-bind, few-above}
 use Rattle.numbers.specs.Names as Names
@@ -19,8 +25,24 @@ use Rattle.entry.specs.declared.Rule.the-variants.{MaxGroup, MaxType}
 use Rattle.entry.specs.Wrote.{Wrote}
 use Rattle.entry.proofs.Wrote.{wrote-unless, wrote-bind, wrote-bind-none}
 use Rattle.context.specs.Context.{Pair, Context, isFitted, on}
+use Rattle.context.specs.Gathered.{pairAt}
 use Rattle.limits.specs.declared.Row.{Row}
+use Rattle.limits.specs.Groups.{Grouped}
 use Rattle.limits.specs.Limits.{GROUP-LIMITS, rowAt, inGroup, groupLimitAt, groupLimit, groupLimits, ofType, typeLimitAt, typeLimit}
+
+-- one group more
+pub grouped-next : (catalogue fit : List ℕ) (groups : List Id) (i : ℕ) {group : Id} → i < length groups → Grouped i catalogue fit groups
+    → group ≡ pairAt catalogue fit i .group → Grouped (i + 1) catalogue fit (set groups i group)
+grouped-next catalogue fit groups i {group} h f e k q = ⊎-elim here before (eq-or-lt-of-le (omega (arith, q)))
+  where
+    At : ℕ → Type 0
+    At j = getD (set groups i group) j (pos 0) ≡ pairAt catalogue fit j .group
+
+    here : k ≡ i → At k
+    here p = subst At (sym p) (getD-set-same groups i group (pos 0) h ∙ e)
+
+    before : k < i → At k
+    before g = getD-set-other groups i k group (pos 0) (ne-of-lt g) ∙ f k g
 
 -- what both rules say of a pair
 limited : Option Float → Bool → ℕ → (ℕ → ℕ → Entry) → List Entry

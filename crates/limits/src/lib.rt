@@ -1,5 +1,6 @@
 // How many items of a group or a type a fit may have: the limits of Rust's `validate/item.rs`.
 use catalogue::AttributeId;
+use catalogue::TypeAnswer;
 use entry::Entry;
 use entry::Rule;
 use entry::Target;
@@ -10,12 +11,15 @@ use numbers::states;
 ghost use mathlib.Core.Path.{_≡_};
 ghost use mathlib.Core.List.{List};
 ghost use Prim.Native.Nat.{ℕ, _+_, _*_, _<_, _≤_};
-ghost use Rattle.words.specs.Words.{countOf};
+ghost use lib.IntN.{pos};
+ghost use Rattle.words.specs.Words.{countOf, given};
 ghost use Rattle.numbers.specs.Sizes.{mostPairs};
+ghost use Rattle.catalogue.specs.Answers.{infoOf};
 ghost use Rattle.fit.specs.Sound as Fit;
 ghost use Rattle.fit.specs.Sound.{Starts};
 ghost use Rattle.entry.specs.Wrote.{Room, Wrote};
 ghost use Rattle.context.specs.Gathered.{pairCount, pairAt, pairsOf, contextOf, Gathered};
+ghost use Rattle.limits.specs.Groups.{Groups};
 ghost use Rattle.limits.specs.Limits.{rowAt, inGroup, groupLimitAt, groupLimit, groupLimits};
 ghost use Rattle.limits.specs.Limits.{ofType, typeLimitAt, typeLimit, limitRules};
 
@@ -51,34 +55,60 @@ struct Limit {
     id: i32,
 }
 
+// The group that a type is counted in and that an entry shows. Those that the catalogue lacks are counted in 0.
+fn group_counted(answer: TypeAnswer) -> i32
+    ensures { λ r. ⌜ r ≡ given (infoOf answer) (pos 0) (λ x. x .group) ⌝ }
+{
+    match answer {
+        TypeAnswer::Known(info) => info.group,
+        TypeAnswer::Unknown => 0,
+    }
+}
+
+// The group of each pair, gathered once for all limits.
+fn groups(catalogue: &[u8], fit: &[u8], facts: &[u32; 2058]) -> [i32; 256]
+    requires { ⌜ Gathered (now catalogue) (now fit) (now facts) ⌝ }
+    ensures { λ r. ⌜ Groups (now (catalogue .entry)) (now (fit .entry)) r ⌝ }
+{
+    let count = fit::pair_count(fit);
+    let mut groups = [0i32; 256];
+    let mut i = 0;
+    while i < count {
+        let group = group_counted(context::type_at(catalogue, fit, facts, i));
+        groups[i] = group;
+        i += 1;
+    }
+    groups
+}
+
 // Whether a fitted pair of the group is in a state that the limit looks at. All is read before it is tested, so that the
 // compiler can take many pairs at once.
 fn in_group(
     catalogue: &[u8],
     fit: &[u8],
-    facts: &[u32; 2054],
+    groups: &[i32; 256],
     group: i32,
     lowest: u8,
     i: usize,
 ) -> bool
-    requires { ⌜ Gathered (now catalogue) (now fit) (now facts) × (i < pairCount (now fit)) ⌝ }
+    requires { ⌜ Fit.Sound (now fit) × Groups (now catalogue) (now fit) (now groups) × (i < pairCount (now fit)) ⌝ }
     ensures { λ r. ⌜ r ≡ inGroup group lowest (pairAt (now (catalogue .entry)) (now (fit .entry)) i) ⌝ }
 {
     let fitted = context::is_fitted_at(fit, i);
-    let alike = words::same_id(context::group(catalogue, fit, facts, i), group);
+    let alike = words::same_id(groups[i], group);
     let state = fit::result_state(fit, i + 2);
     words::both(words::both(fitted, alike), lowest <= state)
 }
 
-fn count_in_group(catalogue: &[u8], fit: &[u8], facts: &[u32; 2054], group: i32, lowest: u8) -> u32
-    requires { ⌜ Gathered (now catalogue) (now fit) (now facts) ⌝ }
+fn count_in_group(catalogue: &[u8], fit: &[u8], groups: &[i32; 256], group: i32, lowest: u8) -> u32
+    requires { ⌜ Fit.Sound (now fit) × Groups (now catalogue) (now fit) (now groups) ⌝ }
     ensures { λ r. ⌜ r ≡ countOf (inGroup group lowest) (pairsOf (now (catalogue .entry)) (now (fit .entry))) ⌝ }
 {
     let count = fit::pair_count(fit);
     let mut used: u32 = 0;
     let mut i = 0;
     while i < count {
-        used += words::one_if(in_group(catalogue, fit, facts, group, lowest, i));
+        used += words::one_if(in_group(catalogue, fit, groups, group, lowest, i));
         i += 1;
     }
     used
@@ -87,13 +117,15 @@ fn count_in_group(catalogue: &[u8], fit: &[u8], facts: &[u32; 2054], group: i32,
 fn group_limit_at(
     catalogue: &[u8],
     fit: &[u8],
-    facts: &[u32; 2054],
+    facts: &[u32; 2058],
+    groups: &[i32; 256],
     limit: Limit,
     i: usize,
     out: &mut [u8],
     n: usize,
 ) -> usize
     requires { ⌜ Gathered (now catalogue) (now fit) (now facts) × (i < pairCount (now fit)) × Room n 1 ⌝ }
+    requires { ⌜ Groups (now catalogue) (now fit) (now groups) ⌝ }
     ensures { λ r.
         let ps = pairsOf (now (catalogue .entry)) (now (fit .entry)) in
         let p = pairAt (now (catalogue .entry)) (now (fit .entry)) i in
@@ -106,8 +138,8 @@ fn group_limit_at(
     if !context::is_fitted_at(fit, i) {
         return n;
     }
-    let group = context::group(catalogue, fit, facts, i);
-    let used = count_in_group(catalogue, fit, facts, group, limit.lowest);
+    let group = groups[i];
+    let used = count_in_group(catalogue, fit, groups, group, limit.lowest);
     let allowed = floats::to_u32(value);
     entry::emit_when(
         out,
@@ -123,12 +155,14 @@ fn group_limit_at(
 fn group_limit(
     catalogue: &[u8],
     fit: &[u8],
-    facts: &[u32; 2054],
+    facts: &[u32; 2058],
+    groups: &[i32; 256],
     k: usize,
     out: &mut [u8],
     n: usize,
 ) -> usize
     requires { ⌜ Gathered (now catalogue) (now fit) (now facts) × (k < 3) × Room n mostPairs ⌝ }
+    requires { ⌜ Groups (now catalogue) (now fit) (now groups) ⌝ }
     ensures { λ r.
         let x = contextOf (now (catalogue .entry)) (now (fit .entry)) in
         let ps = pairsOf (now (catalogue .entry)) (now (fit .entry)) in
@@ -148,7 +182,7 @@ fn group_limit(
             lowest: row.lowest,
             id,
         };
-        m = group_limit_at(catalogue, fit, facts, limit, i, out, m);
+        m = group_limit_at(catalogue, fit, facts, groups, limit, i, out, m);
         i += 1;
     }
     m
@@ -157,7 +191,7 @@ fn group_limit(
 pub fn group_limits(
     catalogue: &[u8],
     fit: &[u8],
-    facts: &[u32; 2054],
+    facts: &[u32; 2058],
     out: &mut [u8],
     n: usize,
 ) -> usize
@@ -167,10 +201,11 @@ pub fn group_limits(
         let ps = pairsOf (now (catalogue .entry)) (now (fit .entry)) in
         ⌜ Wrote (now (out .entry)) n (now (out .exit)) r (groupLimits x ps) × (r ≤ n + 3 * mostPairs) ⌝ }
 {
+    let groups = groups(catalogue, fit, facts);
     let mut m = n;
     let mut k = 0;
     while k < 3 {
-        m = group_limit(catalogue, fit, facts, k, out, m);
+        m = group_limit(catalogue, fit, facts, &groups, k, out, m);
         k += 1;
     }
     m
@@ -201,7 +236,7 @@ fn count_of_type(fit: &[u8], id: i32) -> u32
 
 fn type_limit_at(
     fit: &[u8],
-    facts: &[u32; 2054],
+    facts: &[u32; 2058],
     id: i32,
     i: usize,
     out: &mut [u8],
@@ -238,7 +273,7 @@ fn type_limit_at(
 pub fn type_limit(
     catalogue: &[u8],
     fit: &[u8],
-    facts: &[u32; 2054],
+    facts: &[u32; 2058],
     out: &mut [u8],
     n: usize,
 ) -> usize
@@ -265,7 +300,7 @@ pub fn type_limit(
 pub fn validate(
     catalogue: &[u8],
     fit: &[u8],
-    facts: &[u32; 2054],
+    facts: &[u32; 2058],
     out: &mut [u8],
     n: usize,
 ) -> usize

@@ -1,4 +1,5 @@
 // The whole list of a fit: the Rust's, then the rules that document 02 adds behind a hull's.
+use catalogue::TypeAnswer;
 use entry::Entry;
 use entry::Rule;
 use entry::Target;
@@ -25,7 +26,7 @@ pub const MOST_ENTRIES: usize = validate::MOST_ENTRIES + sizes::MOST_PAIRS + 1 +
 fn unknown_type_at(
     catalogue: &[u8],
     fit: &[u8],
-    facts: &[u32; 2054],
+    facts: &[u32; 2058],
     i: usize,
     out: &mut [u8],
     n: usize,
@@ -35,23 +36,26 @@ fn unknown_type_at(
         let p = pairAt (now (catalogue .entry)) (now (fit .entry)) i in
         ⌜ Wrote (now (out .entry)) n (now (out .exit)) r (unknownTypeAt (catalogueOf (now (catalogue .entry))) p) ⌝ }
 {
-    let known = context::is_known(catalogue, fit, facts, i);
-    entry::emit_when(
-        out,
-        n,
-        !known,
-        Entry {
-            target: Target::Item(i as u32),
-            rule: Rule::UnknownType(fit::item_type(fit, i)),
-        },
-    )
+    let id = fit::item_type(fit, i);
+    let answer = context::type_at(catalogue, fit, facts, i);
+    match answer {
+        TypeAnswer::Known(info) => n,
+        TypeAnswer::Unknown => entry::emit(
+            out,
+            n,
+            Entry {
+                target: Target::Item(i as u32),
+                rule: Rule::UnknownType(id),
+            },
+        ),
+    }
 }
 
 // Rule 26 by pair, whatever its slot.
 fn unknown_types(
     catalogue: &[u8],
     fit: &[u8],
-    facts: &[u32; 2054],
+    facts: &[u32; 2058],
     out: &mut [u8],
     n: usize,
 ) -> usize
@@ -82,7 +86,7 @@ fn rust_list(
     reader: u32,
     catalogue: &[u8],
     fit: &[u8],
-    facts: &[u32; 2054],
+    facts: &[u32; 2058],
     hints: &mut [u32],
     out: &mut [u8],
 ) -> usize
@@ -104,7 +108,7 @@ pub fn write(
     catalogue: &[u8],
     fit: &[u8],
     profile: &[u8],
-    facts: &[u32; 2054],
+    facts: &[u32; 2058],
     hints: &mut [u32],
     out: &mut [u8],
 ) -> usize

@@ -78,7 +78,7 @@ fn in_rack(fit: &[u8], slot: u8) -> u32
 }
 
 // Whether pair i is fitted and takes a hardpoint.
-fn takes_hardpoint(catalogue: &[u8], fit: &[u8], facts: &[u32; 2054], slot: u8, i: usize) -> bool
+fn takes_hardpoint(catalogue: &[u8], fit: &[u8], facts: &[u32; 2058], slot: u8, i: usize) -> bool
     requires { ⌜ Gathered (now catalogue) (now fit) (now facts) × (i < pairCount (now fit)) × (slot < 8) ⌝ }
     ensures { λ r. ⌜ r ≡ takesHardpoint slot (pairAt (now (catalogue .entry)) (now (fit .entry)) i) ⌝ }
 {
@@ -89,7 +89,7 @@ fn takes_hardpoint(catalogue: &[u8], fit: &[u8], facts: &[u32; 2054], slot: u8, 
 }
 
 // How many pairs take a hardpoint.
-fn on_hardpoint(catalogue: &[u8], fit: &[u8], facts: &[u32; 2054], slot: u8) -> u32
+fn on_hardpoint(catalogue: &[u8], fit: &[u8], facts: &[u32; 2058], slot: u8) -> u32
     requires { ⌜ Gathered (now catalogue) (now fit) (now facts) × (slot < 8) ⌝ }
     ensures { λ r. ⌜ r ≡ countOf (takesHardpoint slot) (pairsOf (now (catalogue .entry)) (now (fit .entry))) ⌝ }
 {
@@ -114,7 +114,7 @@ struct Count {
 fn report(
     catalogue: &[u8],
     fit: &[u8],
-    facts: &[u32; 2054],
+    facts: &[u32; 2058],
     count: Count,
     out: &mut [u8],
     n: usize,
@@ -146,7 +146,7 @@ fn report(
 fn rack_at(
     catalogue: &[u8],
     fit: &[u8],
-    facts: &[u32; 2054],
+    facts: &[u32; 2058],
     i: usize,
     out: &mut [u8],
     n: usize,
@@ -166,7 +166,7 @@ fn rack_at(
     report(catalogue, fit, facts, count, out, n)
 }
 
-fn racks(catalogue: &[u8], fit: &[u8], facts: &[u32; 2054], out: &mut [u8], n: usize) -> usize
+fn racks(catalogue: &[u8], fit: &[u8], facts: &[u32; 2058], out: &mut [u8], n: usize) -> usize
     requires { ⌜ Gathered (now catalogue) (now fit) (now facts) × Room n 6 ⌝ }
     ensures { λ r.
         let x = contextOf (now (catalogue .entry)) (now (fit .entry)) in
@@ -185,7 +185,7 @@ fn racks(catalogue: &[u8], fit: &[u8], facts: &[u32; 2054], out: &mut [u8], n: u
 fn hardpoint_at(
     catalogue: &[u8],
     fit: &[u8],
-    facts: &[u32; 2054],
+    facts: &[u32; 2058],
     i: usize,
     out: &mut [u8],
     n: usize,
@@ -205,7 +205,7 @@ fn hardpoint_at(
     report(catalogue, fit, facts, count, out, n)
 }
 
-fn hardpoints(catalogue: &[u8], fit: &[u8], facts: &[u32; 2054], out: &mut [u8], n: usize) -> usize
+fn hardpoints(catalogue: &[u8], fit: &[u8], facts: &[u32; 2058], out: &mut [u8], n: usize) -> usize
     requires { ⌜ Gathered (now catalogue) (now fit) (now facts) × Room n 2 ⌝ }
     ensures { λ r.
         let x = contextOf (now (catalogue .entry)) (now (fit .entry)) in
@@ -225,7 +225,7 @@ fn hardpoints(catalogue: &[u8], fit: &[u8], facts: &[u32; 2054], out: &mut [u8],
 pub fn validate(
     catalogue: &[u8],
     fit: &[u8],
-    facts: &[u32; 2054],
+    facts: &[u32; 2058],
     out: &mut [u8],
     n: usize,
 ) -> usize

@@ -2,3 +2,4 @@
 pub mod Sums
 pub mod Rows
 pub mod Named
+pub mod Rooms

@@ -1,5 +1,6 @@
 // What the ship has only so much of: validate/resource.rs.
 use catalogue::AttributeId;
+use catalogue::TypeAnswer;
 use entry::Entry;
 use entry::Rule;
 use entry::Target;
@@ -105,7 +106,7 @@ fn resource(kind: u8, load: Load, out: &mut [u8], n: usize) -> usize
 }
 
 // What is used of a resource and how much the ship has of it.
-fn load_on_ship(fit: &[u8], facts: &[u32; 2054], load: i32, output: i32) -> Load
+fn load_on_ship(fit: &[u8], facts: &[u32; 2058], load: i32, output: i32) -> Load
     requires { ⌜ Fit.Sound (now fit) × Fit.Starts (now fit) (now facts) ⌝ }
     ensures { λ r.
         let ship = amount (resultOf (now (fit .entry)) 0) in
@@ -121,7 +122,7 @@ fn load_on_ship(fit: &[u8], facts: &[u32; 2054], load: i32, output: i32) -> Load
 fn load_row(
     catalogue: &[u8],
     fit: &[u8],
-    facts: &[u32; 2054],
+    facts: &[u32; 2058],
     row: Row,
     out: &mut [u8],
     n: usize,
@@ -145,7 +146,7 @@ fn load_row(
 fn load_at(
     catalogue: &[u8],
     fit: &[u8],
-    facts: &[u32; 2054],
+    facts: &[u32; 2058],
     i: usize,
     out: &mut [u8],
     n: usize,
@@ -158,7 +159,7 @@ fn load_at(
     load_row(catalogue, fit, facts, LOADS[i], out, n)
 }
 
-fn loads(catalogue: &[u8], fit: &[u8], facts: &[u32; 2054], out: &mut [u8], n: usize) -> usize
+fn loads(catalogue: &[u8], fit: &[u8], facts: &[u32; 2058], out: &mut [u8], n: usize) -> usize
     requires { ⌜ Gathered (now catalogue) (now fit) (now facts) × Room n 10 ⌝ }
     ensures { λ r.
         let x = contextOf (now (catalogue .entry)) (now (fit .entry)) in
@@ -215,7 +216,7 @@ fn drones_load(fit: &[u8], available: f64) -> Load
 fn launched_drones(
     catalogue: &[u8],
     fit: &[u8],
-    facts: &[u32; 2054],
+    facts: &[u32; 2058],
     out: &mut [u8],
     n: usize,
 ) -> usize
@@ -237,8 +238,21 @@ fn launched_drones(
     }
 }
 
+// The room that pair i takes up in the cargo bay. A type that the catalogue lacks takes up none.
+fn room_at(catalogue: &[u8], fit: &[u8], facts: &[u32; 2058], i: usize) -> f64
+    requires { ⌜ Gathered (now catalogue) (now fit) (now facts) × (i < pairCount (now fit)) ⌝ }
+    ensures { λ r. ⌜ r ≡ cargoVolume (pairAt (now (catalogue .entry)) (now (fit .entry)) i) ⌝ }
+{
+    let quantity = fit::item_quantity(fit, i);
+    let answer = context::type_at(catalogue, fit, facts, i);
+    match answer {
+        TypeAnswer::Known(info) => info.volume * floats::of_u32(quantity),
+        TypeAnswer::Unknown => 0.0,
+    }
+}
+
 // The cargo so far with what pair i adds to it.
-fn cargo_with(catalogue: &[u8], fit: &[u8], facts: &[u32; 2054], sum: f64, i: usize) -> f64
+fn cargo_with(catalogue: &[u8], fit: &[u8], facts: &[u32; 2058], sum: f64, i: usize) -> f64
     requires { ⌜ Gathered (now catalogue) (now fit) (now facts) × (i < pairCount (now fit)) ⌝ }
     ensures { λ r.
         let p = pairAt (now (catalogue .entry)) (now (fit .entry)) i in
@@ -248,11 +262,11 @@ fn cargo_with(catalogue: &[u8], fit: &[u8], facts: &[u32; 2054], sum: f64, i: us
     if slot != slots::CARGO {
         return sum;
     }
-    sum + context::volume(catalogue, fit, facts, i) * floats::of_u32(fit::item_quantity(fit, i))
+    sum + room_at(catalogue, fit, facts, i)
 }
 
 // What the cargo takes up and how much the ship holds. Cargo is not calculated, so what it takes up comes from the type itself.
-fn cargo_load(catalogue: &[u8], fit: &[u8], facts: &[u32; 2054], capacity: i32) -> Load
+fn cargo_load(catalogue: &[u8], fit: &[u8], facts: &[u32; 2058], capacity: i32) -> Load
     requires { ⌜ Gathered (now catalogue) (now fit) (now facts) ⌝ }
     ensures { λ r. ⌜
         (r .used ≡ cargoUsed (pairsOf (now (catalogue .entry)) (now (fit .entry))))
@@ -272,7 +286,7 @@ fn cargo_load(catalogue: &[u8], fit: &[u8], facts: &[u32; 2054], capacity: i32) 
     }
 }
 
-fn cargo(catalogue: &[u8], fit: &[u8], facts: &[u32; 2054], out: &mut [u8], n: usize) -> usize
+fn cargo(catalogue: &[u8], fit: &[u8], facts: &[u32; 2058], out: &mut [u8], n: usize) -> usize
     requires { ⌜ Gathered (now catalogue) (now fit) (now facts) × Room n 1 ⌝ }
     ensures { λ r.
         let x = contextOf (now (catalogue .entry)) (now (fit .entry)) in
@@ -295,7 +309,7 @@ fn cargo(catalogue: &[u8], fit: &[u8], facts: &[u32; 2054], out: &mut [u8], n: u
 pub fn validate(
     catalogue: &[u8],
     fit: &[u8],
-    facts: &[u32; 2054],
+    facts: &[u32; 2058],
     out: &mut [u8],
     n: usize,
 ) -> usize

@@ -5,9 +5,11 @@ use mathlib.Core.Bool.{Bool, true, false, not, _&&_, _||_, cond}
 use mathlib.Core.List.{List, []}
 use mathlib.Core.Option.{none, some}
 use lib.Dec.{eqb, leb, ltb}
-use Rattle.words.specs.Words.{_>>=_, table, when, whenAny, anyOf, same}
+use Rattle.words.specs.Words.{_>>=_, table, when, whenAny, anyOf, given, same}
 use Rattle.numbers.specs.Slots as Slots
 use Rattle.numbers.specs.Categories as Categories
+use Rattle.catalogue.specs.Catalogue.{Id}
+use Rattle.catalogue.specs.Answers.{infoOf}
 use Rattle.entry.specs.declared.Entry.{Entry}
 use Rattle.entry.specs.declared.Rule.{Rule}
 use Rattle.entry.specs.declared.Rule.the-variants.{WrongSlot, NotAModule, NotADrone, NotAFighter, NotAnImplant, SlotTaken, WrongSlotIndex}
@@ -17,6 +19,7 @@ use Rattle.entry.proofs.Wrote.{wrote-same}
 use Rattle.context.specs.Context.{Pair, Context, isFitted, isIn, isFighterSlot, isModuleCategory}
 use Rattle.context.specs.Gathered.{slotIn, pairCount, pairAt, pairsOf}
 use Rattle.context.proofs.Pairs.{pairs-table}
+use Rattle.context.proofs.Types.{passes}
 use Rattle.slot.specs.declared.Item.{Item}
 use Rattle.slot.specs.declared.Expected.the-variants.{Index, Nothing}
 use Rattle.slot.specs.Slot.{wrongSlot, notAModule, notADrone, notAFighter, notAnImplant, slotTaken, wrongSlotIndex}
@@ -36,6 +39,13 @@ module _ (item : Item) where
   abbrev pub isMisplaced : Bool
   isMisplaced = ltb (item .rack) 8 && (leb (item .slot) Slots.service && not (eqb (item .slot) (item .rack)))
 
+  -- what the type is, if it is there
+  abbrev pub isOf : Id → Bool
+  isOf category = given (infoOf (item .answer)) false (λ x. same (x .category) category)
+
+  abbrev pub isRacked : Bool
+  isRacked = given (infoOf (item .answer)) false (λ x. isModuleCategory (x .category))
+
   abbrev told : Rule → Entry
   told rule = onItem (item .position) rule
 
@@ -46,24 +56,24 @@ module _ (item : Item) where
         slot-shown (item .rack) (λ s. leb (item .slot) Slots.service && not (eqb (item .slot) s)) (λ s. told (WrongSlot s))
         ∙ rw (h .rack, h .slot, h .position)
 
-    pub not-a-module-is : when (leb (item .slot) Slots.service && not (isModuleCategory (item .category))) (told NotAModule) ≡ notAModule x p
-    unfolding notAModule isFitted
-    not-a-module-is = rw (h .slot, h .category, h .position)
+    pub not-a-module-is : when (leb (item .slot) Slots.service && not isRacked) (told NotAModule) ≡ notAModule x p
+    unfolding notAModule isFitted isModuleCategory same
+    not-a-module-is = rw (h .slot, passes isModuleCategory refl (infoOf (item .answer)) (h .category), h .position)
 
-    pub not-a-drone-is : when (eqb (item .slot) Slots.droneBay && not (same (item .category) Categories.drone)) (told NotADrone)
+    pub not-a-drone-is : when (eqb (item .slot) Slots.droneBay && not (isOf Categories.drone)) (told NotADrone)
         ≡ notADrone x p
-    unfolding notADrone isIn
-    not-a-drone-is = rw (h .slot, h .category, h .position)
+    unfolding notADrone isIn same
+    not-a-drone-is = rw (h .slot, passes (λ c. same c Categories.drone) refl (infoOf (item .answer)) (h .category), h .position)
 
     pub not-a-fighter-is : {t : Bool} → t ≡ eqb (item .slot) Slots.fighterTube || eqb (item .slot) Slots.fighterBay
-        → when (t && not (same (item .category) Categories.fighter)) (told NotAFighter) ≡ notAFighter x p
-    unfolding notAFighter isFighterSlot isIn
-    not-a-fighter-is e = rw (e, h .slot, h .category, h .position)
+        → when (t && not (isOf Categories.fighter)) (told NotAFighter) ≡ notAFighter x p
+    unfolding notAFighter isFighterSlot isIn same
+    not-a-fighter-is e = rw (e, h .slot, passes (λ c. same c Categories.fighter) refl (infoOf (item .answer)) (h .category), h .position)
 
     pub not-an-implant-is : {t : Bool} → t ≡ eqb (item .slot) Slots.implant || eqb (item .slot) Slots.booster
-        → when (t && not (same (item .category) Categories.implant)) (told NotAnImplant) ≡ notAnImplant x p
-    unfolding notAnImplant isIn
-    not-an-implant-is e = rw (e, h .slot, h .category, h .position)
+        → when (t && not (isOf Categories.implant)) (told NotAnImplant) ≡ notAnImplant x p
+    unfolding notAnImplant isIn same
+    not-an-implant-is e = rw (e, h .slot, passes (λ c. same c Categories.implant) refl (infoOf (item .answer)) (h .category), h .position)
 
     pub slot-taken-is : when (item .taken) (told SlotTaken) ≡ slotTaken x ps p
     unfolding slotTaken whenAny

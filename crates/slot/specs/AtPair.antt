@@ -3,12 +3,13 @@ use Prim.Native.Nat.{ℕ, _+_, _*_, _<_, _≤_}
 use mathlib.Core.Path.{_≡_}
 use mathlib.Core.Bool.{_&&_}
 use mathlib.Core.List.{List, [], _∷_}
+use lib.IntN.{pos}
 use lib.ListN.{getD}
-use Rattle.words.specs.Words.{when, anyOf}
+use Rattle.words.specs.Words.{when, anyOf, given}
 use Rattle.numbers.specs.Names as Names
 use Rattle.catalogue.specs.Catalogue.{catalogueOf}
 use Rattle.catalogue.specs.Lookups.{nameId}
-use Rattle.catalogue.specs.Answers.{idOf}
+use Rattle.catalogue.specs.Answers.{idOf, infoOf}
 use Rattle.fit.specs.Fit.{itemAt}
 use Rattle.entry.specs.declared.Entry.{Entry}
 use Rattle.entry.specs.declared.Rule.the-variants.{WrongSlotIndex, SubsystemTaken}
@@ -48,7 +49,7 @@ expects p (Index index) = on p (WrongSlotIndex index) ∷ []
 pub record Holds (x : Context) (ps : List Pair) (p : Pair) (item : Item) : Type 0 where
   pub position : item .position ≡ p .position
   pub slot : item .slot ≡ p .slot
-  pub category : item .category ≡ p .category
+  pub category : given (infoOf (item .answer)) (pos 0) (λ x. x .category) ≡ p .category
   pub rack : slotIn (item .rack) ≡ p .rack
   pub taken : item .taken ≡ (holdsOne p && anyOf (sharesSlot p) ps)
   pub expected : expects p (item .expected) ≡ wrongSlotIndex x p

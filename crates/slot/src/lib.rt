@@ -1,5 +1,6 @@
 // What sits in the slots of a ship, and whether it may: validate/slot.rs, the checks of an item. How many there are is counted in `racks`.
 use catalogue::AttributeId;
+use catalogue::TypeAnswer;
 use entry::Entry;
 use entry::Rule;
 use entry::Target;
@@ -17,13 +18,13 @@ ghost use Rattle.words.specs.Words.{when, given, anyOf, same};
 ghost use Rattle.numbers.specs.Sizes.{mostPairs};
 ghost use Rattle.floats.specs.Values.{valueOf};
 ghost use Rattle.catalogue.specs.Lookups.{nameId};
-ghost use Rattle.catalogue.specs.Answers.{idOf};
+ghost use Rattle.catalogue.specs.Answers.{idOf, infoOf};
 ghost use Rattle.catalogue.specs.Sound as Catalogue;
 ghost use Rattle.fit.specs.Sound as Fit;
 ghost use Rattle.entry.specs.declared.Rule.the-variants.{SubsystemTaken};
 ghost use Rattle.entry.specs.Entries.{onItem};
 ghost use Rattle.entry.specs.Wrote.{Wrote, Room};
-ghost use Rattle.context.specs.Context.{on};
+ghost use Rattle.context.specs.Context.{isModuleCategory, on};
 ghost use Rattle.context.specs.Gathered.{pairCount, pairAt, pairsOf, contextOf, Gathered};
 ghost use Rattle.slot.specs.Slot.{wrongSlot, notAModule, notADrone, notAFighter, notAnImplant, slotNumberName, wrongSlotIndex};
 ghost use Rattle.slot.specs.Slot.{holdsOne, sharesSlot, sharesPart, subsystemTaken, slotChecks, slotRules};
@@ -145,7 +146,7 @@ enum Expected {
 fn wrong_slot_index(
     catalogue: &[u8],
     fit: &[u8],
-    facts: &[u32; 2054],
+    facts: &[u32; 2058],
     ids: Ids,
     i: usize,
 ) -> Expected
@@ -181,7 +182,7 @@ fn is_part(value: Value, part: f64) -> bool
 }
 
 // Whether pair j is a subsystem for the part, and another than pair i.
-fn same_part(fit: &[u8], facts: &[u32; 2054], id: i32, part: f64, i: usize, j: usize) -> bool
+fn same_part(fit: &[u8], facts: &[u32; 2058], id: i32, part: f64, i: usize, j: usize) -> bool
     requires { ⌜ Fit.Sound (now fit) × Fit.Starts (now fit) (now facts) × (j < pairCount (now fit)) ⌝ }
     ensures { λ r.
         let f = now (fit .entry) in
@@ -197,7 +198,7 @@ fn same_part(fit: &[u8], facts: &[u32; 2054], id: i32, part: f64, i: usize, j: u
 }
 
 // Whether another subsystem than pair i is for the part.
-fn shares_part(fit: &[u8], facts: &[u32; 2054], id: i32, part: f64, i: usize) -> bool
+fn shares_part(fit: &[u8], facts: &[u32; 2058], id: i32, part: f64, i: usize) -> bool
     requires { ⌜ Fit.Sound (now fit) × Fit.Starts (now fit) (now facts) ⌝ }
     ensures { λ r.
         let f = now (fit .entry) in
@@ -214,7 +215,7 @@ fn shares_part(fit: &[u8], facts: &[u32; 2054], id: i32, part: f64, i: usize) ->
 }
 
 // Every subsystem covers one part of the ship, and only one may.
-fn subsystem_taken(catalogue: &[u8], fit: &[u8], facts: &[u32; 2054], ids: Ids, i: usize) -> bool
+fn subsystem_taken(catalogue: &[u8], fit: &[u8], facts: &[u32; 2058], ids: Ids, i: usize) -> bool
     requires { ⌜ Gathered (now catalogue) (now fit) (now facts) × Named (now catalogue) ids × (i < pairCount (now fit)) ⌝ }
     ensures { λ r.
         let x = contextOf (now (catalogue .entry)) (now (fit .entry)) in
@@ -236,11 +237,31 @@ fn subsystem_taken(catalogue: &[u8], fit: &[u8], facts: &[u32; 2054], ids: Ids, 
     shares_part(fit, facts, id, part, i)
 }
 
+// Whether a type is of a category. One that the catalogue lacks is of none.
+fn is_of(answer: TypeAnswer, category: i32) -> bool
+    ensures { λ r. ⌜ r ≡ given (infoOf answer) false (λ x. same (x .category) category) ⌝ }
+{
+    match answer {
+        TypeAnswer::Known(info) => words::same_id(info.category, category),
+        TypeAnswer::Unknown => false,
+    }
+}
+
+// Whether a type goes into a rack. One that the catalogue lacks does not.
+fn is_module(answer: TypeAnswer) -> bool
+    ensures { λ r. ⌜ r ≡ given (infoOf answer) false (λ x. isModuleCategory (x .category)) ⌝ }
+{
+    let TypeAnswer::Known(info) = answer else {
+        return false;
+    };
+    context::is_module_category(info.category)
+}
+
 // What the checks look at of a pair. A rack of 8 or above is none; `taken` is its slot, `covered` its part of the ship, by another.
 struct Item {
     position: u32,
     slot: u8,
-    category: i32,
+    answer: TypeAnswer,
     rack: u8,
     taken: bool,
     expected: Expected,
@@ -250,7 +271,7 @@ struct Item {
 fn item_at(
     catalogue: &[u8],
     fit: &[u8],
-    facts: &[u32; 2054],
+    facts: &[u32; 2058],
     places: &[u32; 256],
     ids: Ids,
     i: usize,
@@ -266,7 +287,7 @@ fn item_at(
     Item {
         position: i as u32,
         slot: fit::item_slot(fit, i),
-        category: context::category(catalogue, fit, facts, i),
+        answer: context::type_at(catalogue, fit, facts, i),
         rack: context::rack(catalogue, fit, facts, i),
         taken: slot_taken(fit, places, i),
         expected: wrong_slot_index(catalogue, fit, facts, ids, i),
@@ -301,10 +322,11 @@ fn push_unless(
 ) -> usize
     requires { ⌜ Room n 1 ⌝ }
     ensures { λ r.
-        let test = there && not (same (item .category) category) in
+        let test = there && not (given (infoOf (item .answer)) false (λ x. same (x .category) category)) in
         ⌜ Wrote (now (out .entry)) n (now (out .exit)) r (when test (onItem (item .position) rule)) × (r ≤ n + 1) ⌝ }
 {
-    let test = words::both(there, !words::same_id(item.category, category));
+    let answer = item.answer;
+    let test = words::both(there, !is_of(answer, category));
     push_when(item, test, rule, out, n)
 }
 
@@ -327,10 +349,8 @@ fn not_a_module(item: Item, out: &mut [u8], n: usize) -> usize
     requires { ⌜ Room n 1 ⌝ }
     ensures { λ r. ⌜ Checked 1 item (λ x ps p. notAModule x p) (now (out .entry)) n (now (out .exit)) r ⌝ }
 {
-    let test = words::both(
-        context::is_fitted(item.slot),
-        !context::is_module_category(item.category),
-    );
+    let answer = item.answer;
+    let test = words::both(context::is_fitted(item.slot), !is_module(answer));
     push_when(item, test, Rule::NotAModule, out, n)
 }
 
@@ -401,7 +421,7 @@ fn slot_checks(item: Item, out: &mut [u8], n: usize) -> usize
 pub fn validate(
     catalogue: &[u8],
     fit: &[u8],
-    facts: &[u32; 2054],
+    facts: &[u32; 2058],
     out: &mut [u8],
     n: usize,
 ) -> usize

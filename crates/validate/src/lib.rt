@@ -50,16 +50,15 @@ fn is_hull_kind(category: i32, group: i32) -> bool
 }
 
 // Whether the ship is one: a ship, structure or container. A type that the catalogue lacks is none.
-pub fn is_hull(catalogue: &[u8], fit: &[u8], facts: &[u32; 2054]) -> bool
+pub fn is_hull(catalogue: &[u8], fit: &[u8], facts: &[u32; 2058]) -> bool
     requires { ⌜ Gathered (now catalogue) (now fit) (now facts) ⌝ }
     ensures { λ r. ⌜ r ≡ isHull (catalogueOf (now (catalogue .entry))) (fitOf (now (fit .entry)) .frame .ship) ⌝ }
 {
-    if !context::ship_is_known(catalogue, fit, facts) {
-        return false;
+    let answer = context::ship_type(catalogue, fit, facts);
+    match answer {
+        TypeAnswer::Known(info) => is_hull_kind(info.category, info.group),
+        TypeAnswer::Unknown => false,
     }
-    let category = context::ship_category(catalogue, fit, facts);
-    let group = context::ship_group(catalogue, fit, facts);
-    is_hull_kind(category, group)
 }
 
 // Whether the type is a tactical mode.
@@ -177,7 +176,7 @@ fn kind(catalogue: &[u8], fit: &[u8], hints: &mut [u32], out: &mut [u8], n: usiz
 }
 
 // resource.rs, slot.rs and item.rs.
-fn hull_rules(catalogue: &[u8], fit: &[u8], facts: &[u32; 2054], out: &mut [u8], n: usize) -> usize
+fn hull_rules(catalogue: &[u8], fit: &[u8], facts: &[u32; 2058], out: &mut [u8], n: usize) -> usize
     requires { ⌜ Gathered (now catalogue) (now fit) (now facts) × Room n (12 + 8 + 16 * mostPairs) ⌝ }
     ensures { λ r.
         let x = contextOf (now (catalogue .entry)) (now (fit .entry)) in
@@ -209,7 +208,7 @@ fn not_a_hull(out: &mut [u8]) -> usize
 pub fn validate(
     catalogue: &[u8],
     fit: &[u8],
-    facts: &[u32; 2054],
+    facts: &[u32; 2058],
     hints: &mut [u32],
     out: &mut [u8],
 ) -> usize
@@ -226,7 +225,7 @@ pub fn validate(
 }
 
 // The list of a fit as if it listed no skills: none is looked up.
-pub fn without_skills(catalogue: &[u8], fit: &[u8], facts: &[u32; 2054], out: &mut [u8]) -> usize
+pub fn without_skills(catalogue: &[u8], fit: &[u8], facts: &[u32; 2058], out: &mut [u8]) -> usize
     requires { ⌜ Gathered (now catalogue) (now fit) (now facts) ⌝ }
     ensures { λ r.
         let f = fitOf (now (fit .entry)) in

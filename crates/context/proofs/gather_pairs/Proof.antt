@@ -1,17 +1,17 @@
 -- `context::gather_pairs` meets its contract. The invariant: the first i pairs have been gathered, and what stands before is as it was.
 use Prim.Native.Nat.{ℕ, _+_, _-_, _≤_, _<_}
 use native.Mathlib.Omega.{arith}
-use mathlib.Core.Path.{_≡_, refl, ap, subst, sym, _∙_}
+use mathlib.Core.Path.{_≡_, refl, subst, sym, _∙_}
 use borrow.Author.Needs.{needs}
+use lib.IntN.{ℤ}
 use lib.ListN.{length}
 use mir.Syntax.{w32}
 use mir.Val.{toZ, ofZ}
 use mir.ValLaws.{toZ-ofZ}
 use Rattle.catalogue.specs.Catalogue.{catalogueOf}
-use Rattle.catalogue.specs.Lookups.{isKnown, groupOf, categoryOf, volumeOf, rackOf, hardpointOf}
 use Rattle.fit.specs.Fit.{itemAt}
-use Rattle.context.specs.Gathered.{pairCount, groupsAt, factCount, Pairs, Before}
-use Rattle.context.proofs.Filling.{pairs-none, pairs-more, before-more, size-more}
+use Rattle.context.specs.Gathered.{pairCount, groupsAt, factCount, Kept, Pairs, Before}
+use Rattle.context.proofs.Filling.{pairs-none, pairs-more}
 use Rattle.context.proofs.gather_pairs.Statement.{statement}
 use Rattle.context.proofs.gather_pairs.Tie as tie
 
@@ -28,36 +28,34 @@ loop-holds c =
     let s = c .before .before .before .before .before in
     (omega arith, c .pair-count .ensures, s .pre .2, pairs-none _ _ _, λ j h. refl, refl)
 
-put-words-requires : tie.Need-put-words-requires Inv-loop μ-loop
-put-words-requires c κs =
-    let l = c .before .before .before .before .before .before .before .before .before .before .before .loop in
-    let s = c .before .before .before .before .before .before .before .before .before .before .before .before .before .before .before .before .before in (l .inv .2, omega (arith, s .pre .1 .sized .items, l .inv .1, c .before .before .before .before .before .before .before .before .before .before .loop-test .taken))
+gather-pair-requires : tie.Need-gather-pair-requires Inv-loop μ-loop
+gather-pair-requires c κs =
+    let t = c .before .before .before .before .before .before .before in
+    let l = t .before .loop in
+    let s = t .before .before .before .before .before .before .before in
+    (s .pre .0, l .inv .2, omega (arith, s .pre .1 .sized .items, l .inv .1, t .loop-test .taken))
 
 loop-again : tie.Need-loop-again Inv-loop μ-loop
 loop-again c =
-    let l = c .before .before .before .before .before .before .before .before .before .before .before .before .before .before .loop in
-    let s = c .before .before .before .before .before .before .before .before .before .before .before .before .before .before .before .before .before .before .before .before in
+    let g = c .before .before .before .before in
+    let it = g .before .before .before .item-type in
+    let h = g .before .before .before .before .before in
+    let t = h .before .before .before in
+    let l = t .before .loop in
+    let s = t .before .before .before .before .before .before .before in
     let cat = s .args .catalogue .now in
     let fit = s .args .fit .now in
-    let k = catalogueOf cat in
-    let it = c .before .before .before .before .before .before .before .before .item-type in
-    let w = c .before .before .before .before .before .before .words-of in
-    let v = w .result in
-    let put = c .before .before .put-words .ensures in
-    let more = c .before .before .before .before .before .before .before .before .before .before .before .before .before .loop-test .taken in
+    let new = g .gather-pair .last .1 .1 .1 .1 .0 in
+    let more = t .loop-test .taken in
     let b : l .i < 256 = omega (arith, s .pre .1 .sized .items, l .inv .1, more) in
-    let id : toZ w32 (ofZ w32 (it .result)) ≡ itemAt fit (l .i) .type = toZ-ofZ w32 (it .result) (record { sfits = it .ok }) ∙ it .ensures in (
+    let id : toZ w32 (ofZ w32 (it .result)) ≡ itemAt fit (l .i) .type = toZ-ofZ w32 (it .result) (record { sfits = it .ok }) ∙ it .ensures in
+    let put = g .gather-pair .ensures in (
       omega (arith, more),
       l .inv .1,
-      ap length put ∙ size-more cat fit (l .facts) (l .i) _ _ _ _ _ _ _ b (l .inv .2),
-      subst (Pairs cat fit (l .i + 1)) (sym put)
-          (pairs-more cat fit (l .facts) (l .i) (v .group) (v .category) (v .rack) (v .hardpoint) (v .low) (v .high) (v .known) b (l .inv .2)
-          (w .ensures .group ∙ ap (groupOf k) id) (w .ensures .category ∙ ap (categoryOf k) id) (w .ensures .rack ∙ ap (rackOf k) id)
-          (w .ensures .hardpoint ∙ ap (hardpointOf k) id) (w .ensures .volume ∙ ap (volumeOf k) id)
-          (w .ensures .known ∙ ap (isKnown k) id) (l .inv .3)),
-      subst (Before groupsAt (s .args .facts .now)) (sym put)
-          (before-more cat fit (l .facts) (l .i) (v .group) (v .category) (v .rack) (v .hardpoint) (v .low) (v .high) (v .known) b (l .inv .2) (s .args .facts .now) (l .inv .4)),
-      c .before .before .before .before .before .hints2 .given ∙ c .before .before .before .before .before .before .before .before .before .before .hints .given ∙ l .inv .5,
+      c .before .facts .given ∙ l .inv .2,
+      pairs-more cat fit (l .facts) new (l .i) b (put .1) (subst (λ (z : ℤ). Kept (catalogueOf cat) z (l .i) new) id (put .0)) (l .inv .3),
+      λ j q. put .1 j (λ n m e. omega (arith, q, e)) ∙ l .inv .4 j q,
+      c .before .before .before .hints2 .given ∙ h .hints .given ∙ l .inv .5,
     )
 
 same-length : tie.Need-same-length Inv-loop μ-loop
@@ -83,8 +81,7 @@ gather-pairs-spec =
     loop-holds
     (λ c κs. search needs)
     (λ c κs. search needs)
-    (λ c κs. search needs)
-    put-words-requires
+    gather-pair-requires
     (λ c. omega arith)
     (λ c. omega arith)
     loop-again

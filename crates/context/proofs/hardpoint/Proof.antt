@@ -15,7 +15,7 @@ word-requires c κs = let s = c .before .before in omega (arith, s .pre .0 .fit-
 returns : tie.Need-returns
 returns c =
     let s = c .before .before .before .before in
-    c .slot-in .ensures ∙ ap slotIn (c .before .word .ensures) ∙ s .pre .0 .pairs .hardpoints (s .args .i) (s .pre .1)
+    c .slot-in .ensures ∙ ap slotIn (c .before .word .ensures) ∙ s .pre .0 .pairs (s .args .i) (s .pre .1) .hardpoint
 
 pub hardpoint-spec : {M : Type 1} → statement M
 hardpoint-spec = tie.close (tie.spec add-word word-requires (λ c κs. search needs) returns)

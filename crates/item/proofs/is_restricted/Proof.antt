@@ -4,9 +4,11 @@ use mathlib.Core.Bool.{false}
 use mir.Syntax.{w32}
 use mir.ValLaws.{toZ-ofZ}
 use borrow.Author.Tests.{not-true, not-false}
+use Rattle.catalogue.specs.Catalogue.{catalogueOf}
 use Rattle.fit.specs.Fit.{fitOf}
 use Rattle.context.specs.Context.{context}
 use Rattle.context.specs.Gathered.{contextOf, pairAt}
+use Rattle.context.proofs.Types.{told-group}
 use Rattle.item.specs.Item.{SHIP-TYPES, SHIP-GROUPS}
 use Rattle.item.specs.Flags.{anyFlagged}
 use Rattle.item.proofs.Listings.{listing-of, listed-codes}
@@ -42,7 +44,8 @@ returns-3 c =
     let g = c .before in
     let t = g .before .before in
     let q = t .before .before in
-    let k = q .before in
+    let y = q .before in
+    let k = y .before in
     let m = k .before .before in
     let f = m .before .before in
     let s = f .before .before .before in
@@ -50,7 +53,8 @@ returns-3 c =
     let x = contextOf (a .catalogue .now) (a .fit .now) in
     let p = pairAt (a .catalogue .now) (a .fit .now) (a .i) in
     let ship = toZ-ofZ w32 (k .ship .result) (record { sfits = k .ship .ok }) ∙ k .ship .ensures in
-    let group = toZ-ofZ w32 (q .ship-group .result) (record { sfits = q .ship-group .ok }) ∙ q .ship-group .ensures in
+    let group = toZ-ofZ w32 (q .group-named .result) (record { sfits = q .group-named .ok }) ∙ q .group-named .ensures
+    ∙ told-group (catalogueOf (a .catalogue .now)) (fitOf (a .fit .now) .frame .ship) (y .ship-type .ensures) in
     restricted-fitted x p (t .listed .result) (g .listed2 .result) (c .lists-others .result)
     (sym (f .is-fitted-at .ensures (a .catalogue .now)) ∙ not-false _ (m .before .if1 .left))
     (listing-of x p SHIP-TYPES (a .types .now) _ _ (t .listed .result) (s .pre .1 .types-known) ship (t .listed .ensures))
@@ -66,6 +70,7 @@ is-restricted-spec =
     (λ c. search needs)
     (λ c κs. search needs)
     returns-2
+    (λ c κs. search needs)
     (λ c κs. search needs)
     (λ c κs. search needs)
     (λ c. search needs)

@@ -1,23 +1,28 @@
 -- `item::is_standup` meets its contract: by category, or by a mark.
-use mathlib.Core.Path.{_≡_, sym, ap, _∙_}
-use lib.IntN.{ℤ}
-use mir.Syntax.{w32}
-use mir.ValLaws.{toZ-ofZ}
+use mathlib.Core.Path.{_≡_, refl, sym, _∙_}
 use Rattle.words.specs.Words.{same}
 use Rattle.numbers.specs.Categories as Categories
+use Rattle.catalogue.specs.Catalogue.{catalogueOf}
+use Rattle.catalogue.specs.Answers.{infoOf}
+use Rattle.fit.specs.Fit.{itemAt}
 use Rattle.context.specs.Context.{context}
 use Rattle.context.specs.Gathered.{contextOf, pairAt}
+use Rattle.context.proofs.Types.{told-category, passes}
 use Rattle.item.proofs.Marks.{standup-category, standup-marked}
 use borrow.Author.Needs.{needs}
 use Rattle.item.proofs.is_standup.Statement.{statement}
 use Rattle.item.proofs.is_standup.Tie as tie
 
--- the category that was gathered is the pair's
-told : (c : tie.After-same-id) → let a = c .before .before .before .before .args in
-    c .same-id .result ≡ same (pairAt (a .catalogue .now) (a .fit .now) (a .i) .category) Categories.structureModule
+-- a type that is not there is no structure module, as category 0 is none
+told : (c : tie.After-is-of) → let a = c .before .before .before .before .args in
+    c .is-of .result ≡ same (pairAt (a .catalogue .now) (a .fit .now) (a .i) .category) Categories.structureModule
+unfolding same
 told c =
-    let k = c .before .category in
-    c .same-id .ensures ∙ ap (λ (z : ℤ). same z Categories.structureModule) (toZ-ofZ w32 (k .result) (record { sfits = k .ok }) ∙ k .ensures)
+    let a = c .before .before .before .before .args in
+    let t = c .before .type-at in
+    c .is-of .ensures
+    ∙ passes (λ k. same k Categories.structureModule) refl (infoOf (t .result))
+    (told-category (catalogueOf (a .catalogue .now)) (itemAt (a .fit .now) (a .i) .type) (t .ensures))
 
 returns : tie.Need-returns
 returns c =

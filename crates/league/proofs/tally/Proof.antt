@@ -9,9 +9,12 @@ use borrow.Author.Needs.{needs}
 use Rattle.words.specs.Words.{table}
 use Rattle.numbers.specs.Sizes as Sizes
 use Rattle.profile.specs.Profile.{pricesOf}
+use Rattle.catalogue.specs.Catalogue.{catalogueOf}
+use Rattle.fit.specs.Fit.{itemAt}
 use Rattle.entry.proofs.Wrote.{wrote-same, wrote-length}
 use Rattle.context.specs.Gathered.{pairCount, pairAt}
 use Rattle.context.proofs.Pairs.{pairs-table}
+use Rattle.context.proofs.Types.{told-group}
 use Rattle.context.proofs.Loops.{Passed, passed-none, passed-more, passed-all}
 use Rattle.league.specs.League.{bannedAt, banned, points}
 use Rattle.league.proofs.Tallies.{banned-is, cost-is, banned-few, points-none, points-more}
@@ -32,13 +35,13 @@ loop-holds c = (passed-none _ _ _ _ _, sym (points-none _ _), omega arith)
 
 price-at-requires : tie.Need-price-at-requires Inv-loop μ-loop
 price-at-requires c κs =
-    let s = c .before .before .before .before .before .before .before .before in
+    let s = c .before .before .before .before .before .before .before .before .before in
     (s .pre .0, s .pre .1 .fit-sound, omega arith)
 
 banned-at-requires : tie.Need-banned-at-requires Inv-loop μ-loop
 banned-at-requires c κs =
-    let l = c .before .before .before .before .loop in
-    let s = c .before .before .before .before .before .before .before .before .before .before in
+    let l = c .before .before .before .before .before .loop in
+    let s = c .before .before .before .before .before .before .before .before .before .before .before in
     (omega (arith, s .pre .1 .fit-sound .sized .items), omega (arith, s .pre .1 .fit-sound .sized .items, l .inv .0 .few))
 
 cost-of-requires : tie.Need-cost-of-requires Inv-loop μ-loop
@@ -46,21 +49,26 @@ cost-of-requires c κs = c .before .before .before .before .price-at .ensures .1
 
 add-points : tie.Need-add-points Inv-loop μ-loop
 add-points c =
-    let l = c .before .before .before .before .before .before .before .before in
+    let l = c .before .before .before .before .before .before .before .before .before in
     let s = l .before .before .before .before .before .before in
     omega (arith, c .cost-of .ensures .1, l .loop .inv .2, s .pre .1 .fit-sound .sized .items, l .before .pair-count .ensures)
 
 -- the group of pair i, as the calls after it read it
-grouped : (c : tie.After-group Inv-loop μ-loop) → let a = c .before .before .before .before .before .before .before .before .args in
-    toZ w32 (ofZ w32 (c .group .result)) ≡ pairAt (a .catalogue .now) (a .fit .now) (c .before .before .loop .i) .group
-grouped c = toZ-ofZ w32 (c .group .result) (record { sfits = c .group .ok }) ∙ c .group .ensures
+grouped : (c : tie.After-group-priced Inv-loop μ-loop) → let a = c .before .before .before .before .before .before .before .before .before .args in
+    toZ w32 (ofZ w32 (c .group-priced .result)) ≡ pairAt (a .catalogue .now) (a .fit .now) (c .before .before .before .loop .i) .group
+grouped c =
+    let t = c .before in
+    let a = t .before .before .before .before .before .before .before .before .args in
+    toZ-ofZ w32 (c .group-priced .result) (record { sfits = c .group-priced .ok })
+    ∙ c .group-priced .ensures
+    ∙ told-group (catalogueOf (a .catalogue .now)) (itemAt (a .fit .now) (t .before .before .loop .i) .type) (t .type-at .ensures)
 
 loop-again : tie.Need-loop-again Inv-loop μ-loop
 loop-again c =
     let t = c .before .before .before .before .before in
     let g = t .before in
-    let l = g .before .before .loop in
-    let a = g .before .before .before .before .before .before .before .before .args in
+    let l = g .before .before .before .loop in
+    let a = g .before .before .before .before .before .before .before .before .before .args in
     let prices = pricesOf (a .profile .now) in
     let f = pairAt (a .catalogue .now) (a .fit .now) in
     let price = t .price-at .ensures .0 (a .catalogue .now) in
@@ -98,6 +106,7 @@ tally-spec =
     μ-loop
     (λ c κs. search needs)
     loop-holds
+    (λ c κs. search needs)
     (λ c κs. search needs)
     price-at-requires
     banned-at-requires

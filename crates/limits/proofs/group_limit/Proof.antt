@@ -22,11 +22,11 @@ use Rattle.limits.proofs.group_limit.Statement.{statement}
 use Rattle.limits.proofs.group_limit.Tie as tie
 
 abbrev Inv-loop : tie.InvT-loop
-Inv-loop catalogue fit facts k out₀ n row id count m₀ i₀ out m i =
+Inv-loop catalogue fit facts groups k out₀ n row id count m₀ i₀ out m i =
     Passed catalogue fit (groupLimitAt (row .limit) (row .lowest) (toZ w32 id) (pairsOf catalogue fit)) out₀ n out m i
 
 abbrev μ-loop : tie.MeasureT-loop
-μ-loop catalogue fit facts k out₀ n row id count m₀ i₀ out m i = count - i
+μ-loop catalogue fit facts groups k out₀ n row id count m₀ i₀ out m i = count - i
 
 -- the id that was looked up, as the calls after it read it
 named : (h : tie.After-pair-count Inv-loop μ-loop) → let a = h .before .before .before .before .before .before .before .before .before .args in
@@ -54,6 +54,17 @@ returns c =
 loop-holds : tie.Need-loop-holds Inv-loop μ-loop
 loop-holds c = passed-none _ _ _ _ _
 
+group-limit-at-requires : tie.Need-group-limit-at-requires Inv-loop μ-loop
+group-limit-at-requires c κs =
+    let l = c .before .before in
+    let n = l .before .pair-count .ensures in
+    let s = l .before .before .before .before .before .before .before .before .before .before in
+    let few = s .pre .0 .0 .fit-sound .sized .items in
+    let more = c .before .loop-test .taken in (
+      (s .pre .0 .0, omega (arith, more, n), omega (arith, s .pre .0 .2, l .loop .inv .few, few, more, n)),
+      s .pre .1,
+    )
+
 loop-again : tie.Need-loop-again Inv-loop μ-loop
 loop-again c =
     let l = c .before .before .before .before .before in
@@ -71,7 +82,7 @@ returns-2 c =
     let a = s .args in
     let ps = pairsOf (a .catalogue .now) (a .fit .now) in
     let id = toZ w32 (ofZ w32 (h .before .before .answer .given .0 .0)) in
-    let w = passed-all (a .catalogue .now) (a .fit .now) _ (s .pre .0 .fit-sound) (omega arith) (l .loop .inv) in (
+    let w = passed-all (a .catalogue .now) (a .fit .now) _ (s .pre .0 .0 .fit-sound) (omega arith) (l .loop .inv) in (
       group-each (contextOf (a .catalogue .now) (a .fit .now)) ps (rowAt (a .k)) id (named h)
           (wrote-same (ap (λ (r : Row). each ps (groupLimitAt (r .limit) (r .lowest) id ps)) (row-is (a .k))) (w .0)),
       w .1,
@@ -91,7 +102,7 @@ group-limit-spec =
     returns
     (λ c κs. search needs)
     loop-holds
-    (λ c κs. search needs)
+    group-limit-at-requires
     (λ c. search needs)
     (λ c. search needs)
     loop-again

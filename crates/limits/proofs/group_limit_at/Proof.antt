@@ -1,7 +1,9 @@
 -- `limits::group_limit_at` meets its contract, by whether the item has the limit and is fitted.
 use Prim.Native.Nat.{_+_}
+use native.Mathlib.Omega.{arith}
 use mathlib.Core.Path.{_≡_, sym, ap, _∙_}
-use lib.IntN.{ℤ}
+use lib.IntN.{ℤ, pos}
+use lib.ListN.{getD}
 use mir.Syntax.{w32}
 use mir.Val.{toZ, ofZ}
 use mir.ValLaws.{toZ-ofZ}
@@ -43,6 +45,11 @@ returns-2 c =
     (pairAt (a .catalogue .now) (a .fit .now) (a .i))
     (sym (told v) ∙ ap valueOf (m .answer .given .1)) (sym (f .is-fitted-at .ensures (a .catalogue .now)) ∙ not-true _ (c .if1 .taken))
 
+copied : tie.Need-element-copy-out-group
+copied c =
+    let s = c .before .before .before .before .before .before .before .before .before .before .before in
+    omega (arith, s .pre .0 .0 .fit-sound .sized .items, s .pre .0 .1)
+
 returns-3 : tie.Need-returns-3
 returns-3 c =
     let w = c .before .before in
@@ -55,8 +62,8 @@ returns-3 c =
     let a = s .args in
     let ps = pairsOf (a .catalogue .now) (a .fit .now) in
     let p = pairAt (a .catalogue .now) (a .fit .now) (a .i) in
-    let z : toZ w32 (ofZ w32 (g .group .result)) ≡ p .group =
-    toZ-ofZ w32 (g .group .result) (record { sfits = g .group .ok }) ∙ g .group .ensures in
+    let group = getD (a .groups .now) (a .i) (pos 0) in
+    let z : toZ w32 (ofZ w32 group) ≡ p .group = toZ-ofZ w32 group (record { sfits = g .group .given }) ∙ s .pre .1 (a .i) (s .pre .0 .1) in
     group-fitted (a .limit .limit) (a .limit .lowest) (a .limit .id) ps p (sym (told v) ∙ ap valueOf (m .answer .given .1))
     (sym (f .is-fitted-at .ensures (a .catalogue .now)) ∙ not-false _ (g .before .if1 .left))
     z (u .before .count-in-group .ensures ∙ ap (λ (y : ℤ). countOf (inGroup y (a .limit .lowest)) ps) z) (u .to-u32 .ensures) (w .emit-when .ensures)
@@ -72,7 +79,8 @@ group-limit-at-spec =
     returns
     (λ c κs. search needs)
     returns-2
-    (λ c κs. search needs)
+    (λ c. omega arith)
+    copied
     (λ c κs. search needs)
     (λ c κs. search needs)
     (λ c. search needs)

@@ -13,22 +13,23 @@ use Rattle.limits.proofs.group_limits.Statement.{statement}
 use Rattle.limits.proofs.group_limits.Tie as tie
 
 abbrev Inv-loop : tie.InvT-loop
-Inv-loop catalogue fit facts out₀ n m₀ k₀ out m k =
+Inv-loop catalogue fit facts out₀ n groups m₀ k₀ out m k =
     (k ≤ 3) × (m ≤ n + 256 * k) × Wrote out₀ n out m (each (take k GROUP-LIMITS) (groupLimit (contextOf catalogue fit) (pairsOf catalogue fit)))
 
 abbrev μ-loop : tie.MeasureT-loop
-μ-loop catalogue fit facts out₀ n m₀ k₀ out m k = 3 - k
+μ-loop catalogue fit facts out₀ n groups m₀ k₀ out m k = 3 - k
 
 loop-holds : tie.Need-loop-holds Inv-loop μ-loop
 loop-holds c = (omega arith, omega arith, wrote-each-none _ GROUP-LIMITS _ _)
 
 loop-again : tie.Need-loop-again Inv-loop μ-loop
 loop-again c =
-    let l = c .before .before .before .before .before in
+    let t = c .before .before .before .before .before in
+    let l = t .before in
     let w = c .before .before .group-limit .ensures in (
       omega arith,
       omega (arith, w .1, l .loop .inv .1),
-      wrote-each-next _ GROUP-LIMITS (l .loop .k) (0, 0, 0) (c .before .before .before .before .loop-test .taken) (l .loop .inv .2) (w .0),
+      wrote-each-next _ GROUP-LIMITS (l .loop .k) (0, 0, 0) (t .loop-test .taken) (l .loop .inv .2) (w .0),
     )
 
 same-length : tie.Need-same-length Inv-loop μ-loop
@@ -45,6 +46,7 @@ group-limits-spec =
     (tie.spec
     Inv-loop
     μ-loop
+    (λ c κs. search needs)
     loop-holds
     (λ c κs. search needs)
     (λ c. search needs)

@@ -1,14 +1,12 @@
 -- `resource::cargo_with` meets its contract, by the slot.
-use mathlib.Core.Path.{_≡_, sym, ap, ap₂, _∙_}
+use mathlib.Core.Path.{_≡_, sym, ap, _∙_}
 use mathlib.Core.Bool.{true, false}
 use lib.Dec.{eqb}
-use lib.Ieee.{binary64, add, mul}
+use lib.Ieee.{binary64, add}
 use borrow.Author.Tests.{eq-eqb, ne-eqb}
 use Rattle.numbers.specs.Slots as Slots
-use Rattle.floats.specs.Floats.{ofNat}
 use Rattle.fit.specs.Fit.{itemAt}
 use Rattle.context.specs.Context.{isIn}
-use Rattle.resource.specs.Resource.{cargoVolume}
 use borrow.Author.Needs.{needs}
 use Rattle.resource.proofs.cargo_with.Statement.{statement}
 use Rattle.resource.proofs.cargo_with.Tie as tie
@@ -21,14 +19,12 @@ returns c =
     rw e
 
 returns-2 : tie.Need-returns-2
-unfolding isIn cargoVolume
+unfolding isIn
 returns-2 c =
-    let b = c .before .before .before .before in
-    let s = b .before .before .before in
-    let a = s .args in
-    let e : eqb (itemAt (a .fit .now) (a .i) .slot) Slots.cargo ≡ true = eq-eqb _ _ (sym (b .item-slot .ensures) ∙ c .before .before .before .if1 .left) in
-    let quantity = c .of-u32 .ensures ∙ ap ofNat (c .before .item-quantity .ensures) in
-    rw e (ap (add binary64 (a .sum)) (ap₂ (mul binary64) (c .before .before .volume .ensures) quantity))
+    let b = c .before .before in
+    let a = b .before .before .before .args in
+    let e : eqb (itemAt (a .fit .now) (a .i) .slot) Slots.cargo ≡ true = eq-eqb _ _ (sym (b .item-slot .ensures) ∙ c .before .if1 .left) in
+    rw e (ap (add binary64 (a .sum)) (c .room-at .ensures))
 
 pub cargo-with-spec : {M : Type 1} → statement M
 cargo-with-spec =
@@ -36,7 +32,5 @@ cargo-with-spec =
     (tie.spec
     (λ c κs. search needs)
     returns
-    (λ c κs. search needs)
-    (λ c κs. search needs)
     (λ c κs. search needs)
     returns-2)

@@ -1,21 +1,23 @@
 -- `slot::item_at` meets its contract: each field as its reader ensures it.
-use mathlib.Core.Path.{refl, _∙_}
-use mir.Syntax.{w32}
-use mir.ValLaws.{toZ-ofZ}
+use mathlib.Core.Path.{refl}
 use borrow.Author.Needs.{needs}
+use Rattle.catalogue.specs.Catalogue.{catalogueOf}
+use Rattle.fit.specs.Fit.{itemAt}
+use Rattle.context.proofs.Types.{told-category}
 use Rattle.slot.proofs.item_at.Statement.{statement}
 use Rattle.slot.proofs.item_at.Tie as tie
 
 returns : tie.Need-returns
 returns c =
     let r = c .before .before .before in
-    let k = r .before .category in
+    let t = r .before .type-at in
+    let a = r .before .before .before .before .before .args in
     record {
       position = refl;
       slot = r .before .before .item-slot .ensures;
-      category = toZ-ofZ w32 (k .result) (record { sfits = k .ok }) ∙ k .ensures;
+      category = told-category (catalogueOf (a .catalogue .now)) (itemAt (a .fit .now) (a .i) .type) (t .ensures);
       rack = r .rack .ensures;
-      taken = c .before .before .slot-taken .ensures (r .before .before .before .before .before .args .catalogue .now);
+      taken = c .before .before .slot-taken .ensures (a .catalogue .now);
       expected = c .before .wrong-slot-index .ensures;
       covered = c .subsystem-taken .ensures;
     }

@@ -1,0 +1,15 @@
+-- validate/item.rs, `group_limits`: the groups that the code reads once for all pairs and limits.
+use Prim.Native.Nat.{ℕ, _<_}
+use mathlib.Core.Path.{_≡_}
+use mathlib.Core.List.{List}
+use lib.IntN.{pos}
+use lib.ListN.{getD}
+use Rattle.catalogue.specs.Catalogue.{Id}
+use Rattle.context.specs.Gathered.{pairCount, pairAt}
+
+-- an array holds the group of each of the first n pairs, at the pair's position
+abbrev pub Grouped : ℕ → (catalogue fit : List ℕ) → List Id → Type 0
+Grouped n catalogue fit groups = (i : ℕ) → i < n → getD groups i (pos 0) ≡ pairAt catalogue fit i .group
+
+abbrev pub Groups : (catalogue fit : List ℕ) → List Id → Type 0
+Groups catalogue fit groups = Grouped (pairCount fit) catalogue fit groups
