@@ -356,6 +356,8 @@ faults! {
     // Rule 24.
     BannedForgotten: "rule 24 is never listed",
     BannedUnfitted: "rule 24 is listed outside the racks",
+    BannedInCargo: "rule 24 is listed in Cargo",
+    BannedCargoBeside: "rule 24 is listed in Cargo behind a banned pair of the group",
     BannedOnce: "rule 24 is listed on a group's first pair alone",
     BannedOnShip: "rule 24 is listed on the ship",
     BannedShowsType: "rule 24 shows the type",
@@ -375,6 +377,7 @@ faults! {
     PointsOncePerGroup: "points count once a group",
     PointsLargestAlone: "the dearest pair alone counts",
     PointsUnfitted: "points count outside the racks",
+    PointsInCargo: "points count in Cargo",
     PointsUnpaired: "points of items without a result count",
     PointsOfShip: "the ship's group costs points too",
     PointsOfBan: "a banned pair costs 4,294,967,295",

@@ -6,6 +6,7 @@ use super::bytes::{i32_at, u32_at};
 use super::context::{Context, Pair};
 use super::entry::{Entries, Target};
 use super::fault::Fault;
+use super::fit::CARGO;
 use super::{Flaw, Measure, Number, Rows};
 use crate::checker::Terms;
 
@@ -130,12 +131,19 @@ fn judged_pairs(context: &Context, flaw: Flaw) -> Vec<Pair> {
         .collect()
 }
 
+/// Whether a pair is fitted, or let in by a fault: every pair by the first,
+/// cargo by the second.
+fn is_judged(pair: &Pair, flaw: Flaw, [all, cargo]: [Fault; 2]) -> bool {
+    pair.is_fitted || flaw.has(all) || (pair.item.kind == CARGO && flaw.has(cargo))
+}
+
 /// Rule 24 on every fitted pair of a banned group.
 fn banned(profile: Profile, pairs: &[Pair], entries: &mut Entries, flaw: Flaw) {
     let mut found: Vec<&Pair> = Vec::new();
     for pair in pairs {
-        let is_asked = pair.is_fitted || flaw.has(Fault::BannedUnfitted);
         let again = found.iter().any(|earlier| earlier.group == pair.group);
+        let is_asked = is_judged(pair, flaw, [Fault::BannedUnfitted, Fault::BannedInCargo])
+            || (pair.item.kind == CARGO && again && flaw.has(Fault::BannedCargoBeside));
         let passed_over = match () {
             () if flaw.has(Fault::BannedOnce) => again,
             () if flaw.has(Fault::BannedMissingFree) => !pair.is_known,
@@ -185,7 +193,7 @@ fn used(profile: Profile, pairs: &[Pair], context: &Context) -> u64 {
     let mut used = 0u64;
     let mut seen: Vec<i32> = Vec::new();
     for pair in pairs {
-        if !pair.is_fitted && !flaw.has(Fault::PointsUnfitted) {
+        if !is_judged(pair, flaw, [Fault::PointsUnfitted, Fault::PointsInCargo]) {
             continue;
         }
         if seen.contains(&pair.group) && flaw.has(Fault::PointsOncePerGroup) {

@@ -148,13 +148,17 @@ impl Stage<'_> {
             }
         }
         let lists = self.hauled_lists(self.case.reader, result);
-        let (Some((old, new)), Ok(catalogue)) = (lists, &self.source.catalogue) else {
+        let fits = (&self.fit().decoded, &self.hauled_fit().decoded);
+        let (Some((old, new)), Ok(catalogue), (Ok(before), Ok(after))) =
+            (lists, &self.source.catalogue, fits)
+        else {
             return;
         };
         let haul = Haul {
             catalogue,
             case: self.case,
-            has_profile: self.brought.has_profile(),
+            fits: (before, after),
+            league: self.brought.league.as_ref().ok(),
         };
         match result {
             None => tally.hauled(&haul, &old, &new),

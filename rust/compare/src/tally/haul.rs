@@ -1,5 +1,6 @@
 //! What a run has to meet of cargo behind a fit: every kind of volume, every
-//! state, a value under every name, and what becomes of the hold.
+//! state, a value under every name, groups that a league bans and prices, and
+//! what becomes of the hold.
 
 use original::Info;
 
@@ -9,15 +10,27 @@ use crate::case::Case;
 use crate::checker::Entry;
 use crate::hauled::hold;
 use crate::names::{COUNT, NAMES};
+use crate::profile::BANNED;
 use crate::reader::Reader;
-use crate::reference::Catalogue;
+use crate::reference::league::{fitted, group};
+use crate::reference::{Catalogue, Fit, League};
 use crate::words::STATES;
 
 /// What is put behind a fit, where the property is held.
 pub struct Haul<'a> {
     pub catalogue: &'a Catalogue,
     pub case: &'a Case,
-    pub has_profile: bool,
+    /// The fit, and the one with cargo behind it.
+    pub fits: (&'a Fit, &'a Fit),
+    /// What a list call brings; skills are asked for without it.
+    pub league: Option<&'a League>,
+}
+
+impl<'a> Haul<'a> {
+    /// The league, where it has a profile.
+    fn prices(&self) -> Option<&'a League> {
+        self.league.filter(|league| league.prices.is_some())
+    }
 }
 
 /// What two lists meet, the fit's and that of the fit with cargo behind it.
@@ -32,6 +45,9 @@ pub enum HaulEdge {
     /// Quantity 0, and 4,294,967,295.
     Quantity(u32),
     Profile,
+    /// An added pair of a group that the profile bans or prices, and neither
+    /// rule 24 nor rule 25 shows it.
+    League(HaulPrice),
     MoreItems,
     MoreResults,
     /// Results without items of their own, and no item.
@@ -60,6 +76,21 @@ pub enum HaulVolume {
     Negative,
     Infinite,
     Ordinary,
+}
+
+/// What would show of cargo if a league counted it.
+#[derive(Clone, Copy, Debug, PartialEq, Eq, PartialOrd, Ord)]
+pub enum HaulPrice {
+    /// A ban.
+    Banned,
+    /// A ban, behind that of a fitted pair of the same group.
+    BannedBeside,
+    /// Points, listed or not.
+    Priced,
+    /// Points over the allowance, where what is fitted stays within it.
+    PricedOver,
+    /// More points than those that are listed.
+    PricedMore,
 }
 
 #[derive(Clone, Copy, Debug, PartialEq, Eq, PartialOrd, Ord)]
@@ -107,6 +138,26 @@ impl HaulVolume {
     }
 }
 
+impl HaulPrice {
+    const ALL: [HaulPrice; 5] = [
+        HaulPrice::Banned,
+        HaulPrice::BannedBeside,
+        HaulPrice::Priced,
+        HaulPrice::PricedOver,
+        HaulPrice::PricedMore,
+    ];
+
+    fn words(self) -> &'static str {
+        match self {
+            HaulPrice::Banned => "of a banned group, and no ban of it",
+            HaulPrice::BannedBeside => "of a banned group that is fitted too, and no ban more",
+            HaulPrice::Priced => "of a priced group, and no points of it",
+            HaulPrice::PricedOver => "of a price over the allowance, and Points stays away",
+            HaulPrice::PricedMore => "of a priced group, and Points stays as it was",
+        }
+    }
+}
+
 impl HoldFate {
     const ALL: [HoldFate; 6] = [
         HoldFate::Away,
@@ -147,6 +198,7 @@ impl HaulEdge {
         let mut edges = vec![Profile, MoreItems, MoreResults, ResultsAlone, BehindCargo];
         edges.extend([OtherLimits, Entries, Skills]);
         edges.extend([0, u32::MAX].map(Quantity));
+        edges.extend(HaulPrice::ALL.map(League));
         edges.extend(HaulVolume::ALL.map(Volume));
         edges.extend(HoldFate::ALL.map(Hold));
         edges.extend((0..4).map(State));
@@ -166,6 +218,7 @@ impl HaulEdge {
             Name(name) => format!("with a value under {}", NAMES[usize::from(name)]),
             Quantity(quantity) => format!("of quantity {quantity}"),
             Profile => "with a profile".to_string(),
+            League(price) => price.words().to_string(),
             MoreItems => "of more items than results".to_string(),
             MoreResults => "of more results than items".to_string(),
             ResultsAlone => "of results alone".to_string(),
@@ -202,10 +255,11 @@ pub fn lists(tally: &mut Tally, haul: &Haul, old: &[Entry], new: &[Entry]) {
             }
         }
     }
+    met.extend(of_league(haul, old, new));
     let fit = &haul.case.fits[0];
     let (items, results) = (added.items.len(), added.results.len());
     let shapes = [
-        (haul.has_profile, HaulEdge::Profile),
+        (haul.prices().is_some(), HaulEdge::Profile),
         (items > results, HaulEdge::MoreItems),
         (items < results, HaulEdge::MoreResults),
         (items == 0 && results > 0, HaulEdge::ResultsAlone),
@@ -224,6 +278,51 @@ pub fn lists(tally: &mut Tally, haul: &Haul, old: &[Entry], new: &[Entry]) {
     for edge in met {
         tally.meet(Point::Haul(edge));
     }
+}
+
+/// What a league bans and prices of the added pairs, where nothing comes of it.
+fn of_league(haul: &Haul, old: &[Entry], new: &[Entry]) -> Vec<HaulEdge> {
+    let is_judged = haul.fits.0.is_hull(haul.catalogue) && judged(old) == judged(new);
+    let Some(league) = haul.prices().filter(|_| is_judged) else {
+        return Vec::new();
+    };
+    let (banned, more) = added(haul, league);
+    let used = league.cost(haul.catalogue, haul.fits.0);
+    let allowed = u64::from(league.allowance);
+    let is_over = used > allowed;
+    let mut fitted = fitted(haul.catalogue, haul.fits.0);
+    let prices = [
+        (!banned.is_empty(), HaulPrice::Banned),
+        (
+            fitted.any(|(_, group)| banned.contains(&group)),
+            HaulPrice::BannedBeside,
+        ),
+        (more > 0, HaulPrice::Priced),
+        (!is_over && used + more > allowed, HaulPrice::PricedOver),
+        (is_over && more > 0, HaulPrice::PricedMore),
+    ];
+    let met = prices.into_iter().filter(|price| price.0);
+    met.map(|price| HaulEdge::League(price.1)).collect()
+}
+
+/// The added pairs' groups that are banned, and what the others would cost.
+fn added(haul: &Haul, league: &League) -> (Vec<i32>, u64) {
+    let (before, after) = haul.fits;
+    let (mut banned, mut cost) = (Vec::new(), 0);
+    for (item, _) in after.pairs().skip(before.pairs().count()) {
+        let group = group(haul.catalogue, item);
+        match league.points(group) {
+            Some(BANNED) => banned.push(group),
+            points => cost += points.map_or(0, u64::from),
+        }
+    }
+    (banned, cost)
+}
+
+/// The entries of rules 24 and 25.
+fn judged(list: &[Entry]) -> Vec<Entry> {
+    let own = list.iter().filter(|entry| [24, 25].contains(&entry[1]));
+    own.copied().collect()
 }
 
 /// Both calls of a reader, with the old list as an officer gets it.

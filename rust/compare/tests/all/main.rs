@@ -6,6 +6,7 @@ mod document;
 mod entries;
 mod faults;
 mod hall;
+mod haul;
 mod league;
 mod original;
 mod page;
