@@ -13,8 +13,10 @@ use Rattle.fit.specs.Fit.{fitOf}
 use Rattle.entry.specs.declared.Entry.{Entry}
 use Rattle.lists.specs.Terms.{Terms}
 use Rattle.lists.specs.Lists.{listFor}
-use Rattle.fitcheck.specs.Calls.{Answer, Refused, Listed, answerBy, answer, noReader, tooShort, inputRefusals, bufferRefusals, listCall, returned}
-use Rattle.fitcheck.proofs.Giving.{answer-true, answer-false, inputs-refused, inputs-past, list-nobody, list-read}
+use Rattle.calls.specs.Answers.{Answer, Refused, Listed, answerBy, answer, tooShort, inputRefusals, bufferRefusals, returned}
+use Rattle.fitcheck.specs.Calls.{noReader, listCall}
+use Rattle.calls.proofs.Giving.{answer-true, answer-false, inputs-refused, inputs-past}
+use Rattle.fitcheck.proofs.Reading.{list-nobody, list-read}
 
 -- what the word counts
 abbrev counted : Answer → ℕ

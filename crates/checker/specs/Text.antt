@@ -6,7 +6,8 @@ use Rattle.words.specs.Words.{each, from}
 use Rattle.image.specs.Bytes.{u8At, u32At}
 use Rattle.program.specs.Text.{decimal, ended, refused}
 use Rattle.lists.specs.Terms.{main}
-use Rattle.fitcheck.specs.Calls.{listCall, returned, buffered}
+use Rattle.calls.specs.Answers.{returned, buffered}
+use Rattle.fitcheck.specs.Calls.{listCall}
 
 -- a number and a space
 unfoldable pub spaced : ℕ → List ℕ

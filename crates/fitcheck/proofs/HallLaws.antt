@@ -24,7 +24,7 @@ use Rattle.lists.specs.Terms.{main}
 use Rattle.lists.specs.Lists.{wholeList, forReader, listFor}
 use Rattle.fitcheck.specs.Hall.{fitCount, lengthAt, fitStart, fitAt, fits, badInput, Laid, fitRefused, isClear, isFaulted, shareOf, wordOf}
 use Rattle.fitcheck.specs.Hall.{HallAnswer, hallBy, hallCall, hallReturned}
-use Rattle.fitcheck.proofs.First.{first-small, first-kept, first-past, numbered-catalogue}
+use Rattle.calls.proofs.First.{first-small, first-kept, first-past, numbered-catalogue}
 
 -- ---- where fits stand
 module _ (input : List ℕ) where

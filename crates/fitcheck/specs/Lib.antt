@@ -1,4 +1,3 @@
 pub mod Calls
-pub mod Gave
 pub mod Hall
 pub mod Widen

@@ -13,7 +13,7 @@ use Rattle.entry.specs.declared.Entry.{Entry}
 use Rattle.skill.specs.Skill.{tooMany, skillList}
 use Rattle.lists.specs.Terms.{Terms}
 use Rattle.lists.specs.Lists.{listFor}
-use Rattle.fitcheck.specs.Calls.{tooShort}
+use Rattle.calls.specs.Answers.{tooShort}
 use Rattle.promises.specs.Answers.{Conditions, catalogueConditions, fitConditions, pageConditions, profileConditions}
 use Rattle.promises.specs.Answers.{inputConditions, listConditions, skillConditions, None}
 use Rattle.promises.proofs.Conditions.{none-parts}

@@ -10,8 +10,8 @@ use lib.Seq.{getD-append-add, getD-drop}
 use Rattle.words.specs.Words.{each, firstOf}
 use Rattle.entry.specs.declared.Entry.{Entry}
 use Rattle.entry.specs.Entries.{entryBytes, written}
-use Rattle.fitcheck.specs.Calls.{answerBy, answer, buffered, returned}
-use Rattle.fitcheck.proofs.First.{Numbered}
+use Rattle.calls.specs.Answers.{answerBy, answer, buffered, returned}
+use Rattle.calls.proofs.First.{Numbered}
 use Rattle.promises.specs.Answers.{outcome, refusal, Conditions, highest, None, Answers}
 use Rattle.promises.proofs.Conditions.{is-none, word-refused, word-answered, word-numbered}
 use Rattle.promises.proofs.Entries.{entry-at, entries-length}

@@ -15,7 +15,8 @@ use Rattle.profile.specs.Profile.{profileRefusals}
 use Rattle.skill.specs.Skill.{tooMany, skillList}
 use Rattle.lists.specs.Terms.{Terms}
 use Rattle.lists.specs.Lists.{listFor}
-use Rattle.fitcheck.specs.Calls.{tooShort, listCall, skillCall}
+use Rattle.calls.specs.Answers.{tooShort}
+use Rattle.fitcheck.specs.Calls.{listCall, skillCall}
 use Rattle.promises.specs.Answers.{outcome, refusal, Conditions, pageConditions, inputConditions, listConditions, skillConditions, Answers}
 use Rattle.promises.proofs.Conditions.{none-parts, last-first}
 use Rattle.promises.proofs.Accepted.{accepted, sized, list-accepted, list-fits, asked, skills-fit}

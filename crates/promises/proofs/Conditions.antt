@@ -7,7 +7,7 @@ use mathlib.Core.List.{[], _∷_, _++_}
 use mathlib.Core.Logic.{_⊎_, inl, inr, _↔_}
 use lib.Dec.{T, T-not}
 use Rattle.words.specs.Words.{firstOf}
-use Rattle.fitcheck.proofs.First.{Numbered, first-small}
+use Rattle.calls.proofs.First.{Numbered, first-small}
 use Rattle.promises.specs.Answers.{Conditions, First, None}
 
 pub first-is : (n : ℕ) (l : Conditions) → First n l → firstOf l ≡ n

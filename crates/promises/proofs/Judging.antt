@@ -22,7 +22,8 @@ use Rattle.entry.specs.declared.Entry.{Entry}
 use Rattle.context.specs.Context.{pairs}
 use Rattle.lists.specs.Terms.{main}
 use Rattle.lists.specs.Lists.{wholeList, forReader, listFor}
-use Rattle.fitcheck.specs.Calls.{listCall, tooShort}
+use Rattle.calls.specs.Answers.{tooShort}
+use Rattle.fitcheck.specs.Calls.{listCall}
 use Rattle.fitcheck.specs.Hall.{fitCount, lengthAt, fitStart, fits, badInput, fitRefused, isClear, isFaulted, HallAnswer, hallBy, hallCall, hallReturned}
 use Rattle.promises.specs.Answers.{Outcome, outcome, refusal, count, Conditions, catalogueConditions, profileConditions, listConditions}
 use Rattle.promises.specs.Answers.{First, None, Answers}

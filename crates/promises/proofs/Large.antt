@@ -27,7 +27,7 @@ use Rattle.fit.specs.Refusals.{badSize}
 use Rattle.skill.specs.Skill.{Demand, required, demands, ofSkill, note, noted, skillAt, met, walkWithin, tooMany, entryOf, skillList}
 use Rattle.skill.proofs.Limits.{walk-same, small-limit}
 use Rattle.lists.specs.Terms.{Terms, limited, main, skillLimit}
-use Rattle.fitcheck.specs.Calls.{tooShort}
+use Rattle.calls.specs.Answers.{tooShort}
 use Rattle.promises.specs.Cases.{base, tree, asks, OverSkills, SkillRefusal, Number, Holds, Expected, outcomeOf}
 use Rattle.promises.specs.CallCases.{words}
 use Rattle.promises.specs.RefusalCases.{linked, laden, step, chain, flown, LARGE}

@@ -17,8 +17,9 @@ use Rattle.lists.specs.Terms.{Terms, terms}
 use Rattle.lists.specs.Unknown.{unknownTypes}
 use Rattle.lists.specs.Lists.{onHull, wholeWith, leagueList, wholeList, forReader, listFor}
 use Rattle.lists.proofs.Behind.{rust-list}
-use Rattle.fitcheck.specs.Calls.{answerBy, answer, imageRefusals, bufferRefusals, listCall}
-use Rattle.fitcheck.proofs.Pages.{whole-unread}
+use Rattle.calls.specs.Answers.{answerBy, answer, imageRefusals, bufferRefusals}
+use Rattle.fitcheck.specs.Calls.{listCall}
+use Rattle.calls.proofs.Pages.{whole-unread}
 use Rattle.promises.specs.Answers.{outcome, refusal}
 use Rattle.promises.specs.Before.{rustCall}
 use Rattle.promises.proofs.Pages.{unasked, list-unasked}

@@ -29,9 +29,11 @@ use Rattle.league.specs.League.{bannedAt, banned, cost, points, overAllowance, 
 use Rattle.lists.specs.Unknown.{unknownTypeAt, unknownTypes}
 use Rattle.lists.specs.Lists.{onHull, leagueWith, wholeWith, leagueList, wholeList, forReader, listFor}
 use Rattle.skill.specs.Skill.{required, demandOf, demands, ofResult, ofSkill, note, noted, skillAt, met, walkWithin, tooMany, entryOf, skillList}
-use Rattle.fitcheck.specs.Calls.{answerBy, answer, tooShort, listCall, skillCall, buffered, returned}
+use Rattle.calls.specs.Answers.{answerBy, answer, tooShort, buffered, returned}
+use Rattle.fitcheck.specs.Calls.{listCall, skillCall}
 use Rattle.fitcheck.specs.Hall.{fitStart, fits, badInput, fitRefused, isClear, isFaulted, hallBy, hallCall, hallReturned}
-use Rattle.fitcheck.specs.Widen.{outputBy, output, filled, outputWord, noRoom, widenCall}
+use Rattle.calls.specs.Output.{outputBy, output, filled, outputWord, noRoom}
+use Rattle.fitcheck.specs.Widen.{widenCall}
 use Rattle.promises.specs.Before.{tooManyDrones, listBefore, rustCall}
 use Rattle.promises.specs.Cases.{known, outcomeOf}
 

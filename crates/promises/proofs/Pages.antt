@@ -18,9 +18,10 @@ use Rattle.profile.specs.Profile.{profileRefusals}
 use Rattle.skill.specs.Skill.{tooMany, skillList}
 use Rattle.lists.specs.Terms.{Terms, terms, readBy}
 use Rattle.lists.specs.Lists.{listFor}
-use Rattle.fitcheck.specs.Calls.{answerBy, answer, noResult, tooManySkills, overPairs, overSkills, tooShort}
-use Rattle.fitcheck.specs.Calls.{imageRefusals, bufferRefusals, skillRefusals, listCall, skillCall}
-use Rattle.fitcheck.proofs.Pages.{limits-unread}
+use Rattle.calls.specs.Answers.{answerBy, answer, noResult, tooManySkills, overPairs, overSkills, tooShort}
+use Rattle.calls.specs.Answers.{imageRefusals, bufferRefusals, skillRefusals}
+use Rattle.fitcheck.specs.Calls.{listCall, skillCall}
+use Rattle.calls.proofs.Pages.{limits-unread}
 use Rattle.promises.specs.Answers.{outcome, refusal, Conditions, catalogueConditions, fitConditions, profileConditions, First, None}
 use Rattle.promises.specs.Compare.{Alike}
 use Rattle.promises.proofs.Conditions.{none-parts, never-first, never-reached, left-out}

@@ -20,8 +20,9 @@ use Rattle.context.specs.Context.{Pair, pairs, pairsFrom}
 use Rattle.lists.specs.Terms.{Terms, readBy, pairLimit}
 use Rattle.lists.specs.Lists.{leagueWith, wholeWith, wholeList, forGuests, forReader, listFor}
 use Rattle.lists.proofs.Guests.{told-whole, for-guest}
-use Rattle.fitcheck.specs.Calls.{answerBy, answer, imageRefusals, pageRefusals, inputRefusals, bufferRefusals, listCall, skillCall, returned, buffered}
-use Rattle.fitcheck.proofs.First.{first-join, numbered-catalogue, numbered-images, numbered-page, numbered-inputs}
+use Rattle.calls.specs.Answers.{answerBy, answer, imageRefusals, pageRefusals, inputRefusals, bufferRefusals, returned, buffered}
+use Rattle.fitcheck.specs.Calls.{listCall, skillCall}
+use Rattle.calls.proofs.First.{first-join, numbered-catalogue, numbered-images, numbered-page, numbered-inputs}
 use Rattle.promises.specs.Answers.{outcome, refusal, entriesOf, fitConditions, None}
 use Rattle.promises.specs.Compare.{Apart}
 use Rattle.promises.proofs.Conditions.{none-is}

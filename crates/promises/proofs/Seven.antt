@@ -19,7 +19,8 @@ use Rattle.context.specs.Context.{Pair, pairsFrom, pairs}
 use Rattle.resource.specs.Resource.{isLaunched, launched}
 use Rattle.lists.specs.Terms.{Terms}
 use Rattle.lists.specs.Lists.{listFor}
-use Rattle.fitcheck.specs.Calls.{answerBy, answer, inputRefusals, bufferRefusals, listCall, skillCall}
+use Rattle.calls.specs.Answers.{answerBy, answer, inputRefusals, bufferRefusals}
+use Rattle.fitcheck.specs.Calls.{listCall, skillCall}
 use Rattle.fitcheck.specs.Hall.{hallCall, hallReturned}
 use Rattle.promises.specs.Answers.{outcome, refusal, Conditions, listConditions, skillConditions}
 use Rattle.promises.specs.Before.{tooManyDrones, listBefore}

@@ -22,9 +22,11 @@ use Rattle.fit.specs.Refusals.{fitRefusals}
 use Rattle.profile.specs.Profile.{profileRefusals}
 use Rattle.skill.specs.Skill.{skillList}
 use Rattle.lists.specs.Lists.{listFor}
-use Rattle.fitcheck.specs.Calls.{Answer, answer, noReader, isGuest, overPairs, bufferRefusals, skillRefusals, listCall, skillCall}
-use Rattle.fitcheck.specs.Widen.{outputBy, output, outputWord, filled, noRoom, widenCall}
-use Rattle.fitcheck.proofs.First.{Numbered}
+use Rattle.calls.specs.Answers.{Answer, answer, overPairs, bufferRefusals, skillRefusals}
+use Rattle.fitcheck.specs.Calls.{noReader, isGuest, listCall, skillCall}
+use Rattle.calls.specs.Output.{outputBy, output, outputWord, filled, noRoom}
+use Rattle.fitcheck.specs.Widen.{widenCall}
+use Rattle.calls.proofs.First.{Numbered}
 use Rattle.promises.specs.Answers.{Outcome, refusal, count, Conditions, None}
 use Rattle.promises.specs.Widens.{widenOutcome, widenConditions, Fills, written, listUnderOld, skillsUnderOld, Stands}
 use Rattle.promises.proofs.Conditions.{none-is, is-none, word-refused, word-answered, word-numbered}

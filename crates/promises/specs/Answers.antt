@@ -19,7 +19,7 @@ use Rattle.profile.specs.Profile.{pricesOf, badProfile, badPrices}
 use Rattle.skill.specs.Skill.{tooMany, skillList}
 use Rattle.lists.specs.Terms.{Terms}
 use Rattle.lists.specs.Lists.{listFor}
-use Rattle.fitcheck.specs.Calls.{Answer, buffered, returned, tooShort}
+use Rattle.calls.specs.Answers.{Answer, buffered, returned, tooShort}
 
 -- ---- what a caller has after a call: the word, and the buffer
 pub record Outcome : Type 0 where

@@ -17,7 +17,8 @@ use Rattle.validate.specs.Validate.{listOf}
 use Rattle.lists.specs.Terms.{Terms}
 use Rattle.lists.specs.Unknown.{unknownTypes}
 use Rattle.lists.specs.Lists.{onHull, forReader, listFor}
-use Rattle.fitcheck.specs.Calls.{Answer, answer, noReader, imageRefusals, inputRefusals, bufferRefusals}
+use Rattle.calls.specs.Answers.{Answer, answer, imageRefusals, inputRefusals, bufferRefusals}
+use Rattle.fitcheck.specs.Calls.{noReader}
 
 -- 7: on a hull, its name present, launched drones over 4,294,967,295
 unfoldable pub tooManyDrones : Catalogue → Fit → Bool

@@ -19,9 +19,11 @@ use Rattle.profile.specs.Profile.{profileRefusal}
 use Rattle.lists.specs.Terms.{Terms, main}
 use Rattle.lists.specs.Lists.{wholeList, listFor}
 use Rattle.skill.specs.Skill.{Demand, wantedSkills, tooMany, skillList}
-use Rattle.fitcheck.specs.Calls.{returned, buffered, overPairs, overSkills, skillRefusals, listCall, skillCall}
+use Rattle.calls.specs.Answers.{returned, buffered, overPairs, overSkills, skillRefusals}
+use Rattle.fitcheck.specs.Calls.{listCall, skillCall}
 use Rattle.fitcheck.specs.Hall.{hallCall, hallReturned}
-use Rattle.fitcheck.specs.Widen.{outputWord, filled, widenCall}
+use Rattle.calls.specs.Output.{outputWord, filled}
+use Rattle.fitcheck.specs.Widen.{widenCall}
 use Rattle.promises.specs.Before.{listBefore}
 
 -- ---- a catalogue: types with their groups and categories in the game

@@ -17,7 +17,8 @@ use Rattle.entry.specs.declared.Entry.{Entry}
 use Rattle.entry.specs.declared.Rule.the-variants.{Resource, Slots, NotAnImplant, SlotTaken, Skill, MaxGroup, MaxType, NotASkill, Banned, Points, UnknownType}
 use Rattle.entry.specs.Entries.{onShip, onItem, entryBytes}
 use Rattle.lists.specs.Terms.{Terms, terms, limited, readBy, main}
-use Rattle.fitcheck.specs.Calls.{Refused, Listed, listCall, skillCall}
+use Rattle.calls.specs.Answers.{Refused, Listed}
+use Rattle.fitcheck.specs.Calls.{listCall, skillCall}
 use Rattle.promises.specs.Answers.{outcome, fitConditions, None}
 use Rattle.promises.specs.Compare.{Bytes, Grown, AddedVolumes, Apart}
 use Rattle.promises.specs.Hauls.{Hauled, outsideHold, inHold}

@@ -13,8 +13,10 @@ use Rattle.profile.specs.Profile.{profileRefusals}
 use Rattle.skill.specs.Skill.{skillList}
 use Rattle.lists.specs.Terms.{Terms}
 use Rattle.lists.specs.Lists.{listFor}
-use Rattle.fitcheck.specs.Calls.{Answer, answer, noReader, isGuest, overPairs, bufferRefusals, skillRefusals, listCall, skillCall}
-use Rattle.fitcheck.specs.Widen.{outputWord, filled, noRoom, widenCall}
+use Rattle.calls.specs.Answers.{Answer, answer, overPairs, bufferRefusals, skillRefusals}
+use Rattle.fitcheck.specs.Calls.{noReader, isGuest, listCall, skillCall}
+use Rattle.calls.specs.Output.{outputWord, filled, noRoom}
+use Rattle.fitcheck.specs.Widen.{widenCall}
 use Rattle.promises.specs.Answers.{Outcome, refusal, count, Conditions, First, None}
 
 -- ---- the call as a caller sees it

@@ -5,7 +5,7 @@ use native.Mathlib.Omega.{arith}
 use mathlib.Core.Path.{_≡_, sym, ap, _∙_, subst}
 use mathlib.Core.List.{List}
 use lib.ListN.{length, getD, List·getD-eq-default}
-use Rattle.fitcheck.specs.Calls.{Answer, returned, buffered}
+use Rattle.calls.specs.Answers.{Answer, returned, buffered}
 use Rattle.promises.specs.Answers.{Outcome, outcome}
 use Rattle.promises.specs.Compare.{Bytes}
 use Rattle.two_fits.specs.Kept.{left}

@@ -10,7 +10,8 @@ use Rattle.widening.specs.Old.{oldRefusal}
 use Rattle.widening.specs.Widen.{widened}
 use Rattle.widening.proofs.Judging.{accepted-old}
 use Rattle.widening.proofs.Bytes.{widened-length}
-use Rattle.fitcheck.specs.Widen.{Output, Withheld, Written, outputWord, filled, widenCall}
+use Rattle.calls.specs.Output.{Output, Withheld, Written, outputWord, filled}
+use Rattle.fitcheck.specs.Widen.{widenCall}
 use Rattle.fitcheck.proofs.Widening.{widen-refused, widen-written}
 use Rattle.program.specs.Text.{refused}
 use Rattle.widener.specs.Text.{printedBy, printed}

@@ -11,9 +11,10 @@ use Rattle.catalogue.specs.Catalogue.{catalogueOf}
 use Rattle.fit.specs.Fit.{fitOf}
 use Rattle.entry.specs.declared.Entry.{Entry}
 use Rattle.lists.specs.Terms.{terms, limited, readBy}
-use Rattle.fitcheck.specs.Calls.{answer, inputRefusals, bufferRefusals}
-use Rattle.fitcheck.proofs.Giving.{gave-same, gave-refused, list-nobody, list-read}
-use Rattle.fitcheck.proofs.Pages.{limits-unread}
+use Rattle.calls.specs.Answers.{answer, inputRefusals, bufferRefusals}
+use Rattle.calls.proofs.Giving.{gave-same, gave-refused}
+use Rattle.fitcheck.proofs.Reading.{list-nobody, list-read}
+use Rattle.calls.proofs.Pages.{limits-unread}
 use Rattle.fitcheck.proofs.fit_list.Statement.{statement}
 use Rattle.fitcheck.proofs.fit_list.Tie as tie
 

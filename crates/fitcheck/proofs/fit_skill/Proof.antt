@@ -6,8 +6,8 @@ use borrow.Author.Tests.{lt-ltb, le-ltb, eq-eqb, ne-eqb}
 use Rattle.numbers.specs.Refusals as Refusals
 use Rattle.numbers.specs.Readers as Readers
 use Rattle.lists.specs.Terms.{limited, readBy, main}
-use Rattle.fitcheck.proofs.Giving.{gave-same, gave-refused}
-use Rattle.fitcheck.proofs.Skills.{skill-nobody, skill-guest, skill-read}
+use Rattle.calls.proofs.Giving.{gave-same, gave-refused}
+use Rattle.fitcheck.proofs.Reading.{skill-nobody, skill-guest, skill-read}
 use Rattle.fitcheck.proofs.fit_skill.Statement.{statement}
 use Rattle.fitcheck.proofs.fit_skill.Tie as tie
 

@@ -1,7 +1,7 @@
 -- `fitcheck::fit_widen` meets its contract: refusals 1 to 3 of the old form, then the buffer, then the new form.
 use native.Mathlib.Omega.{arith}
 use Prim.Native.Nat.{ℕ, _*_, _≤_, _<_}
-use mathlib.Core.Path.{_≡_, ap, _∙_}
+use mathlib.Core.Path.{_≡_, sym, ap, _∙_}
 use lib.ListN.{length}
 use Rattle.numbers.specs.Sizes as Sizes
 use Rattle.numbers.specs.Refusals as Refusals
@@ -9,7 +9,8 @@ use Rattle.widening.specs.Old.{oldSizeOf, oldRefusal}
 use Rattle.widening.specs.Widen.{widened}
 use Rattle.widening.proofs.Judging.{accepted-old}
 use Rattle.widening.proofs.Bytes.{widened-length}
-use Rattle.fitcheck.proofs.Widening.{old-small, widen-refused, widen-short, widen-written, withheld, wrote}
+use Rattle.calls.proofs.Outputs.{bytes-same, bytes-refused, bytes-written}
+use Rattle.fitcheck.proofs.Widening.{old-small, widen-refused, widen-short, widen-written}
 use borrow.Author.Needs.{needs}
 use Rattle.fitcheck.proofs.fit_widen.Statement.{statement}
 use Rattle.fitcheck.proofs.fit_widen.Tie as tie
@@ -32,7 +33,9 @@ returns c =
     let a = k .before .before .before .args in
     let e = k .number .ensures in
     let w = c .refused .ensures ∙ ap (λ (n : ℕ). n * Sizes.word) e in
-    withheld (a .out .now) _ (widen-refused (a .old .now) (a .out .now) (omega (arith, e, c .before .if1 .taken))) w
+    let some : 0 < oldRefusal (a .old .now) = omega (arith, e, c .before .if1 .taken) in
+    let g = bytes-same (sym (widen-refused (a .old .now) (a .out .now) some)) (bytes-refused (a .out .now) _ w) in
+    (g .word, g .buffer)
 
 wide-size-requires : tie.Need-wide-size-requires
 wide-size-requires c κs = sized c
@@ -43,7 +46,9 @@ returns-2 c =
     let k = i .before in
     let a = k .before .before .before .before .before .args in
     let h : length (a .out .now) < length (widened (a .old .now)) = omega (arith, k .wide-size .ensures, i .if2 .taken) in
-    withheld (a .out .now) Refusals.tooShort (widen-short (a .old .now) (a .out .now) (accepted (k .before)) h) (c .refused2 .ensures)
+    let e = widen-short (a .old .now) (a .out .now) (accepted (k .before)) h in
+    let g = bytes-same (sym e) (bytes-refused (a .out .now) Refusals.tooShort (c .refused2 .ensures)) in
+    (g .word, g .buffer)
 
 widen-requires : tie.Need-widen-requires
 widen-requires c κs =
@@ -58,7 +63,9 @@ returns-3 c =
     let a = k .before .before .before .before .before .args in
     let e = k .wide-size .ensures in
     let h : length (widened (a .old .now)) ≤ length (a .out .now) = omega (arith, e, i .if2 .left) in
-    wrote (a .out .now) (widened (a .old .now)) (widen-written (a .old .now) (a .out .now) (accepted (k .before)) h) e (c .before .before .widen .ensures) h
+    let f = widen-written (a .old .now) (a .out .now) (accepted (k .before)) h in
+    let g = bytes-same (sym f) (bytes-written (a .out .now) (widened (a .old .now)) e (c .before .before .widen .ensures) h) in
+    (g .word, g .buffer)
 
 pub fit-widen-spec : {M : Type 1} → statement M
 fit-widen-spec =

@@ -5,7 +5,8 @@ use mathlib.Core.Path.{_≡_, ap, _∙_}
 use mathlib.Core.List.{List}
 use lib.ListN.{replicate, length-replicate}
 use Rattle.lists.specs.Terms.{main}
-use Rattle.fitcheck.specs.Calls.{Answer, listCall, returned, buffered}
+use Rattle.calls.specs.Answers.{Answer, returned, buffered}
+use Rattle.fitcheck.specs.Calls.{listCall}
 use Rattle.checker.specs.Text.{textOf, checked}
 use Rattle.checker.proofs.Room.{list-room}
 use borrow.Author.Needs.{needs}

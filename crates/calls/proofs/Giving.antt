@@ -1,0 +1,84 @@
+-- What a call answers, from its conditions, and that code which writes or refuses gives it.
+use Prim.Native.Nat.{ℕ, zero, suc, _*_, _≤_, _<_}
+use native.Mathlib.Omega.{arith}
+use mathlib.Core.Path.{_≡_, refl, sym, ap, _∙_, subst}
+use mathlib.Core.Bool.{Bool, true, false}
+use mathlib.Core.List.{List, [], _∷_, _++_}
+use lib.ListN.{length}
+use borrow.Author.Tests.{lt-ltb, le-ltb}
+use Rattle.words.specs.Words.{firstOf}
+use Rattle.numbers.specs.Sizes as Sizes
+use Rattle.numbers.specs.Refusals as Refusals
+use Rattle.entry.specs.declared.Entry.{Entry}
+use Rattle.entry.specs.Wrote.{Wrote}
+use Rattle.entry.proofs.Wrote.{wrote-count, wrote-written, wrote-none, wrote-same}
+use Rattle.lists.specs.Terms.{Terms}
+use Rattle.calls.specs.Answers.{Answer, Refused, answerBy, answer, tooShort, inputRefusals, bufferRefusals}
+use Rattle.calls.specs.Answers.{returned, buffered}
+use Rattle.calls.specs.Gave.{Gave, lent}
+use Rattle.calls.proofs.First.{Numbered, first-kept, first-past, numbered-inputs}
+
+-- ---- which answer
+by-number : (k : ℕ) (es : List Entry) → 0 < k → answerBy k es ≡ Refused k
+unfolding answerBy
+by-number zero es h = absurd (omega arith)
+by-number (suc k) es h = refl
+
+module _ (l m : List (ℕ × Bool)) (es : List Entry) where
+  -- a condition in front holds
+  pub answer-kept : 0 < firstOf l → answer (l ++ m) es ≡ Refused (firstOf l)
+  unfolding answer
+  answer-kept h = ap (λ (k : ℕ). answerBy k es) (first-kept l m h) ∙ by-number (firstOf l) es h
+
+  -- none in front holds
+  pub answer-past : (limit : ℕ) → Numbered limit l → firstOf l ≡ 0 → answer (l ++ m) es ≡ answer m es
+  unfolding answer
+  answer-past limit n e = ap (λ (k : ℕ). answerBy k es) (first-past limit l m n e)
+
+-- the first condition of a list holds or does not
+module _ (n : ℕ) {t : Bool} (m : List (ℕ × Bool)) (es : List Entry) where
+  pub answer-true : 0 < n → t ≡ true → answer ((n, t) ∷ m) es ≡ Refused n
+  unfolding answer firstOf
+  answer-true h e = rw e (by-number n es h)
+
+  pub answer-false : t ≡ false → answer ((n, t) ∷ m) es ≡ answer m es
+  unfolding answer firstOf
+  answer-false e = rw e
+
+-- ---- what code has done
+pub gave-same : {b a : List ℕ} {w : ℕ} {x y : Answer} → x ≡ y → Gave b a w x → Gave b a w y
+gave-same {b} {a} {w} e g = subst (Gave b a w) e g
+
+pub gave-refused : (b : List ℕ) (n : ℕ) {w : ℕ} → w ≡ n * Sizes.word → Gave b b w (Refused n)
+unfolding returned buffered
+gave-refused b n e = record { word = e; buffer = refl }
+
+module _ {b : List ℕ} (es : List Entry) where
+  -- no room: refusal 10
+  pub gave-short : {w : ℕ} → length b < 24 * length es → w ≡ Refusals.tooShort * Sizes.word → Gave b b w (lent b es)
+  unfolding tooShort
+  gave-short h e =
+      gave-same (sym (answer-true Refusals.tooShort [] es (omega arith) (lt-ltb (length b) (24 * length es) h)))
+      (gave-refused b Refusals.tooShort e)
+
+  -- room: the list
+  pub gave-list : {a : List ℕ} {k : ℕ} → 24 * length es ≤ length b → Wrote b 0 a k es → Gave b a k (lent b es)
+  unfolding answer answerBy firstOf tooShort returned buffered
+  gave-list h w = rw (le-ltb (length b) (24 * length es) h) record { word = wrote-count w; buffer = wrote-written w h }
+
+  -- an empty list needs no room
+  pub gave-none : length es ≡ 0 → Gave b b 0 (lent b es)
+  gave-none e = gave-list (omega (arith, e)) (wrote-same (nil es e) (wrote-none b 0))
+    where
+      nil : (l : List Entry) → length l ≡ 0 → [] ≡ l
+      nil [] q = refl
+      nil (x ∷ l) q = absurd (omega arith)
+
+-- ---- the list call of a reader that there is, by the refusals of all that it brings
+module _ (t : Terms) (catalogue fit buffer : List ℕ) (es : List Entry) where
+  pub inputs-refused : 0 < firstOf (inputRefusals t catalogue fit)
+      → answer (inputRefusals t catalogue fit ++ bufferRefusals buffer es) es ≡ Refused (firstOf (inputRefusals t catalogue fit))
+  inputs-refused h = answer-kept (inputRefusals t catalogue fit) _ _ h
+
+  pub inputs-past : firstOf (inputRefusals t catalogue fit) ≡ 0 → answer (inputRefusals t catalogue fit ++ bufferRefusals buffer es) es ≡ lent buffer es
+  inputs-past e = answer-past (inputRefusals t catalogue fit) _ _ 13 (numbered-inputs t catalogue fit) e
