@@ -1,3 +1,4 @@
 pub mod Calls
 pub mod Hall
 pub mod Widen
+pub mod Train

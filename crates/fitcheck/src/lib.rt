@@ -13,6 +13,7 @@ ghost use Rattle.calls.specs.Output.{outputWord, filled};
 ghost use Rattle.fitcheck.specs.Calls.{listCall, skillCall};
 ghost use Rattle.fitcheck.specs.Hall.{hallCall, hallReturned};
 ghost use Rattle.fitcheck.specs.Widen.{widenCall};
+ghost use Rattle.fitcheck.specs.Train.{trainCall};
 
 // The main page's limits, as a call brings them.
 pub const MAIN_PAIRS: u32 = sizes::MOST_PAIRS as u32;
@@ -103,10 +104,30 @@ pub extern "C" fn fit_widen(old: &[u8], out: &mut [u8]) -> u64
     size as u64
 }
 
+// The training: the fit that so many steps lead to, for one of its results.
+#[no_mangle]
+pub extern "C" fn fit_train(
+    catalogue: &[u8],
+    fit: &[u8],
+    result: u32,
+    steps: u32,
+    out: &mut [u8],
+) -> u64
+    ensures { λ r.
+        let call = trainCall (now (catalogue .entry)) (now (fit .entry)) result steps (now (out .entry)) in
+        ⌜ (r ≡ outputWord call) × (now (out .exit) ≡ filled (now (out .entry)) call) ⌝ }
+{
+    let refusal = calls::image_refusal(catalogue, fit);
+    if 0 < refusal {
+        return refused(refusal);
+    }
+    training::train(catalogue, fit, result, steps, out)
+}
+
 // The number of this set of calls and images, in the symbol's name: a caller written for another set does not link.
 #[no_mangle]
-pub extern "C" fn fit_interface_6() -> u64
-    ensures { λ r. ⌜ r ≡ 6 ⌝ }
+pub extern "C" fn fit_interface_7() -> u64
+    ensures { λ r. ⌜ r ≡ 7 ⌝ }
 {
-    6
+    7
 }

@@ -131,6 +131,18 @@ pub fn copy(out: &mut [u8], at: usize, from: &[u8])
     }
 }
 
+// The bytes from `at` to `end`, moved up.
+pub fn move_up(b: &mut [u8], at: usize, end: usize, by: usize)
+    requires { ⌜ (at ≤ end) × (end + by ≤ length (now b)) ⌝ }
+    ensures { λ r. ⌜ now (b .exit) ≡ put (now (b .entry)) (at + by) (take (end - at) (drop at (now (b .entry)))) ⌝ }
+{
+    let mut i = end;
+    while at < i {
+        i -= 1;
+        b[i + by] = b[i];
+    }
+}
+
 // The four bytes of x from a place on.
 pub fn put_u32(out: &mut [u8], at: usize, x: u32)
     requires { ⌜ at + 4 ≤ length (now out) ⌝ }

@@ -47,6 +47,10 @@ badPrices = 12
 abbrev pub overLimit : ℕ
 overLimit = 13
 
+-- more skills than may be listed, once those that lack were added
+abbrev pub tooManyListed : ℕ
+tooManyListed = 16
+
 -- a reader's number that is nobody's
 abbrev pub noReader : ℕ
 noReader = 19

@@ -23,6 +23,8 @@ pub const BAD_PRICES: u64 = 12;
 
 pub const OVER_LIMIT: u64 = 13;
 
+pub const TOO_MANY_LISTED: u64 = 16;
+
 pub const NO_READER: u64 = 19;
 
 pub const NOT_FOR_GUESTS: u64 = 20;

@@ -124,6 +124,19 @@ never-reached n [] b m w f g h = elim h [ inl a ↦ T-not b (f tt) (a .1) | inr 
 never-reached n (x ∷ l) b m w f g h =
     elim h [ inl a ↦ w .0 (a .0) | inr a ↦ never-reached n l b m (w .1) (λ k. f (a .0, k)) g (a .1) ]
 
+-- nor does it matter to another number
+pub passed-over : (n k : ℕ) (l : Conditions) (b : Bool) (m : Conditions) → (k ≡ n → ⊥) → (None l → T (not b)) → First n (l ++ (k, b) ∷ m) ↔ First n (l ++ m)
+passed-over n k [] b m w f = (λ h. elim h [ inl a ↦ absurd (w (a .0)) | inr a ↦ a .1 ], λ h. inr (f tt, h))
+passed-over n k (x ∷ l) b m w f = (
+  λ h. elim h [ inl a ↦ inl a | inr a ↦ inr (a .0, passed-over n k l b m w (λ q. f (a .0, q)) .0 (a .1)) ],
+  λ h. elim h [ inl a ↦ inl a | inr a ↦ inr (a .0, passed-over n k l b m w (λ q. f (a .0, q)) .1 (a .1)) ],
+)
+
+-- one that stands in front, where those behind are not the first
+pub front-first : (n : ℕ) (l m : Conditions) → (First n m → ⊥) → First n (l ++ m) → First n l
+front-first n [] m g h = g h
+front-first n (x ∷ l) m g h = elim h [ inl a ↦ inl a | inr a ↦ inr (a .0, front-first n l m g (a .1)) ]
+
 -- where the last one is the first, none before it holds
 pub last-first : (n : ℕ) (l : Conditions) (b : Bool) → Without n l → First n (l ++ (n, b) ∷ []) → None l × T b
 last-first n [] b k h = elim h [ inl a ↦ (tt, a .1) | inr a ↦ absurd (a .1) ]

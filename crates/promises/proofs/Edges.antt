@@ -11,6 +11,7 @@ use Rattle.promises.specs.LeagueCases.{PROFILES, LEAGUE, PROFILED}
 use Rattle.promises.specs.UnknownCases.{UNKNOWNS, CARRIED}
 use Rattle.promises.specs.PageCases.{PAIRS, PAGES}
 use Rattle.promises.specs.ReaderCases.{TOLD, READERS}
+use Rattle.promises.specs.TrainCases.{TRAINED, FULL}
 use Rattle.promises.specs.Edges.{STARRED, SKILLS, PARTS, EDGES, Agree}
 use Rattle.words.proofs.All.{All, nil, cons}
 use Rattle.promises.proofs.Opened.{opened}
@@ -145,6 +146,14 @@ agree-readers : Agree READERS
 unfolding opened
 agree-readers = refl
 
+agree-trained : Agree TRAINED
+unfolding opened
+agree-trained = refl
+
+agree-full : Agree FULL
+unfolding opened
+agree-full = refl
+
 join : (a b : List Case) → Agree a → Agree b → Agree (a ++ b)
 join a b p q = map-append (λ (x : Case). outcomeOf (x .0)) a b ∙ ap₂ _++_ p q ∙ sym (map-append (λ (x : Case). x .1) a b)
 
@@ -163,4 +172,5 @@ edges =
     (cons agree-values (cons agree-widened (cons agree-profiles (cons agree-league (cons agree-profiled
     (cons agree-unknowns (cons agree-carried
     (cons agree-pairs (cons agree-limits (cons agree-pages
-    (cons agree-told (cons agree-readers nil))))))))))))))))))))))))))))))))))
+    (cons agree-told (cons agree-readers
+    (cons agree-trained (cons agree-full nil))))))))))))))))))))))))))))))))))))

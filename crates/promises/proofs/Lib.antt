@@ -26,6 +26,8 @@ pub mod Readers
 pub mod Haul
 pub mod Hauling
 pub mod Widening
+pub mod Trains
+pub mod Trained
 pub mod Edges
 pub mod Deciding
 pub mod Keeping

@@ -34,6 +34,8 @@ use Rattle.fitcheck.specs.Calls.{listCall, skillCall}
 use Rattle.fitcheck.specs.Hall.{fitStart, fits, badInput, fitRefused, isClear, isFaulted, hallBy, hallCall, hallReturned}
 use Rattle.calls.specs.Output.{outputBy, output, filled, outputWord, noRoom}
 use Rattle.fitcheck.specs.Widen.{widenCall}
+use Rattle.training.specs.Training.{raised, skillOf, lacking, stepBy, step, trainedBy, tooManyListed, trainedImage}
+use Rattle.fitcheck.specs.Train.{trainCall}
 use Rattle.promises.specs.Before.{tooManyDrones, listBefore, rustCall}
 use Rattle.promises.specs.Cases.{known, outcomeOf}
 
@@ -109,6 +111,10 @@ open-widening : Unit {0}
 unfolding oldCatalogueOf oldBadLength oldRefusals wideBits wideValue wideValues widened outputBy output filled outputWord noRoom widenCall
 open-widening = tt
 
+open-training : Unit {0}
+unfolding raised skillOf lacking stepBy step trainedBy tooManyListed trainedImage trainCall
+open-training = tt
+
 open-league : Unit {0}
 unfolding Profile.pricesOf Profile.badProfile Profile.badPrices Profile.profileRefusals Profile.profileRefusal Profile.pointsOf
 open-league = tt
@@ -122,5 +128,5 @@ unfolding open-lists open-kinds open-resources open-slots open-slot-checks open-
 open-rules = tt
 
 unfoldable pub opened : Unit {0}
-unfolding known outcomeOf open-floats open-words open-catalogue open-fit open-bytes open-refusals open-rules open-calls open-hall open-widening
+unfolding known outcomeOf open-floats open-words open-catalogue open-fit open-bytes open-refusals open-rules open-calls open-hall open-widening open-training
 opened = tt

@@ -38,7 +38,7 @@ module _ (t : Terms) (catalogue fit : List ℕ) (main : 256 ≤ t .pairs) where
   over-pairs = ltb (min (t .pairs) 256) (length (pairs (catalogueOf catalogue) (fitOf fit)))
 
   -- a fit that 4 does not refuse has no more pairs
-  few-pairs : None images → T (not over-pairs)
+  pub few-pairs : None images → T (not over-pairs)
   few-pairs n =
       let short = pairs-short fit (none-parts (catalogueConditions catalogue) (fitConditions fit) n .1 .0) (catalogueOf catalogue) in
       subst (λ (b : Bool). T (not b)) (sym (le-ltb (min (t .pairs) 256) (length (pairs (catalogueOf catalogue) (fitOf fit))) (omega (arith, short, main)))) tt

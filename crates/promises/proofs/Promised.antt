@@ -1,11 +1,17 @@
 -- The promises, all of them. Each is proved in a file of its own.
+use Prim.Native.Nat.{ℕ, _+_}
 use mathlib.Core.Path.{_≡_, refl}
+use lib.ListN.{replicate}
 use Rattle.words.specs.Words.{each, tableFrom}
+use Rattle.catalogue.specs.Catalogue.{catalogueOf}
+use Rattle.fit.specs.Fit.{fitOf}
 use Rattle.lists.specs.Terms.{Terms, readBy, main}
 use Rattle.promises.specs.Answers.{refusal}
 use Rattle.promises.specs.Compare.{Alike, Kept}
 use Rattle.promises.specs.Hauls.{outsideHold}
 use Rattle.promises.specs.GrownCase.{CATALOGUE, OLD, NEW, RETRAINED, LOADED, BANNING, PRICING, NARROW, WIDER, ROOM}
+use Rattle.promises.specs.TrainCases.{demanding}
+use Rattle.promises.specs.Trains.{listAfter, Onward, PILOT}
 use Rattle.promises.specs.Promises.{listOutcome, skillOutcome, Names, Promises}
 use Rattle.promises.proofs.Calls.{list-answers, skill-answers, list-room, skill-room}
 use Rattle.promises.proofs.Comparing.{list-kept, skills-kept}
@@ -21,6 +27,8 @@ use Rattle.promises.proofs.Unknowns.{unknowns, unknowns-left}
 use Rattle.promises.proofs.Hauling.{haul-lists, haul-skills, hold-one, hold-kept}
 use Rattle.promises.proofs.Pages.{small-page, small-page-skills, main-page}
 use Rattle.promises.proofs.Widening.{widen-answers, widen-decodes, widen-stands}
+use Rattle.promises.proofs.Trains.{train-answers, train-as-skill, trained-accepts, trained-fit, trained-empty, trained-onward, step-none}
+use Rattle.promises.proofs.Trained.{train-example}
 use Rattle.promises.proofs.Edges.{edges}
 
 names : Names
@@ -64,6 +72,13 @@ promised = record {
   widen-answers = widen-answers;
   widen-decodes = widen-decodes;
   widen-stands = widen-stands;
+  train-answers = train-answers;
+  train-as-skill = train-as-skill;
+  train-decodes = λ catalogue fit n steps buffer h. (trained-accepts catalogue fit n steps buffer h, trained-fit catalogue fit n steps buffer h);
+  train-empty = trained-empty;
+  train-steps = trained-onward;
+  train-still = step-none;
+  train-example = train-example;
   names = names;
   edges = edges;
 }
@@ -109,3 +124,8 @@ haul-applies =
 skill-applies : Kept (skillOutcome NARROW CATALOGUE OLD 2 ROOM) (skillOutcome WIDER CATALOGUE NEW 2 ROOM)
 unfolding opened
 skill-applies = promised .skill-kept NARROW WIDER CATALOGUE OLD NEW ROOM ROOM 2 (example .grown) refl refl
+
+-- P11 as it is promised, of an image
+train-applies : (k : ℕ) → let after = listAfter (catalogueOf demanding) 2 (fitOf PILOT) in Onward (after k) (after (k + 1))
+unfolding opened
+train-applies = promised .train-steps demanding PILOT 2 5 (replicate 105 7) refl

@@ -32,22 +32,22 @@ use Rattle.promises.specs.Widens.{widenOutcome, widenConditions, Fills, 
 use Rattle.promises.proofs.Conditions.{none-is, is-none, word-refused, word-answered, word-numbered}
 
 -- ---- a call that writes bytes, from the first of its conditions that holds
-module _ (l : Conditions) (numbered : Numbered 10 l) (bs before : List ℕ)
+module _ (most : ℕ) (l : Conditions) (numbered : Numbered most l) (bs before : List ℕ)
     (small : None l → length bs < 2 ^ 32) (room : None l → length bs ≤ length before) where
   abbrev gives : ℕ → Outcome
   gives k = record { word = outputWord (outputBy k bs); buffer = filled before (outputBy k bs) }
 
-  go : (k : ℕ) → firstOf l ≡ k → Fills l bs before (gives k)
+  go : (k : ℕ) → firstOf l ≡ k → Fills most l bs before (gives k)
   unfolding outputBy outputWord filled
   go zero e =
-      let n = is-none 10 l numbered e in
+      let n = is-none most l numbered e in
       let s = small n in
       let r = room n in
       let q : firstOf l ≡ length bs / 4294967296 = omega arith in
       record {
-        refused = word-refused 10 l numbered (length bs) q;
-        answered = word-answered 10 l numbered (length bs) q;
-        numbered = word-numbered 10 l numbered (length bs) q;
+        refused = word-refused most l numbered (length bs) q;
+        answered = word-answered most l numbered (length bs) q;
+        numbered = word-numbered most l numbered (length bs) q;
         nothing = λ p. absurd (omega arith);
         counted = λ h. omega arith;
         front = λ h. take-at bs (drop (length bs) before) (length bs) refl;
@@ -63,9 +63,9 @@ module _ (l : Conditions) (numbered : Numbered 10 l) (bs before : List ℕ)
   go (suc k) e =
       let q : firstOf l ≡ suc k * 4294967296 / 4294967296 = omega arith in
       record {
-        refused = word-refused 10 l numbered (suc k * 4294967296) q;
-        answered = word-answered 10 l numbered (suc k * 4294967296) q;
-        numbered = word-numbered 10 l numbered (suc k * 4294967296) q;
+        refused = word-refused most l numbered (suc k * 4294967296) q;
+        answered = word-answered most l numbered (suc k * 4294967296) q;
+        numbered = word-numbered most l numbered (suc k * 4294967296) q;
         nothing = λ p. (omega arith, refl);
         counted = λ h. absurd (omega arith);
         front = λ h. absurd (omega arith);
@@ -73,7 +73,7 @@ module _ (l : Conditions) (numbered : Numbered 10 l) (bs before : List ℕ)
         length-kept = refl;
       }
 
-  fills : Fills l bs before (gives (firstOf l))
+  pub fills : Fills most l bs before (gives (firstOf l))
   fills = go (firstOf l) refl
 
 -- ---- the conditions of the widening
@@ -95,10 +95,10 @@ module _ (old buffer : List ℕ) where
     unfolding oldBadLength
     few = omega (arith, widened-length old old-size, length-limit old (oldSizeOf old) sized, old-size)
 
-  pub widen-answers : Fills (widenConditions old buffer) (widened old) buffer (widenOutcome old buffer)
+  pub widen-answers : Fills 10 (widenConditions old buffer) (widened old) buffer (widenOutcome old buffer)
   unfolding widenCall output oldRefusals noRoom
   widen-answers =
-      fills (widenConditions old buffer) (omega arith) (widened old) buffer few
+      fills 10 (widenConditions old buffer) (omega arith) (widened old) buffer few
       (λ n. nltb→le (length buffer) (length (widened old)) (n .1 .1 .1 .0))
 
   module _ (answered : refusal (widenOutcome old buffer) ≡ 0) where

@@ -24,6 +24,8 @@ use Rattle.fitcheck.specs.Calls.{listCall, skillCall}
 use Rattle.fitcheck.specs.Hall.{hallCall, hallReturned}
 use Rattle.calls.specs.Output.{outputWord, filled}
 use Rattle.fitcheck.specs.Widen.{widenCall}
+use Rattle.training.specs.Training.{trainRefusals}
+use Rattle.fitcheck.specs.Train.{trainCall}
 use Rattle.promises.specs.Before.{listBefore}
 
 -- ---- a catalogue: types with their groups and categories in the game
@@ -221,6 +223,9 @@ pub data Input : Type 0 where
   -- the bits of an f32, widened; the widening call
   Single : ℕ → Input
   WidenCall : (old buffer : List ℕ) → Input
+  -- the first of 8, 9 and 16 that holds, or 0; the training call
+  TrainRefusal : Catalogue → Fit → (result : ℕ) → Input
+  TrainCall : (catalogue fit : List ℕ) (result steps : ℕ) (buffer : List ℕ) → Input
 
 pub data Expected : Type 0 where
   Number : ℕ → Expected
@@ -259,6 +264,9 @@ outcomeOf (HallCall catalogue input) = Number (hallReturned (hallCall catalogue 
 outcomeOf (ListBefore catalogue fit buffer) = let a = listBefore main catalogue fit buffer in Returns (returned a) (buffered buffer a)
 outcomeOf (Single n) = Number (wideBits (le 4 n) 0)
 outcomeOf (WidenCall old buffer) = let o = widenCall old buffer in Returns (outputWord o) (filled buffer o)
+outcomeOf (TrainRefusal c f n) = Number (firstOf (trainRefusals c f n))
+outcomeOf (TrainCall catalogue fit result steps buffer) =
+    let o = trainCall catalogue fit result steps buffer in Returns (outputWord o) (filled buffer o)
 
 abbrev pub Case : Type 0
 Case = Input × Expected

@@ -1,5 +1,6 @@
 -- Document 01, "Edges, those marked * proved": one table of inputs and outcomes. First the starred edges, then a case for and against every
--- rule, entries and calls in bytes, every part of every refusal, what widens to what, leagues, missing types, the limits of pages, readers.
+-- rule, entries and calls in bytes, every part of every refusal, what widens to what, leagues, missing types, the limits of pages, readers,
+-- training.
 use Prim.Native.Nat.{ℕ}
 use mathlib.Core.Path.{_≡_}
 use mathlib.Core.Bool.{true, false}
@@ -24,6 +25,7 @@ use Rattle.promises.specs.LeagueCases.{PROFILES, LEAGUE, PROFILED}
 use Rattle.promises.specs.UnknownCases.{UNKNOWNS, CARRIED}
 use Rattle.promises.specs.PageCases.{PAIRS, LIMITS, PAGES}
 use Rattle.promises.specs.ReaderCases.{TOLD, READERS}
+use Rattle.promises.specs.TrainCases.{TRAINED, FULL}
 
 -- ---- skills
 -- skills 1 and 2 demand each other: 2 at 1, and 1 at 4
@@ -107,7 +109,8 @@ abbrev pub PARTS : List (List Case)
 PARTS =
     STARRED ∷ SKILLS ∷ KINDS ∷ RESOURCES ∷ SLOTS ∷ ITEMS ∷ CROWDS ∷ ORDER ∷ ENTRIES ∷ CALLS
     ∷ LENGTHS ∷ KEYS ∷ FIELDS ∷ SIZES ∷ IDS ∷ RANGES ∷ DRONES ∷ NUMBERS ∷ BUFFERS ∷ FIRSTS ∷ LARGE ∷ ZEROS
-    ∷ VALUES ∷ WIDENED ∷ PROFILES ∷ LEAGUE ∷ PROFILED ∷ UNKNOWNS ∷ CARRIED ∷ PAIRS ∷ LIMITS ∷ PAGES ∷ TOLD ∷ READERS ∷ []
+    ∷ VALUES ∷ WIDENED ∷ PROFILES ∷ LEAGUE ∷ PROFILED ∷ UNKNOWNS ∷ CARRIED ∷ PAIRS ∷ LIMITS ∷ PAGES ∷ TOLD ∷ READERS
+    ∷ TRAINED ∷ FULL ∷ []
 
 abbrev pub EDGES : List Case
 EDGES = each PARTS λ part. part

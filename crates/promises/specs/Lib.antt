@@ -9,6 +9,7 @@ pub mod Walks
 pub mod Halls
 pub mod Widens
 pub mod Hauls
+pub mod Trains
 pub mod Names
 pub mod Edges
 pub mod Cases
@@ -20,3 +21,4 @@ pub mod LeagueCases
 pub mod UnknownCases
 pub mod PageCases
 pub mod ReaderCases
+pub mod TrainCases

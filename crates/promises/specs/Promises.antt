@@ -1,23 +1,23 @@
--- Every promise, whole, with no proof in it; `proofs/Promised.antt` has the theorem. The calls are `listCall`, `skillCall`, `hallCall` and
--- `widenCall` of fitcheck/specs, functions of bytes, and the exported functions are proved equal to them: the word by `returned`,
--- `hallReturned`, `outputWord`, the buffer by `buffered`, `filled`. Read `Answers`, `Compare`, `GrownCase`, `KeptCases`, `Walks`, `Halls`,
--- `Widens`, `Edges` beside this file, and lists/specs for the list. `Terms` is what a call brings beside images and buffer.
-use Prim.Native.Nat.{ℕ, _*_, _/_, _≤_}
+-- Every promise, whole, with no proof in it; `proofs/Promised.antt` has the theorem. The calls are `listCall`, `skillCall`, `hallCall`,
+-- `widenCall` and `trainCall` of fitcheck/specs, functions of bytes, and the exported functions are proved equal to them: the word by
+-- `returned`, `hallReturned`, `outputWord`, the buffer by `buffered`, `filled`. Read `Answers`, `Compare`, `GrownCase`, `KeptCases`, `Walks`,
+-- `Halls`, `Widens`, `Trains`, `Edges` beside this file, and lists/specs for the list. `Terms` is what a call brings beside images and buffer.
+use Prim.Native.Nat.{ℕ, _+_, _*_, _/_, _≤_, _<_}
 use mathlib.Core.Path.{_≡_}
 use mathlib.Core.Bool.{false, not}
 use mathlib.Core.List.{List, [], map, List·Memᴰ}
 use mathlib.Core.Logic.{_↔_}
-use lib.Dec.{T, eqb}
+use lib.Dec.{T, leb, eqb}
 use lib.ListN.{length, getD}
 use lib.Ieee.Exact.{HasValue}
-use Rattle.words.specs.Words.{from, only}
+use Rattle.words.specs.Words.{from, only, isEmpty}
 use Rattle.image.specs.Bytes.{u8At}
 use Rattle.floats.specs.Floats.{ofNat}
 use Rattle.catalogue.specs.Catalogue.{Catalogue, catalogueOf}
 use Rattle.widening.specs.Old.{oldCatalogueOf}
 use Rattle.widening.specs.Widen.{widened}
 use Rattle.fit.specs.Fit.{Item, Result, Fit, fitOf}
-use Rattle.fit.specs.Refusals.{badSize}
+use Rattle.fit.specs.Refusals.{badSize, fitRefusal}
 use Rattle.entry.specs.Entries.{number, entryBytes}
 use Rattle.context.specs.Context.{pairs}
 use Rattle.resource.specs.Resource.{launched}
@@ -25,6 +25,7 @@ use Rattle.skill.specs.Skill.{tooMany, skillList}
 use Rattle.lists.specs.Terms.{Terms, readBy, main}
 use Rattle.validate.specs.Validate.{listOf}
 use Rattle.lists.specs.Lists.{leagueList, wholeList, forReader, listFor}
+use Rattle.training.specs.Training.{step, trainedBy}
 use Rattle.fitcheck.specs.Calls.{listCall, skillCall}
 use Rattle.fitcheck.specs.Hall.{hallCall, hallReturned}
 use Rattle.promises.specs.Answers.{Outcome, outcome, refusal, count, entriesOf, catalogueConditions, fitConditions, listConditions, skillConditions, None, Answers}
@@ -36,6 +37,7 @@ use Rattle.promises.specs.KeptCases.{Tables}
 use Rattle.promises.specs.Walks.{MoreWanted, SkillsOf}
 use Rattle.promises.specs.Halls.{HallAnswers, Judged}
 use Rattle.promises.specs.Widens.{widenOutcome, widenConditions, Fills, written, Stands}
+use Rattle.promises.specs.Trains.{trainOutcome, trainedBytes, trainConditions, missing, listAfter, Onward, TrainExample}
 use Rattle.promises.specs.Names.{numbered, nameNumbers}
 use Rattle.promises.specs.Edges.{EDGES, Agree}
 
@@ -228,7 +230,7 @@ HallFits = (catalogue fit buffer : List ℕ) → None (catalogueConditions catal
 -- P10. Of any bytes, the widening call gives the first refusal whose condition holds, and no other byte than the new catalogue's own
 -- changes; where no condition holds, it gives the widened catalogue.
 abbrev pub WidenAnswers : Type 0
-WidenAnswers = (old buffer : List ℕ) → Fills (widenConditions old buffer) (widened old) buffer (widenOutcome old buffer)
+WidenAnswers = (old buffer : List ℕ) → Fills 10 (widenConditions old buffer) (widened old) buffer (widenOutcome old buffer)
 
 -- What it writes decodes to the old catalogue's records.
 abbrev pub WidenDecodes : Type 0
@@ -238,6 +240,42 @@ WidenDecodes = (old buffer : List ℕ) → refusal (widenOutcome old buffer) ≡
 abbrev pub WidenStands : Type 0
 WidenStands = (old buffer : List ℕ) → refusal (widenOutcome old buffer) ≡ 0 → count (widenOutcome old buffer) ≤ 16777216
     → Stands old (written (widenOutcome old buffer))
+
+-- P11. Of any bytes, the training call gives the first refusal whose condition holds, 16 being the highest, and no other byte than the new
+-- fit's own changes; where no condition holds, it gives the fit that the steps lead to.
+abbrev pub TrainAnswers : Type 0
+TrainAnswers = (catalogue fit : List ℕ) (result steps : ℕ) (buffer : List ℕ)
+    → Fills 16 (trainConditions catalogue fit result steps buffer) (trainedBytes catalogue fit result steps) buffer
+    (trainOutcome catalogue fit result steps buffer)
+
+-- 1 to 9 refuse it exactly where they refuse the skill call of that result, an officer's on the main page, whatever is lent to either.
+abbrev pub TrainAsSkill : Type 0
+TrainAsSkill = (catalogue fit : List ℕ) (result steps : ℕ) (buffer other : List ℕ) (n : ℕ) → 0 < n → n ≤ 9
+    → (refusal (trainOutcome catalogue fit result steps buffer) ≡ n) ↔ (refusal (skillOutcome main catalogue fit result other) ≡ n)
+
+-- What it writes is a fit that 4 to 6 do not refuse, and decodes to the old one after so many single steps.
+abbrev pub TrainDecodes : Type 0
+TrainDecodes = (catalogue fit : List ℕ) (result steps : ℕ) (buffer : List ℕ) → refusal (trainOutcome catalogue fit result steps buffer) ≡ 0
+    → let new = written (trainOutcome catalogue fit result steps buffer) in
+    (fitRefusal new ≡ 0) × (fitOf new ≡ trainedBy (catalogueOf catalogue) result steps (fitOf fit))
+
+-- The skill list of that result is empty in it exactly where the steps are no fewer than the sum of required less trained over the first list:
+-- after exactly that many, and at no earlier step.
+abbrev pub TrainEmpty : Type 0
+TrainEmpty = (catalogue fit : List ℕ) (result steps : ℕ) (buffer : List ℕ) → refusal (trainOutcome catalogue fit result steps buffer) ≡ 0
+    → let c = catalogueOf catalogue in
+    isEmpty (skillList c (fitOf (written (trainOutcome catalogue fit result steps buffer))) result)
+    ≡ leb (missing (skillList c (fitOf fit) result)) steps
+
+-- No step adds an entry to it: each takes its first entry off or gives that one level more, and leaves every other. A step on an empty list
+-- changes nothing.
+abbrev pub TrainSteps : Type 0
+TrainSteps = (catalogue fit : List ℕ) (result steps : ℕ) (buffer : List ℕ) → refusal (trainOutcome catalogue fit result steps buffer) ≡ 0
+    → let after = listAfter (catalogueOf catalogue) result (fitOf fit) in
+    (k : ℕ) → Onward (after k) (after (k + 1))
+
+abbrev pub TrainStill : Type 0
+TrainStill = (c : Catalogue) (result : ℕ) (f : Fit) → skillList c f result ≡ [] → step c result f ≡ f
 
 -- Every name has its number of document 01, and the tables go through them in order: 0 to 87, none twice and none left out.
 abbrev pub Names : Type 0
@@ -286,5 +324,13 @@ pub record Promises : Type 0 where
   pub widen-answers : WidenAnswers
   pub widen-decodes : WidenDecodes
   pub widen-stands : WidenStands
+  pub train-answers : TrainAnswers
+  pub train-as-skill : TrainAsSkill
+  pub train-decodes : TrainDecodes
+  pub train-empty : TrainEmpty
+  pub train-steps : TrainSteps
+  pub train-still : TrainStill
+  -- a fit trained step by step, and lists that no step leads to
+  pub train-example : TrainExample
   pub names : Names
   pub edges : Edges

@@ -31,12 +31,12 @@ widenConditions old buffer =
     let c = oldCatalogueOf old in
     (1, oldBadLength old) ∷ (2, badOrder c) ∷ (3, badField c) ∷ (10, noRoom buffer (widened old)) ∷ []
 
--- a call under some conditions, which writes bs where none of them holds
-pub record Fills (conditions : Conditions) (bs before : List ℕ) (o : Outcome) : Type 0 where
-  -- a number refuses exactly where its condition is the first that holds, and is one of 1 to 10
+-- a call under some conditions, which writes bs where none of them holds, and whose numbers go to the most
+pub record Fills (most : ℕ) (conditions : Conditions) (bs before : List ℕ) (o : Outcome) : Type 0 where
+  -- a number refuses exactly where its condition is the first that holds, and is not over the most
   pub refused : (n : ℕ) → 0 < n → (refusal o ≡ n) ↔ First n conditions
   pub answered : (refusal o ≡ 0) ↔ None conditions
-  pub numbered : refusal o ≤ 10
+  pub numbered : refusal o ≤ most
   -- a refusal counts nothing and changes no byte
   pub nothing : 0 < refusal o → (count o ≡ 0) × (o .buffer ≡ before)
   -- an answer counts its bytes, has them from byte 0 on, and leaves every byte behind them

@@ -221,6 +221,16 @@ pub fn at_chain() -> Fit {
     }
 }
 
+/// A fit whose ship demands the first skill of `world::falling_chain(512, _)`, and
+/// that lists as many skills with higher ids: whatever is put in moves them all.
+pub fn at_falling_chain() -> Fit {
+    let mut fit = at_chain();
+    let listed = (10_000..10_512).map(|id| Skill { id, level: 1 });
+    fit.skills = listed.collect();
+    fit.ship.attributes = rows(vec![(REQUIRED, 4_322.0), (REQUIRED + 1, 5.0)]);
+    fit
+}
+
 fn pick(rng: &mut Rng, types: &[i32]) -> i32 {
     rng.pick(types)
 }

@@ -18,8 +18,8 @@ const USAGE: &str = "\
 bench              all tables
 bench --svg FILE   and both curves of growth as a picture
 bench --call CASE TIMES
-                   the library's call of case a, b, c, C (full-size), d, e, f or g
-                   alone, for a profiler
+                   the library's call of case a, b, c, C (full-size), d, e, f, g or
+                   l alone, for a profiler
 ";
 
 /// How many fits of one shape take turns.
@@ -83,6 +83,7 @@ fn everything(picture: Option<&str>) {
     skills(small, full);
     hall(small, full);
     widen();
+    trainings(small, full);
     let by_pairs = grown_pairs(small);
     let by_part = grown_catalogue(&catalogues);
     if let Some(file) = picture {
@@ -249,6 +250,32 @@ fn widen() {
     println!();
 }
 
+/// No step is a walk of its own; what many cost more than one is skills put in.
+fn trainings(small: &Catalogue, full: &Catalogue) {
+    println!("## (l) Training, µs\n");
+    report::train_head();
+    let realistic = of_shape(fits::REALISTIC, FITS);
+    let chained = [Fit::new(&fits::at_chain())];
+    let chain = Catalogue::new(&world::chain(512, 2));
+    let crowded = [Fit::new(&fits::at_falling_chain())];
+    let falling = Catalogue::new(&world::falling_chain(512, 2));
+    for (title, catalogue, fits, result) in [
+        ("one module, small catalogue", small, &realistic[..], MODULE),
+        ("one module, full-size catalogue", full, &realistic, MODULE),
+        ("chain of 512, 2 base values each", &chain, &chained, 0),
+        (
+            "falling chain of 512 before 512 listed",
+            &falling,
+            &crowded,
+            0,
+        ),
+    ] {
+        let row = subject::train(catalogue, fits, result);
+        report::train_row(title, fits.len(), &row);
+    }
+    println!();
+}
+
 fn grown_pairs(small: &Catalogue) -> Vec<List> {
     println!("## Growth with the pairs, small catalogue, µs\n");
     report::growth_head("pairs");
@@ -322,7 +349,8 @@ fn stacks() {
     println!("## Stack, bytes\n");
     println!("| call | stack | of 256 KiB |");
     println!("|---|---|---|");
-    for call in [Call::List, Call::Skill, Call::Hall, Call::Widen] {
+    for call in &Call::ALL[1..] {
+        let call = *call;
         let bytes = stack::measure(call);
         let share = bytes as f64 / stack::BUDGET as f64 * 100.0;
         println!("| {} | {bytes} | {share:.1} % |", call.name());
@@ -357,6 +385,16 @@ fn call(case: &str, times: usize) -> bool {
             let mut new = vec![0; old.len() + old.len() / 3];
             for _ in 0..times {
                 black_box(library.widen(black_box(&old), &mut new));
+            }
+            return true;
+        }
+        "l" => {
+            let catalogue = world::catalogue(FULL).image();
+            let fit = fits::fit(fits::REALISTIC, 0).image();
+            let mut new = vec![0; fit.len() + subject::TRAINED];
+            for _ in 0..times {
+                let catalogue = black_box(&catalogue);
+                black_box(library.train(catalogue, &fit, MODULE, u32::MAX, &mut new));
             }
             return true;
         }

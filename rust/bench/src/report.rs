@@ -1,6 +1,6 @@
 //! The figures as Markdown tables.
 
-use crate::subject::{Hall, List, Skill, Widen};
+use crate::subject::{Hall, List, Skill, Train, Widen};
 
 /// Nanoseconds in microseconds.
 pub fn micros(nanos: f64) -> String {
@@ -209,6 +209,30 @@ pub fn widen_row(title: &str, row: &Widen) {
         ratio(row.widen / row.copy),
         ratio(row.widen / row.scan),
         ratio(row.widen / row.plain),
+    );
+}
+
+/// What training may cost beside a skill call and a copy of the fit.
+const TRAINING: f64 = 2.0;
+
+pub fn train_head() {
+    println!(
+        "| | levels missing | 1 step | as many as are missing | 4,294,967,295 | skill | copy \
+         | the most ÷ (skill + copy), target {TRAINING} |"
+    );
+    println!("|---|---|---|---|---|---|---|---|");
+}
+
+pub fn train_row(title: &str, fits: usize, row: &Train) {
+    let most = row.steps.iter().copied().fold(0.0, f64::max);
+    let ratio = most / (row.skill + row.copy);
+    let shown = if ratio <= TRAINING { "met" } else { "missed" };
+    let [one, all, greatest] = row.steps.map(micros);
+    println!(
+        "| {title} | {:.1} | {one} | {all} | {greatest} | {} | {} | {ratio:.2} {shown} |",
+        f64::from(row.missing) / fits as f64,
+        micros(row.skill),
+        micros(row.copy),
     );
 }
 

@@ -28,15 +28,17 @@ pub enum Call {
     Skill,
     Hall,
     Widen,
+    Train,
 }
 
 impl Call {
-    pub const ALL: [Call; 5] = [
+    pub const ALL: [Call; 6] = [
         Call::Nothing,
         Call::List,
         Call::Skill,
         Call::Hall,
         Call::Widen,
+        Call::Train,
     ];
 
     pub fn name(self) -> &'static str {
@@ -46,11 +48,13 @@ impl Call {
             Call::Skill => "skill",
             Call::Hall => "hall",
             Call::Widen => "widen",
+            Call::Train => "train",
         }
     }
 }
 
-/// A call with its input: the largest fit, and for the skills a chain of 512.
+/// A call with its input: the largest fit, and for the skills and the training a
+/// chain of 512.
 pub struct Prepared {
     call: Call,
     catalogue: Vec<u8>,
@@ -85,6 +89,11 @@ impl Prepared {
                 let old = catalogue.old_image();
                 (catalogue, old, room)
             }
+            Call::Train => {
+                let fit = Fit::new(&fits::at_chain());
+                let room = fit.image.len() + subject::TRAINED;
+                (world::chain(512, 2), fit.image, room)
+            }
             Call::Nothing => (Default::default(), Vec::new(), 0),
         };
         Prepared {
@@ -104,6 +113,7 @@ impl Prepared {
             Call::Skill => library.skill(catalogue, input, 0, Terms::default(), &mut self.buffer),
             Call::Hall => library.hall(catalogue, input),
             Call::Widen => library.widen(input, &mut self.buffer),
+            Call::Train => library.train(catalogue, input, 0, u32::MAX, &mut self.buffer),
             Call::Nothing => 0,
         };
         assert_eq!(word >> 32, 0, "the call is answered");

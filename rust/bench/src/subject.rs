@@ -20,6 +20,9 @@ use crate::timing::medians;
 pub const ANY_LIST: usize = 135_696;
 const ANY_SKILLS: usize = 12_288;
 
+/// By how much a fit grows at most when it is trained: 512 skills of five bytes.
+pub const TRAINED: usize = 2_560;
+
 /// What every call brings but those of [`leagues`], [`pages`] and [`readers`].
 const NO_LEAGUE: Terms = Terms {
     reader: Reader::OFFICER,
@@ -140,6 +143,18 @@ pub struct Widen {
     /// The same in plain Rust: no refusal, all else copied and each value
     /// converted.
     pub plain: f64,
+}
+
+/// What training for one result takes, and what it is held against.
+pub struct Train {
+    /// Levels that are missing, of all fits together.
+    pub missing: u32,
+    /// With one step, with as many as are missing, and with 4,294,967,295.
+    pub steps: [f64; 3],
+    /// The skill call of the same result.
+    pub skill: f64,
+    /// A copy of the fit.
+    pub copy: f64,
 }
 
 /// Goes through the fits in turn, so that no branch of either side learns one
@@ -590,6 +605,87 @@ pub fn agreed_widened(library: &dyn Checker, old: &[u8]) -> Vec<u8> {
     scan::widened(old, &mut plain);
     assert!(plain == expected, "bytes of what is timed beside it");
     new
+}
+
+/// Times the training for one result, over the fits in turn.
+pub fn train(catalogue: &Catalogue, fits: &[Fit], result: u32) -> Train {
+    let library = library();
+    let plans = fits.iter().map(|fit| {
+        for steps in [0, 1, u32::MAX] {
+            agreed_trained(&*library, catalogue, fit, result, steps);
+        }
+        let missing = missing(&*library, catalogue, fit, result);
+        agreed_trained(&*library, catalogue, fit, result, missing);
+        missing
+    });
+    let plans: Vec<u32> = plans.collect();
+    let longest = fits.iter().map(|fit| fit.image.len()).max().unwrap_or(0);
+    let [mut one, mut all, mut most] = std::array::from_fn(|_| vec![0; longest + TRAINED]);
+    let (mut listed, mut copied) = (vec![0; ANY_SKILLS], vec![0; longest]);
+    let [mut t0, mut t1, mut t2, mut t3, mut t4] = std::array::from_fn(|_| Turns::new(fits));
+    let image = &catalogue.image;
+    let call = |fit: &Fit, steps: u32, out: &mut Vec<u8>| {
+        black_box(library.train(black_box(image), &fit.image, result, black_box(steps), out));
+    };
+    let [one, all, most, skill, copy] = medians(
+        ROUNDS,
+        [
+            &mut || call(t0.next().1, 1, &mut one),
+            &mut || {
+                let (number, fit) = t1.next();
+                call(fit, plans[number], &mut all);
+            },
+            &mut || call(t2.next().1, u32::MAX, &mut most),
+            &mut || {
+                let (image, fit) = (black_box(image), &t3.next().1.image);
+                black_box(library.skill(image, fit, result, NO_LEAGUE, &mut listed));
+            },
+            &mut || {
+                let fit = &t4.next().1.image;
+                black_box(&mut copied)[..fit.len()].copy_from_slice(black_box(fit));
+            },
+        ],
+    );
+    Train {
+        missing: plans.iter().sum(),
+        steps: [one, all, most],
+        skill,
+        copy,
+    }
+}
+
+/// The levels that a result lacks, by the library's own list.
+fn missing(library: &dyn Checker, catalogue: &Catalogue, fit: &Fit, result: u32) -> u32 {
+    let listed = agreed_skills(library, catalogue, fit, result);
+    let levels = listed
+        .chunks_exact(ENTRY)
+        .map(|entry| entry[12] - entry[16]);
+    levels.map(u32::from).sum()
+}
+
+/// The fit after so many steps, byte by byte the same from the library and from
+/// the reference, which asks the original after each of them.
+pub fn agreed_trained(
+    library: &dyn Checker,
+    catalogue: &Catalogue,
+    fit: &Fit,
+    result: u32,
+    steps: u32,
+) -> Vec<u8> {
+    let call = |checker: &dyn Checker| {
+        let mut out = vec![0; fit.image.len() + TRAINED];
+        let word = checker.train(&catalogue.image, &fit.image, result, steps, &mut out);
+        (word, out)
+    };
+    let (word, mut trained) = call(library);
+    assert_eq!(word >> 32, 0, "the training is answered");
+    let expected = call(&Original);
+    assert!(
+        (word, &trained) == (expected.0, &expected.1),
+        "bytes of the library and of the reference"
+    );
+    trained.truncate(word as usize);
+    trained
 }
 
 /// A hall input: the number of fits, their lengths, the fits end to end.

@@ -232,7 +232,17 @@ fn demands(number: usize) -> impl Iterator<Item = usize> {
 /// A catalogue of one hull and a chain of skills, each demanding the next,
 /// with so many base values for each; and a fit whose ship demands the first.
 pub fn chain(length: usize, width: usize) -> Catalogue {
-    let skill = |number: usize| 3_300 + 2 * number as i32;
+    linked(length, width, |number| 3_300 + 2 * number as i32)
+}
+
+/// The same with falling ids: a skill that is put in stands before all that were.
+pub fn falling_chain(length: usize, width: usize) -> Catalogue {
+    linked(length, width, |number| {
+        3_300 + 2 * (length - 1 - number) as i32
+    })
+}
+
+fn linked(length: usize, width: usize, skill: impl Fn(usize) -> i32) -> Catalogue {
     let mut types = vec![Type {
         id: SHIP,
         group: SHIP_GROUP,
@@ -258,6 +268,8 @@ pub fn chain(length: usize, width: usize) -> Catalogue {
         let base = |(attribute, value)| Base::single(skill(number), attribute, value);
         bases.extend(rows.into_iter().map(base));
     }
+    types.sort_by_key(|it| it.id);
+    bases.sort_by_key(|it| it.type_id);
     Catalogue {
         names: all_names(),
         types,

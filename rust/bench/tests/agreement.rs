@@ -2,7 +2,7 @@
 
 use bench::fits::{self, LARGEST, REALISTIC};
 use bench::subject::{
-    self, Catalogue, Fit, agreed_hall, agreed_list, agreed_skills, agreed_widened,
+    self, Catalogue, Fit, agreed_hall, agreed_list, agreed_skills, agreed_trained, agreed_widened,
 };
 use bench::world::{self, SMALL};
 use compare::checker::{Checker, Terms};
@@ -46,8 +46,24 @@ fn widened_catalogues_agree_byte_by_byte() {
     assert!(new == catalogue.image());
 }
 
+#[test]
+fn trained_fits_agree_byte_by_byte() {
+    let library = subject::library();
+    let chain = Catalogue::new(&world::chain(512, 2));
+    let demanding = Fit::new(&fits::at_chain());
+    let trained = |steps| agreed_trained(&*library, &chain, &demanding, 0, steps);
+    let before = demanding.image.len();
+    assert!(trained(0) == demanding.image);
+    assert_eq!(trained(1).len(), before + 5);
+    assert_eq!(trained(u32::MAX).len(), before + 5 * 512);
+
+    let small = Catalogue::new(&world::catalogue(SMALL));
+    let realistic = Fit::new(&fits::fit(REALISTIC, 0));
+    agreed_trained(&*library, &small, &realistic, 2, 3);
+}
+
 /// A library whose second entry names another pair, or whose widened catalogue
-/// has another byte.
+/// or trained fit has another byte.
 struct OneByteOff;
 
 impl Checker for OneByteOff {
@@ -70,6 +86,12 @@ impl Checker for OneByteOff {
         out[28] ^= 1;
         word
     }
+
+    fn train(&self, catalogue: &[u8], fit: &[u8], result: u32, steps: u32, out: &mut [u8]) -> u64 {
+        let word = subject::library().train(catalogue, fit, result, steps, out);
+        out[28] ^= 1;
+        word
+    }
 }
 
 #[test]
@@ -84,4 +106,12 @@ fn one_byte_that_differs_stops_the_benchmark() {
 #[should_panic(expected = "bytes of the library and of document 02")]
 fn one_byte_of_a_widened_catalogue_that_differs_stops_it_too() {
     agreed_widened(&OneByteOff, &world::catalogue(SMALL).old_image());
+}
+
+#[test]
+#[should_panic(expected = "bytes of the library and of the reference")]
+fn one_byte_of_a_trained_fit_that_differs_stops_it_as_well() {
+    let catalogue = Catalogue::new(&world::catalogue(SMALL));
+    let fit = Fit::new(&fits::fit(REALISTIC, 0));
+    agreed_trained(&OneByteOff, &catalogue, &fit, 2, 1);
 }

@@ -12,7 +12,7 @@ pub struct Case {
     /// Where it comes from, in a few words.
     pub title: String,
     pub catalogue: Catalogue,
-    /// The list and skill calls take the first; the hall call takes all.
+    /// The list, skill and training calls take the first; the hall call takes all.
     pub fits: Vec<Fit>,
     /// What is done to the hall input's own bytes.
     pub frame: Damage,
@@ -69,6 +69,35 @@ pub enum Ask {
     RetrainedList(Room),
     /// The skill calls of one result in both, for a guest.
     RetrainedSkill(u32, Room),
+    /// The first fit trained for one result.
+    Train(u32, Steps, Room),
+    /// The skills of the result after so many steps and after one more: what is
+    /// promised of them.
+    Trained(u32, Steps),
+}
+
+/// How many steps a training makes.
+#[derive(Clone, Copy, Debug, PartialEq, Eq, PartialOrd, Ord)]
+pub enum Steps {
+    /// So many, whatever is lacking.
+    Of(u32),
+    /// One less than the result lacks levels; none where it lacks none.
+    OneLess,
+    /// As many as it lacks levels.
+    All,
+    OneMore,
+}
+
+impl Steps {
+    /// The number for a result that lacks so many levels.
+    pub fn number(self, missing: u32) -> u32 {
+        match self {
+            Steps::Of(number) => number,
+            Steps::OneLess => missing.saturating_sub(1),
+            Steps::All => missing,
+            Steps::OneMore => missing + 1,
+        }
+    }
 }
 
 /// A list call, or the skill call of a result, with the buffer that it is lent.
@@ -132,7 +161,7 @@ impl Growth {
 
 /// The refusals that a call may give, in their order. 7 is given by none; 13
 /// stands where its first cause does.
-pub const REFUSALS: [u8; 14] = [19, 20, 1, 2, 3, 4, 5, 6, 13, 11, 12, 8, 9, 10];
+pub const REFUSALS: [u8; 15] = [19, 20, 1, 2, 3, 4, 5, 6, 13, 11, 12, 8, 9, 16, 10];
 
 /// Why a call is refused. 13 has two causes, each in a place of its own.
 #[derive(Clone, Copy, Debug, PartialEq, Eq, PartialOrd, Ord)]
@@ -146,7 +175,7 @@ pub enum Cause {
 }
 
 /// The causes in their order. Over 512 wanted skills are 9, whatever the limit.
-pub const CAUSES: [Cause; 15] = [
+pub const CAUSES: [Cause; 16] = [
     Cause::Number(19),
     Cause::Number(20),
     Cause::Number(1),
@@ -161,6 +190,7 @@ pub const CAUSES: [Cause; 15] = [
     Cause::Number(8),
     Cause::Number(9),
     Cause::Skills,
+    Cause::Number(16),
     Cause::Number(10),
 ];
 
@@ -227,5 +257,14 @@ mod tests {
         assert_eq!(Room::Longer(5).length(48), 53);
         assert_eq!(Room::Of(65_536).length(48), 65_536);
         assert_eq!(Room::OneShort.length(0), 0);
+    }
+
+    #[test]
+    fn steps_follow_what_is_missing() {
+        assert_eq!(Steps::Of(9).number(4), 9);
+        assert_eq!(Steps::OneLess.number(4), 3);
+        assert_eq!(Steps::All.number(4), 4);
+        assert_eq!(Steps::OneMore.number(4), 5);
+        assert_eq!(Steps::OneLess.number(0), 0);
     }
 }

@@ -74,5 +74,16 @@ mod linked {
         fn widen(&self, old: &[u8], out: &mut [u8]) -> u64 {
             exported::widen(old, out)
         }
+
+        fn train(
+            &self,
+            catalogue: &[u8],
+            fit: &[u8],
+            result: u32,
+            steps: u32,
+            out: &mut [u8],
+        ) -> u64 {
+            exported::train(catalogue, fit, result, steps, out)
+        }
     }
 }

@@ -68,6 +68,8 @@ impl Record {
             Ask::HauledList | Ask::HauledSkill(_) => return None,
             Ask::WidenedList | Ask::WidenedSkill(_) => return None,
             Ask::RetrainedList(_) | Ask::RetrainedSkill(..) => return None,
+            // A record has one number beside its images, and no place for steps.
+            Ask::Train(..) | Ask::Trained(..) => return None,
         };
         let catalogue = match ask {
             Ask::Widen(_) => case.catalogue.old_image(),

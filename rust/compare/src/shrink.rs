@@ -2,7 +2,7 @@
 
 use std::time::{Duration, Instant};
 
-use crate::case::{Ask, Case, Room};
+use crate::case::{Ask, Case, Room, Steps};
 use crate::checker::Checker;
 use crate::model::{Damage, Fit, Outcome};
 use crate::page::Limits;
@@ -108,6 +108,13 @@ impl Small<'_> {
             self.change(|case| match &mut case.asks[0] {
                 Ask::List(held) | Ask::Skill(_, held) | Ask::Widen(held) => *held = room,
                 Ask::RetrainedList(held) | Ask::RetrainedSkill(_, held) => *held = room,
+                Ask::Train(_, _, held) => *held = room,
+                _ => {}
+            });
+        }
+        for fewer in [0, 1, 2].map(Steps::Of) {
+            self.change(|case| match &mut case.asks[0] {
+                Ask::Train(_, steps, _) | Ask::Trained(_, steps) => *steps = fewer,
                 _ => {}
             });
         }
@@ -196,7 +203,9 @@ impl Small<'_> {
                     | Ask::GrownSkill(result)
                     | Ask::HauledSkill(result)
                     | Ask::WidenedSkill(result)
-                    | Ask::RetrainedSkill(result, _) = ask
+                    | Ask::RetrainedSkill(result, _)
+                    | Ask::Train(result, ..)
+                    | Ask::Trained(result, _) = ask
                         && *result as usize > place + 2
                     {
                         *result -= 1;

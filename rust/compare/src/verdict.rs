@@ -101,8 +101,13 @@ pub fn without_unknown(before: &Listed, given: &[u8]) -> Result<(), String> {
     same.map_err(|what| format!("without rule 26, {what}"))
 }
 
-/// The word of a widening and every byte of the buffer.
-pub fn compare_wide(expected: (u64, &[u8]), word: u64, out: &Guarded) -> Result<(), String> {
+/// The word of a call that writes an image, and every byte of the buffer.
+pub fn compare_bytes(
+    expected: (u64, &[u8]),
+    what: &str,
+    word: u64,
+    out: &Guarded,
+) -> Result<(), String> {
     let (deserved, new) = expected;
     if !out.guards_hold() {
         return Err("the checker wrote beside the buffer".to_string());
@@ -117,13 +122,13 @@ pub fn compare_wide(expected: (u64, &[u8]), word: u64, out: &Guarded) -> Result<
     let given = &out.bytes()[..new.len()];
     if let Some(place) = (0..new.len()).find(|place| given[*place] != new[*place]) {
         return Err(format!(
-            "byte {place} of the new catalogue is {:#04x} by document 02, {:#04x} by the checker",
+            "byte {place} of the {what} is {:#04x} by document 02, {:#04x} by the checker",
             new[place], given[place]
         ));
     }
     match out.first_written(new.len()) {
         Some(place) => Err(format!(
-            "byte {place} of the buffer was written; the new catalogue ends before it"
+            "byte {place} of the buffer was written; the {what} ends before it"
         )),
         None => Ok(()),
     }

@@ -102,28 +102,35 @@ fn catalogue() -> Result<Vec<u8>, BuildError> {
     catalogue.build()
 }
 
-/// A Rifter with three guns and as many damage controls as asked for. The
-/// loads are what a calculation of the fit would give.
+/// What most pilots here have trained.
+const TRAINED: [(i32, u8); 3] = [(MINMATAR_FRIGATE, 3), (GUNNERY, 1), (HULL_UPGRADES, 4)];
+
 fn rifter(damage_controls: u8) -> FitBuilder {
+    flown_by(&TRAINED, damage_controls)
+}
+
+/// A Rifter with three guns and as many damage controls as asked for, and what
+/// its pilot has trained. The loads are what a calculation of the fit would give.
+fn flown_by(trained: &[(i32, u8)], damage_controls: u8) -> FitBuilder {
     let wanting = |state: State, skill: i32, level: f64| {
         ItemResult::new(state)
             .with(REQUIRED_SKILL, f64::from(skill))
             .with(REQUIRED_LEVEL, level)
     };
     let mut fit = FitBuilder::new(RIFTER);
-    fit.skill(MINMATAR_FRIGATE, 3)
-        .skill(GUNNERY, 1)
-        .skill(HULL_UPGRADES, 4)
-        .ship(
-            wanting(State::Online, MINMATAR_FRIGATE, 1.0)
-                .with(POWER_OUTPUT, 41.0)
-                .with(POWER_LOAD, 3.0 + f64::from(damage_controls))
-                .with(CPU_OUTPUT, 130.0)
-                .with(CPU_LOAD, 12.6 + 60.0 * f64::from(damage_controls))
-                .with(HI_SLOTS, 4.0)
-                .with(LOW_SLOTS, 4.0)
-                .with(TURRETS, 3.0),
-        );
+    for (skill, level) in trained {
+        fit.skill(*skill, *level);
+    }
+    fit.ship(
+        wanting(State::Online, MINMATAR_FRIGATE, 1.0)
+            .with(POWER_OUTPUT, 41.0)
+            .with(POWER_LOAD, 3.0 + f64::from(damage_controls))
+            .with(CPU_OUTPUT, 130.0)
+            .with(CPU_LOAD, 12.6 + 60.0 * f64::from(damage_controls))
+            .with(HI_SLOTS, 4.0)
+            .with(LOW_SLOTS, 4.0)
+            .with(TURRETS, 3.0),
+    );
     for slot in 0..3 {
         fit.item(
             FitItem::new(AUTOCANNON, Slot::High(slot)),
@@ -173,9 +180,14 @@ fn pasted() -> Result<Vec<u8>, BuildError> {
     fit.build()
 }
 
+/// A Rifter whose pilot has a plan to make: the guns are still to be learnt.
+fn rookie() -> Result<Vec<u8>, BuildError> {
+    flown_by(&[(MINMATAR_FRIGATE, 3), (HULL_UPGRADES, 2)], 1).build()
+}
+
 /// The catalogue, the names, the fits, one that was calculated half, one that
-/// was cut short on its way, and beside them an old one and one whose training
-/// is wrong.
+/// was cut short on its way, and beside them an old one, one whose training is
+/// wrong and one whose training is to come.
 pub fn write(folder: &Path) -> Result<(), Box<dyn Error>> {
     let fits = folder.join("fits");
     fs::create_dir_all(&fits)?;
@@ -187,6 +199,7 @@ pub fn write(folder: &Path) -> Result<(), Box<dyn Error>> {
     fs::write(fits.join("cut.fit"), &rifter(1).build()?[..100])?;
     fs::write(folder.join("old.fit"), old()?)?;
     fs::write(folder.join("pasted.fit"), pasted()?)?;
+    fs::write(folder.join("rookie.fit"), rookie()?)?;
     Ok(())
 }
 

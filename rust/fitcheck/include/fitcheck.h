@@ -45,6 +45,9 @@ extern "C" {
 #define FITCHECK_POINTS 25
 #define FITCHECK_UNKNOWN_TYPE 26
 
+/* The refusal that training alone gives. */
+#define FITCHECK_LISTED_SKILLS 16
+
 #define FITCHECK_REFUSAL(word) ((uint32_t)((word) >> 32))
 #define FITCHECK_COUNT(word) ((uint32_t)((word)&0xFFFFFFFFu))
 
@@ -94,9 +97,23 @@ uint64_t fit_hall(const uint8_t *catalogue, size_t catalogue_length,
 uint64_t fit_widen(const uint8_t *old, size_t old_length,
                    uint8_t *out, size_t out_length);
 
+/* The fit that training for one result leads to, so many steps long: each raises
+ * by one level the first skill that fit_skill would list, and lists it at level 1
+ * where it was not listed. Its bytes stand from the beginning of `out`, and the
+ * count is how many they are: as many as the fit has, and five more for each skill
+ * that is added, which are at most FITCHECK_MOST_SKILLS. What is no skill and no
+ * level is as it was. Steps beyond those that are missing change nothing. Where the
+ * skills that are lacking and not listed would carry the listed ones over 1,024,
+ * the call is refused by FITCHECK_LISTED_SKILLS, whatever the steps. It names no
+ * reader: it is the officer's. */
+uint64_t fit_train(const uint8_t *catalogue, size_t catalogue_length,
+                   const uint8_t *fit, size_t fit_length,
+                   uint32_t result, uint32_t steps,
+                   uint8_t *out, size_t out_length);
+
 /* The number of this set of calls, images and rules, which its name has too: a
  * library of another set does not link with a program that asks for this. */
-uint64_t fit_interface_6(void);
+uint64_t fit_interface_7(void);
 
 #ifdef __cplusplus
 }

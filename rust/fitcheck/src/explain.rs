@@ -1,6 +1,7 @@
 //! Entries in sentences that a pilot understands.
 
-use crate::{Entry, FitImage, GroupLimit, Names, Resource, Rule, SlotKind, Target};
+use crate::training::levels;
+use crate::{Entry, FitImage, GroupLimit, Names, PlannedSkill, Resource, Rule, SlotKind, Target};
 
 /// How many of the items that share a slot are named.
 const NAMED_ITEMS: usize = 3;
@@ -389,6 +390,13 @@ impl<'a> Explainer<'a> {
             } => self.skill_words(&self.result_words(result), type_id, required, level),
             _ => self.explain(entry),
         }
+    }
+
+    /// A skill of a plan: `Gunnery: 2 to 4, 2 levels`.
+    pub fn explain_training(&self, skill: PlannedSkill) -> String {
+        let PlannedSkill { type_id, from, to } = skill;
+        let (name, levels) = (self.type_words(type_id), levels(skill.levels()));
+        format!("{name}: {from} to {to}, {levels}")
     }
 
     /// What a result number stands for: `Rifter (the ship)`, `the character`,

@@ -11,7 +11,7 @@ unsafe extern "C" {
     // too.
     // It is raised here, in include/fitcheck.h for C, and in the Rattle source,
     // crates/fitcheck/src/lib.rt, at the same time.
-    #[link_name = "fit_interface_6"]
+    #[link_name = "fit_interface_7"]
     fn fit_interface() -> u64;
 
     fn fit_list(
@@ -50,6 +50,17 @@ unsafe extern "C" {
     ) -> u64;
 
     fn fit_widen(old: *const u8, old_length: usize, out: *mut u8, out_length: usize) -> u64;
+
+    fn fit_train(
+        catalogue: *const u8,
+        catalogue_length: usize,
+        fit: *const u8,
+        fit_length: usize,
+        result: u32,
+        steps: u32,
+        out: *mut u8,
+        out_length: usize,
+    ) -> u64;
 }
 
 /// The number of the interface, as the linked library says it.
@@ -149,4 +160,22 @@ pub fn widen(old: &[u8], out: &mut [u8]) -> u64 {
     linked();
     // SAFETY: as in `list`.
     unsafe { fit_widen(old.as_ptr(), old.len(), out.as_mut_ptr(), out.len()) }
+}
+
+/// The training of a fit for one result; returns its word.
+pub fn train(catalogue: &[u8], fit: &[u8], result: u32, steps: u32, out: &mut [u8]) -> u64 {
+    linked();
+    // SAFETY: as in `list`; `result` and `steps` may be any numbers.
+    unsafe {
+        fit_train(
+            catalogue.as_ptr(),
+            catalogue.len(),
+            fit.as_ptr(),
+            fit.len(),
+            result,
+            steps,
+            out.as_mut_ptr(),
+            out.len(),
+        )
+    }
 }

@@ -68,7 +68,8 @@ fn numbered<T>(words: &[[u8; 4]], case: impl Fn(u8) -> Option<T>) -> impl Iterat
     })
 }
 
-/// Reads the ship, mode and items of a fit image, and how many results it has.
+/// Reads the ship, mode, skills and items of a fit image, and how many results it
+/// has.
 ///
 /// It judges the length alone: whether the fit is refused is for the calls to
 /// say. On any bytes it reads what is there and never panics.
@@ -123,6 +124,30 @@ impl<'a> FitImage<'a> {
     /// The type id of the mode, if one is set.
     pub fn mode(&self) -> Option<i32> {
         (word(self.image, 20) != Some(0)).then(|| self.id(24))
+    }
+
+    /// How many skills are listed.
+    pub fn skills(&self) -> usize {
+        self.skills
+    }
+
+    /// The trained level of a skill, if the fit lists it.
+    ///
+    /// ```
+    /// use fitcheck::{FitBuilder, FitImage};
+    ///
+    /// let image = FitBuilder::new(587).skill(3300, 4).skill(3301, 0).build()?;
+    /// let fit = FitImage::new(&image).unwrap();
+    /// assert_eq!(fit.skills(), 2);
+    /// assert_eq!(fit.level(3300), Some(4));
+    /// assert_eq!(fit.level(3301), Some(0));
+    /// assert_eq!(fit.level(3302), None);
+    /// # Ok::<(), fitcheck::BuildError>(())
+    /// ```
+    pub fn level(&self, type_id: i32) -> Option<u8> {
+        let mut ids = (0..self.skills).map(|number| self.id(28 + 4 * number));
+        let place = ids.position(|id| id == type_id)?;
+        self.image.get(28 + 4 * self.skills + place).copied()
     }
 
     /// How many items there are.

@@ -17,6 +17,8 @@
 //! - [`Profile`], what a tournament bans and prices, for a list call;
 //! - [`Limits`], for a page that takes fewer items and skills than the main one;
 //! - [`Reader`], whom a list is for: skills are private, and guests are not told;
+//! - [`TrainingPlan`], what a result lacks and the fit that training for it leads
+//!   to;
 //! - [`widen`], which makes a catalogue of today's form of an old one.
 //!
 //! ```
@@ -107,6 +109,8 @@ mod slot;
 #[forbid(unsafe_code)]
 pub mod text;
 #[forbid(unsafe_code)]
+mod training;
+#[forbid(unsafe_code)]
 mod type_data;
 #[forbid(unsafe_code)]
 mod unpaired;
@@ -130,6 +134,7 @@ pub use refusal::Refusal;
 pub use report::Report;
 pub use rule::{GroupLimit, Resource, Rule, SlotKind, Target};
 pub use slot::{Slot, SlotType, State};
+pub use training::{PlannedSkill, Trained, TrainingPlan};
 pub use type_data::{TypeData, TypeInfo, type_ids_of};
 pub use unpaired::Unpaired;
 

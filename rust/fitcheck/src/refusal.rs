@@ -51,6 +51,9 @@ pub enum Refusal {
     /// takes. Which, and how many, is said by the calls that are made under
     /// limits; of the number alone it cannot be told.
     PageLimit(Option<Passed>),
+    /// 16: with the skills that the result lacks, the fit would list more than
+    /// 1,024.
+    ListedSkills,
     /// 19: the call names a reader that there is not. No call of this crate does:
     /// a [`Reader`](crate::Reader) is one of three.
     NoSuchReader,
@@ -79,11 +82,12 @@ impl Refusal {
         Refusal::ProfileLength,
         Refusal::ProfilePrices,
         Refusal::PageLimit(None),
+        Refusal::ListedSkills,
         Refusal::NoSuchReader,
         Refusal::GuestSkills,
     ];
 
-    /// The documents' number, from 1 to 13 and never 7, or 19 or 20. Of an
+    /// The documents' number, from 1 to 13 and never 7, or 16, 19 or 20. Of an
     /// unexpected word it is the upper half.
     pub fn number(self) -> u32 {
         match self {
@@ -99,6 +103,7 @@ impl Refusal {
             Refusal::ProfileLength => 11,
             Refusal::ProfilePrices => 12,
             Refusal::PageLimit(_) => 13,
+            Refusal::ListedSkills => 16,
             Refusal::NoSuchReader => 19,
             Refusal::GuestSkills => 20,
             Refusal::Unexpected { word } => (word >> 32) as u32,
@@ -181,6 +186,9 @@ impl fmt::Display for Refusal {
                 "the fit has more items with a result, or the result wants more skills, than this \
                  page takes"
             }
+            Refusal::ListedSkills => {
+                "with the skills that the result lacks, the fit would list more than 1,024 skills"
+            }
             Refusal::NoSuchReader => {
                 "the call names a reader that there is not: 0 is a guest, 1 a pilot, 2 an officer"
             }
@@ -208,7 +216,7 @@ mod tests {
         assert_eq!(Refusal::or_count(0), Ok(0));
         assert_eq!(Refusal::or_count(5_654), Ok(5_654));
         assert_eq!(Refusal::or_count(4_294_967_295), Ok(u32::MAX));
-        for number in [1, 2, 3, 4, 5, 6, 8, 9, 10, 11, 12, 13, 19, 20] {
+        for number in [1, 2, 3, 4, 5, 6, 8, 9, 10, 11, 12, 13, 16, 19, 20] {
             let word = number * 4_294_967_296;
             let refusal = Refusal::or_count(word).unwrap_err();
             assert_eq!(u64::from(refusal.number()), number);
@@ -220,7 +228,7 @@ mod tests {
                 "a refusal with a count"
             );
         }
-        for number in [7, 14, 15, 16, 17, 18, 21, 275, 0x8000_0000, 0xFFFF_FFFF] {
+        for number in [7, 14, 15, 17, 18, 21, 272, 275, 0x8000_0000, 0xFFFF_FFFF] {
             let word = number * 4_294_967_296;
             assert_eq!(Refusal::or_count(word), Err(Refusal::Unexpected { word }));
         }
@@ -233,7 +241,7 @@ mod tests {
         let mut sentences: Vec<String> = Refusal::ALL.iter().map(Refusal::to_string).collect();
         sentences.sort();
         sentences.dedup();
-        assert_eq!(sentences.len(), 14);
+        assert_eq!(sentences.len(), 15);
         let word = 77 << 32;
         let sentence = Refusal::Unexpected { word }.to_string();
         assert!(sentence.contains("0x0000004D00000000"), "{sentence}");

@@ -100,6 +100,12 @@ const SHORT: &[(Rows, &[usize], &str)] = &[
         &[64, 128, 255],
         "pairs of missing types are listed",
     ),
+    (Rows::Plan, &[64, 256, 511], "entries of a list are trained"),
+    (
+        Rows::TrainedBytes,
+        &[256, 4_096, 65_536, 262_144, 369_251],
+        "bytes of a trained fit are written",
+    ),
 ];
 
 /// Where numbers may be too narrow, in bits.
@@ -163,6 +169,12 @@ const NARROW: &[(Number, &[u32], &str)] = &[
     (Number::PairLimit, &[8, 16, 31], "the pair limit"),
     (Number::SkillLimit, &[8, 9, 16, 31], "the skill limit"),
     (Number::Reader, &[2, 8, 16, 24, 31], "the reader"),
+    (Number::Steps, &[8, 16, 24, 31], "the number of steps"),
+    (
+        Number::TrainCount,
+        &[8, 16, 18],
+        "the count of a trained fit's bytes",
+    ),
 ];
 
 /// What may be refused too early.

@@ -12,12 +12,14 @@ mod reader;
 mod resources;
 mod slots;
 mod tables;
+mod train;
 mod unknown;
 mod widen;
 
 use std::ops::Range;
 
 use crate::case::Case;
+use crate::generate::plant::Calls;
 use crate::generate::{hall, limits, plant, skills};
 use crate::rng::Rng;
 
@@ -39,7 +41,7 @@ const TABLES: [&[Make]; 8] = [
 /// are, and how each is made.
 type Row = (fn() -> usize, fn(usize) -> Case);
 
-const MADE: [Row; 16] = [
+const MADE: [Row; 19] = [
     (plant::others, alone),
     (plant::other_pairs, together),
     (|| hall::CORNERS, hall::corner),
@@ -49,15 +51,21 @@ const MADE: [Row; 16] = [
         |number| {
             let rng = &mut Rng::new(number as u64);
             let plant = plant::widening()[number];
-            plant::widened(plant::alone(rng, plant::Ground::small(), plant))
+            plant::widened(plant::alone(
+                rng,
+                plant::Ground::small(),
+                plant,
+                Calls::Lists,
+            ))
         },
     ),
     (
         || plant::widening_pairs().len(),
         |number| {
-            let (first, second) = plant::widening_pairs()[number];
+            let pair = plant::widening_pairs()[number];
             let rng = &mut Rng::new(number as u64);
-            plant::widened(plant::together(rng, plant::Ground::small(), first, second))
+            let ground = plant::Ground::small();
+            plant::widened(plant::together(rng, ground, pair, Calls::Lists))
         },
     ),
     (page::count, page::case),
@@ -69,7 +77,7 @@ const MADE: [Row; 16] = [
     (|| limits::FULL_SIZES, limits::one_full),
     (|| 1, |number| limits::full(&mut Rng::new(number as u64))),
     (
-        || plant::plants().len() - plant::others(),
+        || plant::untrained() - plant::others(),
         |number| alone(plant::others() + number),
     ),
     (
@@ -78,19 +86,38 @@ const MADE: [Row; 16] = [
     ),
     (reader::count, reader::case),
     (|| haul::CASES.len(), |number| haul::CASES[number]()),
+    (|| train::CASES.len(), |number| train::CASES[number]()),
+    (
+        || plant::training().len(),
+        |number| {
+            let rng = &mut Rng::new(number as u64);
+            let ground = plant::Ground::small();
+            plant::alone(rng, ground, plant::training()[number], Calls::Trainings)
+        },
+    ),
+    (
+        || plant::training_pairs().len(),
+        |number| {
+            let rng = &mut Rng::new(number as u64);
+            let ground = plant::Ground::small();
+            let pair = plant::training_pairs()[number];
+            plant::together(rng, ground, pair, Calls::Trainings)
+        },
+    ),
     (|| limits::LENGTHS, limits::lengths),
 ];
 
 /// A plant of a number, on the least that it can stand on.
 fn alone(number: usize) -> Case {
-    plant::alone(&mut Rng::new(number as u64), plant::Ground::small(), number)
+    let rng = &mut Rng::new(number as u64);
+    plant::alone(rng, plant::Ground::small(), number, Calls::Lists)
 }
 
 /// A pair of refusals of a number.
 fn together(number: usize) -> Case {
-    let (first, second) = plant::pairs()[number];
-    let ground = plant::Ground::small();
-    plant::together(&mut Rng::new(number as u64), ground, first, second)
+    let rng = &mut Rng::new(number as u64);
+    let pair = plant::pairs()[number];
+    plant::together(rng, plant::Ground::small(), pair, Calls::Lists)
 }
 
 /// The numbers of the cases written by hand, of those about skills among

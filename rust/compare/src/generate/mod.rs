@@ -12,11 +12,13 @@ pub mod plant;
 mod raw;
 mod reader;
 pub mod skills;
+mod train;
 pub mod world;
 
 use crate::case::{Ask, Case, Room};
 use crate::model::Fit;
 use crate::rng::Rng;
+use plant::Calls;
 use world::{Style, World};
 
 /// Has a patch draw other numbers than the case that it changes.
@@ -28,6 +30,9 @@ const READER: u64 = 0x5245_4144_4552;
 /// Has cargo behind a fit drawn from other numbers than the fit.
 const HAUL: u64 = 0x4841_554C;
 
+/// The same of how it is trained.
+const TRAIN: u64 = 0x0054_5241_494E;
+
 /// The generated case of a number. What a patch takes away and what its calls
 /// bring beside the images is drawn by itself, so that the rest is the same with
 /// and without.
@@ -38,15 +43,17 @@ pub fn case(seed: u64, number: u64) -> Case {
     page::bring(&mut Rng::for_case(!seed, !number), &mut case);
     reader::bring(&mut Rng::for_case(seed ^ READER, number), &mut case);
     haul::bring(&mut Rng::for_case(seed ^ HAUL, number), &mut case);
+    train::bring(&mut Rng::for_case(seed ^ TRAIN, number), &mut case);
     case
 }
 
 fn images(rng: &mut Rng) -> Case {
     match rng.below(1000) {
-        0..=299 => {
+        0..=279 => {
             let style = Style::realistic(rng);
             single(rng, style, 24, "a realistic fit")
         }
+        280..=299 => train::planted(rng),
         300..=549 => {
             let style = Style::adversarial(rng);
             single(rng, style, 10, "an adversarial fit")
@@ -55,24 +62,24 @@ fn images(rng: &mut Rng) -> Case {
         650..=769 => growth::growth(rng),
         770..=839 => hall::hall(rng),
         840..=889 => {
-            let way = rng.below(plant::plants().len());
+            let way = rng.below(plant::untrained());
             let ground = plant::Ground::realistic(rng);
-            plant::alone(rng, ground, way)
+            plant::alone(rng, ground, way, Calls::Lists)
         }
         890..=899 => {
             let way = rng.pick(&plant::widening());
             let ground = plant::Ground::realistic(rng);
-            plant::widened(plant::alone(rng, ground, way))
+            plant::widened(plant::alone(rng, ground, way, Calls::Lists))
         }
         900..=939 => {
-            let (first, second) = rng.pick(&plant::pairs());
+            let pair = rng.pick(&plant::pairs());
             let ground = plant::Ground::realistic(rng);
-            plant::together(rng, ground, first, second)
+            plant::together(rng, ground, pair, Calls::Lists)
         }
         940..=949 => {
-            let (first, second) = rng.pick(&plant::widening_pairs());
+            let pair = rng.pick(&plant::widening_pairs());
             let ground = plant::Ground::realistic(rng);
-            plant::widened(plant::together(rng, ground, first, second))
+            plant::widened(plant::together(rng, ground, pair, Calls::Lists))
         }
         950..=979 => raw::flipped(rng),
         980..=989 => raw::noise(rng),

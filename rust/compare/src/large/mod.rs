@@ -13,6 +13,7 @@ mod league;
 mod limits;
 mod places;
 mod skills;
+mod train;
 mod unknown;
 mod widen;
 
@@ -25,7 +26,7 @@ use crate::tally::size::LIST_BUFFERS;
 /// longest come last: a fault that another case shows need not wait for them.
 type Row = (usize, fn(usize) -> Case);
 
-const ROWS: [Row; 11] = [
+const ROWS: [Row; 12] = [
     (limits::COUNT, limits::case),
     (places::COUNT, places::case),
     (2, |number| match number {
@@ -45,6 +46,7 @@ const ROWS: [Row; 11] = [
     (blocks::COUNT, blocks::case),
     (halls::COUNT, halls::case),
     (widen::COUNT, widen::case),
+    (train::COUNT, train::case),
 ];
 
 /// How many large cases there are.

@@ -44,14 +44,7 @@ impl<'a> Fit<'a> {
         {
             return Err(4);
         }
-        let mut fit = Fit {
-            image,
-            skills: u32_at(image, 0) as usize,
-            items: u32_at(image, 4) as usize,
-            results: u32_at(image, 8) as usize,
-            attributes: u32_at(image, 12) as usize,
-            starts: Vec::new(),
-        };
+        let mut fit = Fit::sized(image);
         if !fit.is_within_limits(flaw) || !fit.length_is_right(flaw) || !fit.add_counts(flaw) {
             return Err(4);
         }
@@ -65,6 +58,26 @@ impl<'a> Fit<'a> {
             return Err(6);
         }
         Ok(fit)
+    }
+
+    /// A fit that is not refused by 4; its ids and fields are not judged.
+    pub fn unjudged(image: &'a [u8], flaw: Flaw) -> Fit<'a> {
+        let mut fit = Fit::sized(image);
+        fit.add_counts(flaw);
+        fit
+    }
+
+    /// The sizes, before anything is judged.
+    fn sized(image: &'a [u8]) -> Fit<'a> {
+        let size = |number: usize| u32_at(image, 4 * number) as usize;
+        Fit {
+            image,
+            skills: size(0),
+            items: size(1),
+            results: size(2),
+            attributes: size(3),
+            starts: Vec::new(),
+        }
     }
 
     fn is_within_limits(&self, flaw: Flaw) -> bool {
@@ -176,6 +189,10 @@ impl<'a> Fit<'a> {
         self.skills
     }
 
+    pub fn image(&self) -> &'a [u8] {
+        self.image
+    }
+
     pub fn ship_type(&self) -> i32 {
         i32_at(self.image, 16)
     }
@@ -192,6 +209,11 @@ impl<'a> Fit<'a> {
         i32_at(self.image, 28 + 4 * number)
     }
 
+    /// The trained level of the skill of a number.
+    pub fn level(&self, number: usize) -> u8 {
+        self.image[28 + 4 * self.skills + number]
+    }
+
     /// The trained level of a skill that is listed.
     pub fn trained(&self, id: i32, flaw: Flaw) -> Option<u8> {
         if id < 0 && flaw.has(Fault::TrainedNegativeLost) {
@@ -200,7 +222,7 @@ impl<'a> Fit<'a> {
         let id = flaw.id(Number::TrainedId, id);
         (0..flaw.rows(Rows::Trained, self.skills))
             .find(|number| self.skill_id(*number) == id)
-            .map(|number| self.image[28 + 4 * self.skills + number])
+            .map(|number| self.level(number))
     }
 
     pub fn item(&self, number: usize) -> Item {

@@ -51,6 +51,10 @@ pub enum Rows {
     Prices,
     /// The pairs that rule 26 lists.
     Unknown,
+    /// The entries of a list that are trained.
+    Plan,
+    /// The bytes of a trained fit.
+    TrainedBytes,
 }
 
 /// Numbers that may be too narrow.
@@ -108,6 +112,10 @@ pub enum Number {
     SkillLimit,
     /// The reader that a call names.
     Reader,
+    /// The steps of a training.
+    Steps,
+    /// The count of a trained fit's bytes.
+    TrainCount,
 }
 
 /// Sizes that may be refused too early.

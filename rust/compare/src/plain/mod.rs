@@ -17,6 +17,7 @@ mod reader;
 mod resource;
 mod skill;
 mod slot;
+mod train;
 mod unknown;
 mod widen;
 
@@ -73,6 +74,10 @@ impl Checker for Plain {
 
     fn widen(&self, old: &[u8], out: &mut [u8]) -> u64 {
         widen::widen(old, out, self.flaw)
+    }
+
+    fn train(&self, catalogue: &[u8], fit: &[u8], result: u32, steps: u32, out: &mut [u8]) -> u64 {
+        train::train((catalogue, fit), result, steps, out, self.flaw)
     }
 }
 

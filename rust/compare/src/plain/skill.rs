@@ -33,7 +33,12 @@ impl Walk {
 
 /// How many skills a result wants.
 pub fn wanted(context: &Context, result: usize) -> usize {
-    wanted_skills(context, result).ids.len()
+    wanted_ids(context, result).len()
+}
+
+/// The skills that a result wants, at whatever level.
+pub fn wanted_ids(context: &Context, result: usize) -> Vec<i32> {
+    wanted_skills(context, result).ids
 }
 
 /// What one result lacks, or refusal 9 or 13.

@@ -5,7 +5,8 @@
 //! original cannot say or hold is plain code: the total of drones over 32 bits
 //! in `drones`, base values finer than an f32 in `walk`, the widening of old
 //! catalogues in `widen`, the league's rules in `league`, rule 26 in `unknown`,
-//! a page's limits in `page`, who may read what in `reader`.
+//! a page's limits in `page`, who may read what in `reader`, what a step of
+//! training changes in `train`.
 
 mod catalogue;
 mod drones;
@@ -14,6 +15,7 @@ mod fit;
 pub mod league;
 pub mod page;
 pub mod reader;
+mod train;
 mod unknown;
 mod walk;
 mod widen;
@@ -30,6 +32,7 @@ pub use catalogue::{Catalogue, LIMIT};
 pub use encode::entry;
 pub use fit::Fit;
 pub use league::League;
+pub use train::{Missing, Plan, Skills, first_list, would_list};
 pub use widen::widen;
 
 /// A refusal's number.
@@ -78,17 +81,31 @@ impl Checker for Original {
     }
 
     fn widen(&self, old: &[u8], out: &mut [u8]) -> u64 {
-        let new = match widen(old) {
-            Ok(new) => new,
-            Err(refusal) => return refused(refusal),
+        written_bytes(widen(old), out)
+    }
+
+    fn train(&self, catalogue: &[u8], fit: &[u8], result: u32, steps: u32, out: &mut [u8]) -> u64 {
+        let trained = || {
+            let catalogue = Catalogue::decode(catalogue)?;
+            let plan = Plan::of(&catalogue, fit, result)?;
+            Ok(plan.image(steps))
         };
-        match out.get_mut(..new.len()) {
-            Some(room) => {
-                room.copy_from_slice(&new);
-                new.len() as u64
-            }
-            None => refused(10),
+        written_bytes(trained(), out)
+    }
+}
+
+/// Writes an image where it has room; the word of the call.
+fn written_bytes(image: Result<Vec<u8>, Refusal>, out: &mut [u8]) -> u64 {
+    let image = match image {
+        Ok(image) => image,
+        Err(refusal) => return refused(refusal),
+    };
+    match out.get_mut(..image.len()) {
+        Some(room) => {
+            room.copy_from_slice(&image);
+            image.len() as u64
         }
+        None => refused(10),
     }
 }
 

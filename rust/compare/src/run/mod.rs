@@ -4,10 +4,12 @@ mod hauled;
 mod page;
 mod reader;
 mod shown;
+mod train;
 
 use std::cell::{Cell, OnceCell, RefCell};
 use std::collections::BTreeMap;
 use std::panic::{self, AssertUnwindSafe};
+use std::rc::Rc;
 
 use crate::case::{Ask, Case, Lists, Room};
 use crate::checker::{Checker, ENTRY, Entry, Terms, in_words, refused};
@@ -17,9 +19,9 @@ use crate::model::{Fit, hall_image};
 use crate::page::Limits;
 use crate::profile::League;
 use crate::reader::Reader;
-use crate::reference::{self, Fate, LIMIT, Listed, Refusal};
+use crate::reference::{self, Fate, LIMIT, Listed, Plan, Refusal};
 use crate::tally::{Call, Hangar, Point, Tally, Zeros};
-use crate::verdict::{Expected, compare, compare_wide, expected, hall_in_words, without_unknown};
+use crate::verdict::{Expected, compare, compare_bytes, expected, hall_in_words, without_unknown};
 
 pub use shown::Shown;
 
@@ -51,6 +53,8 @@ struct Subject {
     /// The list without rule 26.
     before: OnceCell<Listed>,
     skills: RefCell<BTreeMap<(u32, Limits), Result<Listed, Refusal>>>,
+    /// What training it for a result comes to.
+    plans: RefCell<BTreeMap<u32, Result<Rc<Plan>, Refusal>>>,
 }
 
 impl Subject {
@@ -63,6 +67,7 @@ impl Subject {
             listed: OnceCell::new(),
             before: OnceCell::new(),
             skills: RefCell::default(),
+            plans: RefCell::default(),
         }
     }
 }
@@ -290,6 +295,7 @@ impl<'a> Stage<'a> {
             Ask::WidenedSkill(result) => wide(Some(result)),
             Ask::Hall | Ask::Widen(_) => Vec::new(),
             Ask::RetrainedList(_) | Ask::RetrainedSkill(..) => Vec::new(),
+            Ask::Train(..) | Ask::Trained(..) => Vec::new(),
         }
     }
 
@@ -313,6 +319,10 @@ impl<'a> Stage<'a> {
                 Ask::RetrainedSkill(result, room) => {
                     self.count_retrained(Some(result), room, tally);
                 }
+                Ask::Train(result, steps, room) => {
+                    self.count_train((result, steps), room, tally);
+                }
+                Ask::Trained(result, steps) => self.count_trained((result, steps), tally),
                 Ask::List(_) | Ask::Skill(..) => {}
             }
         }
@@ -539,6 +549,8 @@ impl<'a> Stage<'a> {
             Ask::GrownList => self.grown_keeps(None),
             Ask::GrownSkill(result) => self.grown_keeps(Some(result)),
             Ask::Widen(room) => self.hold_widen(room, checker),
+            Ask::Train(result, steps, room) => self.hold_train((result, steps), room, checker),
+            Ask::Trained(result, steps) => self.hold_trained((result, steps), checker),
             Ask::RetrainedList(_) | Ask::RetrainedSkill(..) => self.same_for_a_guest(ask, checker),
             Ask::List(_) | Ask::Skill(..) => Ok(()),
             Ask::HauledList | Ask::HauledSkill(_) => Ok(()),
@@ -636,7 +648,7 @@ impl<'a> Stage<'a> {
             let mut out = Guarded::buffer(length, fill);
             let word = caught(|| checker.widen(old.copy(fill).bytes(), out.bytes_mut()))?;
             old.unharmed(fill, "old catalogue")?;
-            compare_wide((expected, new), word, &out)?;
+            compare_bytes((expected, new), "new catalogue", word, &out)?;
         }
         Ok(())
     }

@@ -21,6 +21,10 @@ pub enum Shown {
     HallNumber,
     /// The bytes of a widened catalogue, or how many they are.
     Widened,
+    /// The bytes of a trained fit, or how many they are.
+    Trained,
+    /// What is promised of the skill lists along a training.
+    Training,
     /// Bytes of the buffer that are not the entries', or the count alone.
     Buffer,
     Panic,
@@ -45,6 +49,8 @@ impl fmt::Display for Shown {
             }
             Shown::HallNumber => out.write_str("the hall number"),
             Shown::Widened => out.write_str("the widened catalogue"),
+            Shown::Trained => out.write_str("the trained fit"),
+            Shown::Training => out.write_str("the skills after a step"),
             Shown::Buffer => out.write_str("the buffer"),
             Shown::Panic => out.write_str("a panic"),
         }
@@ -60,6 +66,10 @@ impl Stage<'_> {
         match ask {
             Ask::Hall => return self.shown_in_hall(checker),
             Ask::Widen(room) => return self.shown_in_widen(room, checker),
+            Ask::Train(result, steps, room) => {
+                return self.shown_in_train((result, steps), room, checker);
+            }
+            Ask::Trained(..) => return Shown::Training,
             _ => {}
         }
         let calls = self.lists(ask, readers).into_iter();

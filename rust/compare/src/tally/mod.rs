@@ -8,6 +8,7 @@ mod page;
 mod point;
 mod reader;
 pub mod size;
+mod train;
 mod unknown;
 mod wide;
 mod widened;
@@ -27,6 +28,7 @@ pub use league::LeagueEdge;
 pub use page::{PageEdge, pairs_beside, skills_beside};
 pub use point::{Beside, Call, Point, RoomKind};
 pub use reader::{ReaderEdge, Retrained};
+pub use train::{TrainEdge, Training};
 pub use unknown::UnknownEdge;
 pub use widened::{Class, Fine, WidenRoom};
 
@@ -281,16 +283,44 @@ impl Tally {
 
     /// A widening with its buffer's length and the word that it must give.
     pub fn widen(&mut self, room: Room, length: usize, word: u64) {
+        self.writes(Call::Widen, room, length, word);
+    }
+
+    /// The same of a training.
+    pub fn train(&mut self, room: Room, length: usize, word: u64) {
+        self.writes(Call::Train, room, length, word);
+    }
+
+    /// A call that writes an image.
+    fn writes(&mut self, call: Call, room: Room, length: usize, word: u64) {
         self.calls += 1;
         let refusal = (word >> 32) as u8;
         if refusal != 0 {
-            self.meet(Point::Refusal(Call::Widen, refusal));
+            self.meet(Point::Refusal(call, refusal));
         }
         if refusal == 0 || refusal == 10 {
-            self.meet(Point::Buffer(Call::Widen, length as u32));
+            self.meet(Point::Buffer(call, length as u32));
             if let Some(kind) = RoomKind::of(room) {
-                self.meet(Point::Room(Call::Widen, kind));
+                self.meet(Point::Room(call, kind));
             }
+        }
+    }
+
+    /// A training whose images are not refused.
+    pub fn training(&mut self, training: &Training) {
+        train::called(self, training);
+    }
+
+    /// Trainings of so many steps and one more, where so many levels were
+    /// missing.
+    pub fn promised(&mut self, steps: u32, missing: u32) {
+        train::promised(self, steps, missing);
+    }
+
+    /// The refusals that a training deserves, the one that it must give first.
+    pub fn train_pair(&mut self, case: &Case) {
+        if let [second, first] = case.planted[..] {
+            self.meet(Point::TrainPair(first.cause, second.cause));
         }
     }
 

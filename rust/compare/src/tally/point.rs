@@ -11,6 +11,7 @@ use super::size::{
     AMOUNTS, Block, Counting, HELD, Holder, IdOf, LARGEST_HALL, LIST_BUFFERS, LONGEST_LIST, Part,
     Place, RESULTS, Region, SKILL_BUFFERS, UNREAD,
 };
+use super::train::TrainEdge;
 use super::unknown::UnknownEdge;
 use super::widened::{Class, Fine, WidenRoom};
 use crate::case::{Cause, Lists, Plant, Room};
@@ -98,6 +99,10 @@ pub enum Point {
     Reader(ReaderEdge),
     /// Cargo behind a fit, and what becomes of the hold.
     Haul(HaulEdge),
+    /// A refusal by the training where another is deserved too.
+    TrainPair(Cause, Cause),
+    /// What a training meets.
+    Train(TrainEdge),
 }
 
 #[derive(Clone, Copy, Debug, PartialEq, Eq, PartialOrd, Ord)]
@@ -106,6 +111,7 @@ pub enum Call {
     Skill,
     Hall,
     Widen,
+    Train,
 }
 
 impl Call {
@@ -196,10 +202,12 @@ pub fn required() -> Vec<Point> {
     points.extend(of_skills.map(|refusal| Point::Refusal(Call::Skill, refusal)));
     points.extend([1, 2, 3, 4].map(|refusal| Point::Refusal(Call::Hall, refusal)));
     points.extend([1, 2, 3, 10].map(|refusal| Point::Refusal(Call::Widen, refusal)));
+    let of_training = [1, 2, 3, 4, 5, 6, 8, 9, 16, 10];
+    points.extend(of_training.map(|refusal| Point::Refusal(Call::Train, refusal)));
     let plants = plant::plants().into_iter();
     points.extend(plants.map(|(cause, how, _)| Point::Planted(Plant { cause, how })));
     points.extend(plant::pairs().into_iter().map(|(a, b)| Point::Pair(a, b)));
-    for call in [Call::List, Call::Skill, Call::Widen] {
+    for call in [Call::List, Call::Skill, Call::Widen, Call::Train] {
         let rooms = [
             RoomKind::Empty,
             RoomKind::OneShort,
@@ -248,6 +256,9 @@ pub fn required() -> Vec<Point> {
     points.extend(PageEdge::all().into_iter().map(Point::Page));
     points.extend(ReaderEdge::all().into_iter().map(Point::Reader));
     points.extend(HaulEdge::all().into_iter().map(Point::Haul));
+    let pairs = plant::training_pairs().into_iter();
+    points.extend(pairs.map(|(first, second)| Point::TrainPair(first, second)));
+    points.extend(TrainEdge::all().into_iter().map(Point::Train));
     points
 }
 
@@ -255,7 +266,14 @@ pub fn required() -> Vec<Point> {
 fn sizes() -> Vec<Point> {
     let mut points = vec![Point::AllFull];
     points.extend(HELD.map(|(part, count)| Point::Held(part, count)));
-    points.extend([Call::List, Call::Skill, Call::Hall, Call::Widen].map(Point::FullSize));
+    let calls = [
+        Call::List,
+        Call::Skill,
+        Call::Hall,
+        Call::Widen,
+        Call::Train,
+    ];
+    points.extend(calls.map(Point::FullSize));
     points.extend(Block::ALL.map(Point::Most));
     let lengths = [16_777_212, 16_777_216, 16_777_217, 16_777_220];
     points.extend(lengths.map(Point::CatalogueLength));
@@ -295,6 +313,7 @@ impl fmt::Display for Call {
             Call::Skill => "skill call",
             Call::Hall => "hall call",
             Call::Widen => "widening",
+            Call::Train => "training",
         })
     }
 }
@@ -314,7 +333,9 @@ impl fmt::Display for Point {
             Point::Refusal(call, refusal) => write!(out, "refusal {refusal} by the {call}"),
             Point::Planted(plant) => write!(out, "refusal {}: {}", plant.cause, plant.how),
             Point::Pair(a, b) => write!(out, "refusal {a} where {b} is deserved too"),
-            Point::Room(Call::Widen, room) => write!(out, "widening, {}", room.words()),
+            Point::Room(call @ (Call::Widen | Call::Train), room) => {
+                write!(out, "{call}, {}", room.words())
+            }
             Point::Room(call, room) => write!(out, "{call} with entries, {}", room.words()),
             Point::HallFits(count) => write!(out, "hall of {count} fits"),
             Point::HallFit(Fate::Clear) => out.write_str("hall: a clear fit"),
@@ -356,6 +377,10 @@ impl fmt::Display for Point {
             Point::Page(edge) => out.write_str(&edge.words()),
             Point::Reader(edge) => out.write_str(&edge.words()),
             Point::Haul(edge) => out.write_str(&edge.words()),
+            Point::TrainPair(a, b) => {
+                write!(out, "training: refusal {a} where {b} is deserved too")
+            }
+            Point::Train(edge) => out.write_str(&edge.words()),
             Point::Fine(fine) => write!(out, "base value finer than an f32: {}", fine.words()),
             size => size.fmt_size(out),
         }

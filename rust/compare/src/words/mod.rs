@@ -4,14 +4,14 @@
 mod entry;
 mod tables;
 
-use crate::case::{Ask, Case, Growth, Room};
+use crate::case::{Ask, Case, Growth, Room, Steps};
 use crate::checker::{Checker, ENTRY, Terms, in_words, refused};
 use crate::model::{Catalogue, Damage, Fit, Name, Outcome, hall_image};
 use crate::names::{MARKS, NAMES};
 use crate::page::Limits;
 use crate::profile::{BANNED, League};
 use crate::reader::Reader;
-use crate::reference::{Original, widen};
+use crate::reference::{self, Original, Plan, widen};
 use crate::verdict::hall_in_words;
 
 pub use entry::{double, entries, entry};
@@ -144,6 +144,11 @@ pub fn answers(case: &Case) -> String {
             // The lists of the old catalogue, which those of the case are
             // where its base values are f32.
             Ask::WidenedList | Ask::WidenedSkill(_) => continue,
+            Ask::Train(result, steps, _) => {
+                text += &training(&catalogue, &case.fits[0], *result, *steps);
+                continue;
+            }
+            Ask::Trained(..) => continue,
         };
         if asked.contains(&(terms.reader, result)) {
             continue;
@@ -191,6 +196,14 @@ pub fn ask(ask: Ask) -> String {
             let (holder, room) = (holder(result), self::room(room));
             format!("a guest's skill of {holder} with either training, {room}")
         }
+        Ask::Train(result, steps, room) => {
+            let (holder, room) = (holder(result), self::room(room));
+            format!("training for {holder}, {}, {room}", self::steps(steps))
+        }
+        Ask::Trained(result, steps) => {
+            let (holder, steps) = (holder(result), self::steps(steps));
+            format!("training for {holder}, {steps} and one more, with the skills after both")
+        }
     }
 }
 
@@ -200,6 +213,42 @@ fn holder(result: u32) -> String {
         1 => "the character (result 1)".to_string(),
         _ => format!("item {} (result {result})", result - 2),
     }
+}
+
+fn steps(steps: Steps) -> String {
+    match steps {
+        Steps::Of(number) => format!("{number} steps"),
+        Steps::OneLess => "one step less than is missing".to_string(),
+        Steps::All => "as many steps as are missing".to_string(),
+        Steps::OneMore => "one step more than is missing".to_string(),
+    }
+}
+
+/// What document 02 makes of a training: the skills that its steps change.
+fn training(catalogue: &[u8], fit: &Fit, result: u32, steps: Steps) -> String {
+    let plan = reference::Catalogue::decode(catalogue)
+        .and_then(|catalogue| Plan::of(&catalogue, &fit.image(), result));
+    let what = format!("training for {}", holder(result));
+    let plan = match plan {
+        Ok(plan) => plan,
+        Err(refusal) => return format!("{what}: document 02 makes it refusal {refusal}\n"),
+    };
+    let steps = steps.number(plan.missing());
+    let mut text = format!(
+        "{what}: {} levels are missing, {steps} steps lead to {} bytes\n",
+        plan.missing(),
+        plan.image(steps).len()
+    );
+    let (before, after) = (plan.after(0), plan.after(steps));
+    let changed: Vec<_> = after
+        .into_iter()
+        .filter(|(id, level)| before.get(id) != Some(level))
+        .collect();
+    list(&mut text, &changed, |(id, level)| match before.get(id) {
+        Some(from) => format!("skill {id} from {from} to {level}"),
+        None => format!("skill {id} added at {level}"),
+    });
+    text
 }
 
 fn room(room: Room) -> String {

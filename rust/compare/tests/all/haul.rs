@@ -468,6 +468,10 @@ impl Checker for Spoiler {
     fn widen(&self, old: &[u8], out: &mut [u8]) -> u64 {
         Original.widen(old, out)
     }
+
+    fn train(&self, catalogue: &[u8], fit: &[u8], result: u32, steps: u32, out: &mut [u8]) -> u64 {
+        Original.train(catalogue, fit, result, steps, out)
+    }
 }
 
 /// Asserts that nothing is reported of a spoiler's calls one by one, and of both
@@ -625,12 +629,13 @@ fn nothing_is_held_without_the_premises() {
     assert_eq!(reported(&case, &Original), None);
 }
 
-/// The fixed cases of cargo behind a fit: the last but those of 16 MiB.
+/// The fixed cases of cargo behind a fit, which stand together.
 fn fixed_cases() -> Vec<Case> {
     let numbers = (0..fixed::count() - fixed::LONG).rev();
     let cases = numbers.map(|number| fixed::case(number).unwrap());
     let is_haul = |case: &Case| case.asks.contains(&Ask::HauledList);
-    cases.take_while(is_haul).collect()
+    let last = cases.skip_while(|case| !is_haul(case));
+    last.take_while(is_haul).collect()
 }
 
 /// What runs of the fixed cases report of the plain port with a fault.

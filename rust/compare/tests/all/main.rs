@@ -13,5 +13,6 @@ mod page;
 mod reader;
 mod recorded;
 mod refusals;
+mod train;
 mod unknown;
 mod widen;

@@ -80,7 +80,8 @@ fn read(call: &str) -> (&str, Reader) {
 }
 
 /// A call as the page names it, `list`, `league 90` with the profile and this
-/// allowance, `skill 2`, `hall` or `widen`, on a buffer.
+/// allowance, `skill 2`, `train 2 by 3` with so many steps, `hall` or `widen`, on
+/// a buffer.
 fn called(checker: &dyn Checker, call: &str, images: &Images, out: &mut [u8]) -> u64 {
     let (call, limits) = limited(call);
     let (call, reader) = read(call);
@@ -104,6 +105,11 @@ fn called(checker: &dyn Checker, call: &str, images: &Images, out: &mut [u8]) ->
         Some(("skill", result)) => {
             let result = result.parse().unwrap();
             checker.skill(&images.catalogue, &images.fit, result, terms, out)
+        }
+        Some(("train", asked)) => {
+            let (result, steps) = asked.split_once(" by ").expect("a result and steps");
+            let (result, steps) = (result.parse().unwrap(), steps.parse().unwrap());
+            checker.train(&images.catalogue, &images.fit, result, steps, out)
         }
         _ => panic!("no call `{call}`"),
     }
@@ -180,6 +186,7 @@ fn the_words_are_the_pages() {
         let written = match call {
             "hall" => 0,
             "widen" => word as u32 as usize,
+            call if call.starts_with("train") => word as u32 as usize,
             _ => ENTRY * (word as u32 as usize),
         };
         for (name, checker) in checkers() {
@@ -193,6 +200,25 @@ fn the_words_are_the_pages() {
                 out[written..].iter().all(|byte| *byte == UNTOUCHED),
                 "{name}: {row:?} writes its entries alone"
             );
+        }
+    }
+}
+
+/// The front of the trained fit is the page's, and behind it stands the fit's.
+#[test]
+fn the_trained_fit_is_the_pages() {
+    let images = Images::of_the_page();
+    for (steps, block) in [(1, "trained 1"), (2, "trained 2"), (9, "trained 2")] {
+        let mut expected = bytes(block);
+        expected.extend(&images.fit[33..]);
+        for (name, checker) in checkers() {
+            let mut out = vec![UNTOUCHED; 200];
+            let call = format!("train 2 by {steps}");
+            let word = called(&*checker, &call, &images, &mut out);
+            assert_eq!(word, expected.len() as u64, "{name}, {call}");
+            let (trained, behind) = out.split_at(expected.len());
+            assert_eq!(trained, expected, "{name}, {call}");
+            assert!(behind.iter().all(|byte| *byte == UNTOUCHED), "{name}");
         }
     }
 }
@@ -226,15 +252,15 @@ fn a_nan_is_written_as_the_page_says() {
     }
 }
 
-/// Of the refusals' table, every number but 9 is given by some row; 7 stands
-/// in neither.
+/// Of the refusals' table, every number but 9 and 16 is given by some row; 7
+/// stands in neither.
 #[test]
-fn every_refusal_but_9_is_shown() {
+fn every_refusal_but_9_and_16_is_shown() {
     let mut shown: Vec<u64> = table("Worked bytes", "call")
         .iter()
         .map(|row| u64::from_str_radix(row[3].strip_prefix("0x").unwrap(), 16).unwrap() >> 32)
         .filter(|refusal| *refusal != 0)
-        .chain([9])
+        .chain([9, 16])
         .collect();
     let mut numbers: Vec<u64> = table("Refusals in their order", "no.")
         .iter()

@@ -966,6 +966,198 @@ fn a_widened_catalogue_that_is_too_long_is_warned_of() {
     assert_eq!(ran.out, format!("{path}: 22369612 bytes\n"));
 }
 
+/// A Rifter that asks for skill 3329 at level 4, which is trained to 2, and an
+/// item that asks for 3300 at level 1, which is not; the catalogue has 3329 ask for
+/// 3327 at level 1.
+fn planned(folder: &Path) -> (String, String) {
+    let names = [
+        (Attribute::RequiredSkill1, 182),
+        (Attribute::RequiredSkill1Level, 277),
+    ];
+    let catalogue = whole(&names)
+        .type_info(587, 25, 6, None)
+        .base(3329, 182, 3327.0)
+        .base(3329, 277, 1.0)
+        .build()
+        .unwrap();
+    let asking = |skill: f64, level: f64| {
+        let result = ItemResult::new(State::Online);
+        result.with(182, skill).with(277, level)
+    };
+    let fit = FitBuilder::new(587)
+        .skill(3329, 2)
+        .ship(asking(3329.0, 4.0))
+        .item(FitItem::new(2048, Slot::Low(0)), asking(3300.0, 1.0))
+        .build()
+        .unwrap();
+    (
+        put(folder, "types.bin", &catalogue),
+        put(folder, "fit.bin", &fit),
+    )
+}
+
+#[test]
+fn a_plan_is_said_skill_by_skill_and_written() {
+    let folder = folder("train");
+    let (catalogue, fit) = planned(&folder);
+    let names = put(&folder, "names.txt", b"3329 Minmatar Frigate\n587 Rifter\n");
+    let new = folder.join("new.bin").to_str().unwrap().to_string();
+    let ran = fitcheck(&[
+        "train", &catalogue, &fit, "--result", "0", "--names", &names,
+    ]);
+    assert_eq!((ran.status, ran.err.as_str()), (0, ""));
+    assert_eq!(
+        ran.out,
+        "Rifter (the ship) lacks 3 levels; after 3 steps none is missing\n  \
+         Minmatar Frigate: 2 to 4, 2 levels\n  type 3327: 0 to 1, 1 level\n"
+    );
+
+    let words = [
+        "train",
+        &catalogue,
+        &fit,
+        "--result=0",
+        "--steps=2",
+        "-o",
+        &new,
+    ];
+    let ran = fitcheck(&words);
+    assert_eq!((ran.status, ran.err.as_str()), (0, ""));
+    let old = fs::read(&fit).unwrap();
+    assert_eq!(
+        ran.out,
+        format!(
+            "the ship (type 587) lacks 3 levels; after 2 steps 1 is missing\n  \
+             type 3329: 2 to 4, 2 levels\n{new}: {} bytes\n",
+            old.len()
+        )
+    );
+    // Nothing but the level differs: it stands behind the sizes, the ship and one
+    // skill's id.
+    let mut expected = old.clone();
+    assert_eq!(expected[32], 2);
+    expected[32] = 4;
+    assert_eq!(fs::read(&new).unwrap(), expected);
+
+    let ran = fitcheck(&["train", &catalogue, &new, "--result", "0"]);
+    assert_eq!(
+        ran.out,
+        "the ship (type 587) lacks 1 level; after 1 step none is missing\n  \
+         type 3327: 0 to 1, 1 level\n"
+    );
+    let ran = fitcheck(&["train", &catalogue, &fit, "--result", "1"]);
+    assert_eq!(
+        (ran.status, &*ran.out),
+        (0, "the character lacks no level\n")
+    );
+    let ran = piped(
+        &["train", &catalogue, "-", "--result", "2", "-o", &new],
+        &old,
+    );
+    assert_eq!(ran.status, 0);
+    // The skill is listed before the other, whose id is higher.
+    let written = fs::read(&new).unwrap();
+    assert_eq!(written.len(), old.len() + 5);
+    assert_eq!(written[28..36], [0xE4, 0x0C, 0, 0, 0x01, 0x0D, 0, 0]);
+    assert_eq!(written[36..38], [1, 2]);
+    assert_eq!(written[38..], old[33..]);
+}
+
+#[test]
+fn a_plan_in_json() {
+    let folder = folder("train_json");
+    let (catalogue, fit) = planned(&folder);
+    let words = [
+        "train", &catalogue, &fit, "--result", "0", "--steps", "1", "--json",
+    ];
+    let ran = fitcheck(&words);
+    assert_eq!(ran.status, 0);
+    let value = Value::parse(&ran.out);
+    assert_eq!(value.get("status").text(), "lacking");
+    assert_eq!(value.get("result").number(), 0.0);
+    assert_eq!(value.get("levels_raised").number(), 1.0);
+    assert_eq!(value.get("levels_missing").number(), 2.0);
+    let skill = &value.get("skills").list()[0];
+    assert_eq!(skill.get("type_id").number(), 3329.0);
+    assert_eq!(skill.get("from").number(), 2.0);
+    assert_eq!(skill.get("to").number(), 3.0);
+}
+
+#[test]
+fn a_refused_plan_writes_nothing_and_the_fit_is_not_overwritten() {
+    let folder = folder("train_refused");
+    let (catalogue, fit) = planned(&folder);
+    let new = folder.join("new.bin").to_str().unwrap().to_string();
+    for (types, image, result, refused) in [
+        (&catalogue, &fit, "3", "refused by 8"),
+        (&fit, &fit, "0", "refused by 1"),
+        (&catalogue, &catalogue, "0", "refused by 4"),
+    ] {
+        let ran = fitcheck(&["train", types, image, "--result", result, "-o", &new]);
+        assert_eq!((ran.status, ran.out.as_str()), (1, ""));
+        assert!(ran.err.contains(refused), "{}", ran.err);
+        assert!(!Path::new(&new).exists());
+    }
+    // 1,024 listed skills and one more.
+    let mut crowded = FitBuilder::new(587);
+    for id in 0..1_024 {
+        crowded.skill(id, 1);
+    }
+    crowded.ship(ItemResult::default().with(182, 3329.0).with(277, 1.0));
+    let crowded = put(&folder, "crowded.bin", &crowded.build().unwrap());
+    let ran = fitcheck(&[
+        "train", &catalogue, &crowded, "--result", "0", "--steps", "0", "--json",
+    ]);
+    assert_eq!(ran.status, 1);
+    let refusal = Refusal::ListedSkills;
+    assert_eq!(
+        ran.err,
+        format!("fitcheck: {crowded}: refused by 16: {refusal}\n")
+    );
+    let number = Value::parse(&ran.out).get("refusal").get("number").number();
+    assert_eq!(number, 16.0);
+
+    let before = [fs::read(&fit).unwrap(), fs::read(&catalogue).unwrap()];
+    // The same file under another path, and behind a link.
+    let around = |path: &str| {
+        let path = Path::new(path);
+        let name = path.file_name().unwrap();
+        path.parent().unwrap().join(".").join(name)
+    };
+    let link = Path::new(&folder).join("link.fit");
+    std::os::unix::fs::symlink(&fit, &link).unwrap();
+    let others = [around(&fit), around(&catalogue), link];
+    let others = others.map(|path| path.to_str().unwrap().to_string());
+    for read in [&fit, &catalogue].into_iter().chain(&others) {
+        let ran = fitcheck(&["train", &catalogue, &fit, "--result", "0", "-o", read]);
+        assert_eq!((ran.status, ran.out.as_str()), (1, ""), "{read}");
+        assert!(ran.err.contains("it is read, so it is not written"));
+    }
+    let after = [fs::read(&fit).unwrap(), fs::read(&catalogue).unwrap()];
+    assert_eq!(after, before);
+}
+
+#[test]
+fn names_that_a_plan_would_need_are_said_to_be_missing() {
+    let folder = folder("train_names");
+    let (_, fit) = planned(&folder);
+    let some = CatalogueBuilder::new()
+        .name(Attribute::RequiredSkill1, 182)
+        .name(Attribute::RequiredSkill1Level, 277)
+        .build()
+        .unwrap();
+    let some = put(&folder, "some.bin", &some);
+    let ran = fitcheck(&["train", &some, &fit, "--result", "0"]);
+    assert_eq!(ran.status, 0);
+    assert_eq!(
+        ran.err,
+        format!(
+            "fitcheck: {some}: warning: the catalogue has no id for 10 of 88 attribute names, so \
+             these are not checked: required skills (second, third, fourth, fifth, sixth)\n"
+        )
+    );
+}
+
 /// A catalogue with a hull and a module of group 464, and a fit with one.
 fn miner(folder: &Path) -> (String, String) {
     let catalogue = whole(&[])

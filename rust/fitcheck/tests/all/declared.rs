@@ -205,6 +205,8 @@ fn the_headers_numbers_are_the_crates() {
     assert_eq!(number("FITCHECK_MOST_ENTRIES"), fitcheck::MOST_ENTRIES);
     assert_eq!(number("FITCHECK_MOST_SKILLS"), fitcheck::MOST_SKILLS);
     assert_eq!(number("FITCHECK_FITS_PER_CALL"), fitcheck::FITS_PER_CALL);
+    let listed = fitcheck::Refusal::ListedSkills.number();
+    assert_eq!(number("FITCHECK_LISTED_SKILLS"), listed as usize);
     for (name, reader) in [
         ("FITCHECK_GUEST", fitcheck::Reader::Guest),
         ("FITCHECK_PILOT", fitcheck::Reader::Pilot),

@@ -90,7 +90,7 @@ fn the_command_prints_what_the_page_shows() {
         assert_eq!(String::from_utf8(both).unwrap(), printed, "{command}");
         run += 1;
     }
-    assert!(run >= 19, "the page has {run} runs of the command");
+    assert!(run >= 26, "the page has {run} runs of the command");
 }
 
 #[test]
@@ -239,6 +239,18 @@ fn the_objects_in_json_have_the_fields_that_the_page_lists() {
         "one of `fits`, faulted",
     ]) {
         assert_eq!(fit.names(), row(kind), "{kind}");
+    }
+    for steps in ["0", "9"] {
+        let trained = ["types.bin", "rookie.fit", "--result", "5", "--steps", steps];
+        let trained = shown(&[&["train"][..], &trained].concat());
+        assert_eq!(trained.names(), row("`train`"));
+        let skills = trained.get("skills").list();
+        assert_eq!(skills.len(), usize::from(steps == "9"));
+        for skill in skills {
+            assert_eq!(skill.names(), row("one of `skills` of `train`"));
+        }
+        let status = trained.get("status").text();
+        assert_eq!(status, if steps == "9" { "trained" } else { "lacking" });
     }
     let refused = shown(&["explain", "types.bin", "fits/cut.fit"]);
     assert_eq!(refused.names(), row("a refused image"));

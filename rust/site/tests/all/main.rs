@@ -14,4 +14,5 @@ mod original;
 mod page;
 mod reader;
 mod threads;
+mod train;
 mod widen;

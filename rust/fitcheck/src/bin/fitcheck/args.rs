@@ -13,6 +13,7 @@ Usage: fitcheck explain CATALOGUE FIT --as READER [--names FILE]
        fitcheck hall CATALOGUE FOLDER [--json]
        fitcheck pack FIT.txt [--types FILE] [--out FOLDER]
        fitcheck profile WORDS NEW [--names FILE]
+       fitcheck train CATALOGUE FIT --result N [--steps N] [-o FILE] [--names FILE] [--json]
        fitcheck widen OLD NEW
        fitcheck --help | --version";
 
@@ -24,6 +25,7 @@ Usage: fitcheck explain CATALOGUE FIT --as READER [--names FILE]
        fitcheck hall CATALOGUE FOLDER [--json]
        fitcheck pack FIT.txt [--types FILE] [--out FOLDER]
        fitcheck profile WORDS NEW [--names FILE]
+       fitcheck train CATALOGUE FIT --result N [--steps N] [-o FILE] [--names FILE] [--json]
        fitcheck widen OLD NEW
        fitcheck --help | --version
 
@@ -42,6 +44,10 @@ pack     A fit in words, as docs/CALLING.md describes them, made into the
 profile  A league's profile in words, `ban GROUP` and `price POINTS GROUP` on a line
          each, made into the image NEW. A group is its id, or the name that
          --names gives it.
+train    A plan, tried before it is trained: which levels the ship, the character
+         or an item lacks, skill by skill, each before those that it demands, and
+         with -o the fit that training leads to. What it says is the pilot's and the
+         officers' business, and not for guests.
 widen    An old catalogue, whose base values are f32, made into the file NEW in
          the form that the other commands read.
 
@@ -62,6 +68,10 @@ that lacks names or effects leaves rules unchecked: which, a warning says.
 --skills N    A page that takes so many wanted skills of a result; one that
               wants more is refused by 13, in its place among the skills. Else
               the main page, which takes 512.
+--result N    What is trained for: 0 is the ship, 1 the character, 2 the first
+              item, and so on. It has to be named.
+--steps N     So many levels, from the first on; else all that are missing.
+-o FILE       Where the trained fit goes; else it is not written.
 --types FILE  The catalogue in words; else types.txt beside FIT.txt or one
               folder above it.
 --out FOLDER  Where the images go; else beside FIT.txt.
@@ -74,7 +84,7 @@ Status: 0  explain: the fit is clear, which is that no rule is broken and all
            of it was checked (skills may be lacking); for a guest, that nothing
            is listed and all of it was checked;
            hall: all files counted, whatever the numbers;
-           pack, profile, widen: written
+           pack, profile, widen: written; train: said, and written with -o
         1  refused, or a file cannot be read or written
         2  wrong usage
         3  explain: the fit is faulted
@@ -88,6 +98,7 @@ pub enum Command {
     Hall(Hall),
     Pack(Pack),
     Profile(Profile),
+    Train(Train),
     Widen(Widen),
 }
 
@@ -126,6 +137,18 @@ pub struct Profile {
 }
 
 #[derive(Debug, PartialEq)]
+pub struct Train {
+    pub catalogue: Source,
+    pub fit: Source,
+    pub result: u32,
+    /// All that are missing, where none are named.
+    pub steps: Option<u32>,
+    pub new: Option<PathBuf>,
+    pub names: Option<PathBuf>,
+    pub json: bool,
+}
+
+#[derive(Debug, PartialEq)]
 pub struct Widen {
     pub old: Source,
     pub new: PathBuf,
@@ -144,7 +167,7 @@ struct Words {
 }
 
 /// Options that have a value, and what it is.
-const VALUED: [(&str, &str); 8] = [
+const VALUED: [(&str, &str); 11] = [
     ("--as", "reader"),
     ("--names", "file"),
     ("--types", "file"),
@@ -153,6 +176,9 @@ const VALUED: [(&str, &str); 8] = [
     ("--allowance", "number"),
     ("--pairs", "number"),
     ("--skills", "number"),
+    ("--result", "number"),
+    ("--steps", "number"),
+    ("-o", "file"),
 ];
 
 impl Words {
@@ -242,6 +268,7 @@ pub fn parse(line: impl IntoIterator<Item = OsString>) -> Result<Command, String
             new: next("NEW")?.0.into(),
             names: words.value("--names"),
         }),
+        Some("train") => train(&mut words, &mut next)?,
         Some("widen") => Command::Widen(Widen {
             old: source(next("OLD")?),
             new: next("NEW")?.0.into(),
@@ -257,14 +284,48 @@ pub fn parse(line: impl IntoIterator<Item = OsString>) -> Result<Command, String
 }
 
 /// Two images, of which one at most is standard input.
+fn images(
+    next: &mut impl FnMut(&str) -> Result<(OsString, bool), String>,
+) -> Result<(Source, Source), String> {
+    let (catalogue, fit) = (source(next("CATALOGUE")?), source(next("FIT")?));
+    match (&catalogue, &fit) {
+        (Source::StandardInput, Source::StandardInput) => {
+            Err("standard input is one image, not both".to_string())
+        }
+        _ => Ok((catalogue, fit)),
+    }
+}
+
+/// What is trained for has to be named: no result is more likely than another.
+fn train(
+    words: &mut Words,
+    next: &mut impl FnMut(&str) -> Result<(OsString, bool), String>,
+) -> Result<Command, String> {
+    let (catalogue, fit) = images(next)?;
+    let Some(result) = named_number(words, "--result")? else {
+        return Err(
+            "train wants --result and what it is for: 0 the ship, 1 the character, 2 the first \
+             item"
+                .to_string(),
+        );
+    };
+    Ok(Command::Train(Train {
+        catalogue,
+        fit,
+        result,
+        steps: named_number(words, "--steps")?,
+        new: words.value("-o"),
+        names: words.value("--names"),
+        json: std::mem::take(&mut words.json),
+    }))
+}
+
+/// A fit that is explained to somebody.
 fn explain(
     words: &mut Words,
     next: &mut impl FnMut(&str) -> Result<(OsString, bool), String>,
 ) -> Result<Command, String> {
-    let (catalogue, fit) = (source(next("CATALOGUE")?), source(next("FIT")?));
-    if (&catalogue, &fit) == (&Source::StandardInput, &Source::StandardInput) {
-        return Err("standard input is one image, not both".to_string());
-    }
+    let (catalogue, fit) = images(next)?;
     Ok(Command::Explain(Explain {
         catalogue,
         fit,
@@ -305,13 +366,19 @@ fn league(words: &mut Words) -> Result<Option<(PathBuf, u32)>, String> {
 /// The main page's limits, but for those that are named.
 fn limits(words: &mut Words) -> Result<Limits, String> {
     let mut limits = Limits::main();
-    if let Some(most) = words.value("--pairs") {
-        limits = limits.pairs(number("--pairs", most)?);
+    if let Some(most) = named_number(words, "--pairs")? {
+        limits = limits.pairs(most);
     }
-    if let Some(most) = words.value("--skills") {
-        limits = limits.skills(number("--skills", most)?);
+    if let Some(most) = named_number(words, "--skills")? {
+        limits = limits.skills(most);
     }
     Ok(limits)
+}
+
+/// The number behind an option, where it is named.
+fn named_number(words: &mut Words, option: &str) -> Result<Option<u32>, String> {
+    let value = words.value(option);
+    value.map(|value| number(option, value)).transpose()
 }
 
 /// The number that is an option's value.
@@ -402,6 +469,32 @@ mod tests {
     }
 
     #[test]
+    fn a_training_names_its_result() {
+        let trained = |steps: Option<u32>, new: Option<&str>| {
+            Command::Train(Train {
+                catalogue: file("c"),
+                fit: file("f"),
+                result: 2,
+                steps,
+                new: new.map(PathBuf::from),
+                names: None,
+                json: false,
+            })
+        };
+        for (line, expected) in [
+            ("train c f --result 2", trained(None, None)),
+            ("train c f --result=2 --steps 0", trained(Some(0), None)),
+            ("train c f -o n --result 2", trained(None, Some("n"))),
+            (
+                "train -o=n --steps=4294967295 c f --result 2",
+                trained(Some(u32::MAX), Some("n")),
+            ),
+        ] {
+            assert_eq!(parsed(line), Ok(expected), "{line}");
+        }
+    }
+
+    #[test]
     fn a_limit_that_is_not_named_is_the_main_pages() {
         let under = |limits: Limits| {
             Command::Explain(Explain {
@@ -479,6 +572,32 @@ mod tests {
             ("pack", "pack wants a FIT.txt"),
             ("widen o", "widen wants a NEW"),
             ("widen o n --json", "widen takes no --json"),
+            ("train c", "train wants a FIT"),
+            (
+                "train c f",
+                "train wants --result and what it is for: 0 the ship, 1 the character, 2 the first \
+                 item",
+            ),
+            ("train c f --result", "--result wants a number"),
+            (
+                "train c f --result ship",
+                "--result ship is no whole number up to 4294967295",
+            ),
+            (
+                "train c f --result 0 --steps 4294967296",
+                "--steps 4294967296 is no whole number up to 4294967295",
+            ),
+            ("train c f --result 0 -o", "-o wants a file"),
+            ("train c f --result 0 --as pilot", "train takes no --as"),
+            (
+                "train - - --result 0",
+                "standard input is one image, not both",
+            ),
+            (
+                "explain c f --as pilot --steps 1",
+                "explain takes no --steps",
+            ),
+            ("pack f -o n", "pack takes no -o"),
             (
                 "explain c f --profile p --as pilot",
                 "--profile wants --allowance beside it",

@@ -9,6 +9,7 @@ mod files;
 mod hall;
 mod pack;
 mod profile;
+mod train;
 mod widen;
 
 use std::io::{self, ErrorKind, Write};
@@ -91,6 +92,7 @@ fn run(out: &mut impl Write) -> Result<u8, Trouble> {
         Ok(Command::Hall(asked)) => hall::run(&asked, out),
         Ok(Command::Pack(asked)) => pack::run(&asked, out),
         Ok(Command::Profile(asked)) => profile::run(&asked, out),
+        Ok(Command::Train(asked)) => train::run(&asked, out),
         Ok(Command::Widen(asked)) => widen::run(&asked, out),
         Err(wrong) => {
             complain(&format!("{wrong}\n\n{}", args::USAGE));

@@ -1,0 +1,14 @@
+-- Laws of training: what raising a level does, all steps at once, skills held in arrays, turns in them, the image with other
+-- skills, who is counted for refusal 16, the call, what is missing, how many are listed, their range, what the image decodes to.
+pub mod Raising
+pub mod Stepping
+pub mod Places
+pub mod Arrays
+pub mod Turning
+pub mod Writing
+pub mod Counting
+pub mod Calling
+pub mod Lacking
+pub mod Room
+pub mod Ranges
+pub mod Decoding

@@ -1,0 +1,2 @@
+pub mod Training
+pub mod Turns

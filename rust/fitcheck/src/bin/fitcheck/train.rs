@@ -1,0 +1,88 @@
+//! `fitcheck train`: what training for one result comes to, and the fit that it
+//! leads to.
+
+use std::fs;
+use std::io::Write;
+use std::path::Path;
+
+use fitcheck::{Attribute, CatalogueImage, Explainer, TrainingPlan};
+
+use crate::args::Train;
+use crate::files::{self, Source, about, shown};
+use crate::{DONE, Trouble, complain, refused};
+
+pub fn run(asked: &Train, out: &mut impl Write) -> Result<u8, Trouble> {
+    let names = files::names(asked.names.as_deref())?;
+    let catalogue = files::catalogue(&asked.catalogue)?;
+    let fit = files::fit(&asked.fit)?;
+
+    let planned = TrainingPlan::new(&catalogue, &fit, asked.result);
+    let trained = planned.and_then(|plan| plan.train(asked.steps.unwrap_or(u32::MAX)));
+    let trained = match trained {
+        Ok(trained) => trained,
+        Err(refusal) => {
+            let source = match refusal.is_of_catalogue() {
+                true => &asked.catalogue,
+                false => &asked.fit,
+            };
+            return refused(out, source, refusal, asked.json);
+        }
+    };
+    warn(&asked.catalogue, &catalogue);
+    if let Some(new) = &asked.new {
+        if is_read(asked, new) {
+            let path = shown(new.as_os_str());
+            let words = format!("{path}: it is read, so it is not written");
+            return Err(Trouble::Given(words));
+        }
+        fs::write(new, trained.fit()).map_err(|error| about(new, &error))?;
+    }
+
+    let explainer = Explainer::new(&fit, &names);
+    if asked.json {
+        writeln!(out, "{}", trained.json(&explainer))?;
+        return Ok(DONE);
+    }
+    out.write_all(trained.text(&explainer).as_bytes())?;
+    if let Some(new) = &asked.new {
+        let path = shown(new.as_os_str());
+        writeln!(out, "{path}: {} bytes", trained.fit().len())?;
+    }
+    Ok(DONE)
+}
+
+/// Whether a file is one of those that are read, under whatever path. The fit
+/// itself is among them: a plan that is tried leaves it as it is.
+fn is_read(asked: &Train, path: &Path) -> bool {
+    let file = |source: &Source| match source {
+        Source::File(file) => Some(file.clone()),
+        Source::StandardInput => None,
+    };
+    let read = [
+        file(&asked.catalogue),
+        file(&asked.fit),
+        asked.names.clone(),
+    ];
+    let new = fs::canonicalize(path);
+    read.into_iter().flatten().any(|read| {
+        read == path
+            || new
+                .as_ref()
+                .is_ok_and(|new| fs::canonicalize(read).is_ok_and(|it| it == *new))
+    })
+}
+
+/// Warns of skills that a catalogue leaves out; what else it lacks is nothing to a
+/// plan.
+fn warn(source: &Source, catalogue: &[u8]) {
+    let Some(catalogue) = CatalogueImage::new(catalogue) else {
+        return;
+    };
+    let mut missing = catalogue.missing();
+    missing.marks.clear();
+    let is_of_skills = |name: &Attribute| name.name().starts_with("requiredSkill");
+    missing.names.retain(is_of_skills);
+    if !missing.is_empty() {
+        complain(&format!("{source}: warning: {missing}"));
+    }
+}
