@@ -4,14 +4,20 @@ use native.Mathlib.Omega.{arith}
 use mathlib.Core.Path.{_≡_, refl, sym, ap, _∙_, subst}
 use mathlib.Core.Bool.{Bool, true, false}
 use mathlib.Core.List.{List, [], _∷_, _++_}
-use lib.ListN.{length}
+use native.Mathlib.Nat.{zero-add}
+use lib.ListN.{length, take, drop, length-append}
+use lib.Seq.{take-append-seam}
 use borrow.Author.Tests.{lt-ltb, le-ltb}
-use Rattle.words.specs.Words.{firstOf}
+use Rattle.words.specs.Words.{each, firstOf}
 use Rattle.numbers.specs.Sizes as Sizes
 use Rattle.numbers.specs.Refusals as Refusals
+use Rattle.image.specs.Bytes.{put}
+use Rattle.image.proofs.Stores.{put-parts}
 use Rattle.entry.specs.declared.Entry.{Entry}
+use Rattle.entry.specs.Entries.{entryBytes, written}
 use Rattle.entry.specs.Wrote.{Wrote}
-use Rattle.entry.proofs.Wrote.{wrote-count, wrote-written, wrote-none, wrote-same}
+use Rattle.entry.proofs.Bytes.{length-entryBytes}
+use Rattle.entry.proofs.Wrote.{wrote-count, wrote-written}
 use Rattle.lists.specs.Terms.{Terms}
 use Rattle.calls.specs.Answers.{Answer, Refused, answerBy, answer, tooShort, inputRefusals, bufferRefusals}
 use Rattle.calls.specs.Answers.{returned, buffered}
@@ -53,6 +59,11 @@ pub gave-refused : (b : List ℕ) (n : ℕ) {w : ℕ} → w ≡ n * Sizes.word �
 unfolding returned buffered
 gave-refused b n e = record { word = e; buffer = refl }
 
+bytes-length : (es : List Entry) → length (each es entryBytes) ≡ 24 * length es
+unfolding each
+bytes-length [] = refl
+bytes-length (e ∷ es) = omega (arith, length-append (entryBytes e) (each es entryBytes), length-entryBytes e, bytes-length es)
+
 module _ {b : List ℕ} (es : List Entry) where
   -- no room: refusal 10
   pub gave-short : {w : ℕ} → length b < 24 * length es → w ≡ Refusals.tooShort * Sizes.word → Gave b b w (lent b es)
@@ -66,13 +77,19 @@ module _ {b : List ℕ} (es : List Entry) where
   unfolding answer answerBy firstOf tooShort returned buffered
   gave-list h w = rw (le-ltb (length b) (24 * length es) h) record { word = wrote-count w; buffer = wrote-written w h }
 
-  -- an empty list needs no room
-  pub gave-none : length es ≡ 0 → Gave b b 0 (lent b es)
-  gave-none e = gave-list (omega (arith, e)) (wrote-same (nil es e) (wrote-none b 0))
-    where
-      nil : (l : List Entry) → length l ≡ 0 → [] ≡ l
-      nil [] q = refl
-      nil (x ∷ l) q = absurd (omega arith)
+  -- room, and the list was written to another place and copied
+  pub gave-copied : {place filled a : List ℕ} {k : ℕ} → Wrote place 0 filled k es → 24 * length es ≤ length place → 24 * length es ≤ length b
+      → a ≡ put b 0 (take (24 * k) (drop 0 filled)) → Gave b a k (lent b es)
+  unfolding answer answerBy firstOf tooShort returned buffered written
+  gave-copied {place} {filled} {a} {k} w p h e =
+      let bs = each es entryBytes in
+      let n = bytes-length es in
+      let m : 24 * k ≡ length bs = omega (arith, n, wrote-count w) in
+      let f : take (24 * k) filled ≡ bs =
+      ap (take (24 * k)) (wrote-written w p) ∙ ap (λ (j : ℕ). take j (bs ++ drop (24 * length es) place)) m ∙ take-append-seam bs (drop (24 * length es) place) in
+      let q : a ≡ bs ++ drop (24 * length es) b =
+      e ∙ ap (put b 0) f ∙ put-parts b 0 bs (omega (arith, n, h)) ∙ ap (λ (j : ℕ). bs ++ drop j b) (zero-add (length bs) ∙ n) in
+      rw (le-ltb (length b) (24 * length es) h) record { word = wrote-count w; buffer = q }
 
 -- ---- the list call of a reader that there is, by the refusals of all that it brings
 module _ (t : Terms) (catalogue fit buffer : List ℕ) (es : List Entry) where

@@ -14,6 +14,10 @@ pub record Gave (before after : List ℕ) (w : ℕ) (a : Answer) : Type 0 where
 abbrev pub lent : List ℕ → List Entry → Answer
 lent buffer es = answer (bufferRefusals buffer es) es
 
+-- the bytes of the place for lists of few pairs
+abbrev pub smallPlace : ℕ
+smallPlace = 12288
+
 -- the same, of an answer that is bytes
 pub record GaveBytes (before after : List ℕ) (w : ℕ) (o : Output) : Type 0 where
   pub word : w ≡ outputWord o

@@ -5,26 +5,32 @@ use numbers::refusals;
 use numbers::sizes;
 use skill::Walk;
 ghost use mathlib.Core.Path.{_≡_};
-ghost use mathlib.Core.List.{_++_};
-ghost use Prim.Native.Nat.{_+_, _*_, _<_, _≤_};
+ghost use mathlib.Core.List.{List, _++_};
+ghost use Prim.Native.Nat.{ℕ, _+_, _*_, _<_, _≤_};
+ghost use lib.ListN.{length};
 ghost use Rattle.words.specs.Words.{firstOf};
 ghost use Rattle.numbers.specs.Sizes as Sizes;
 ghost use Rattle.numbers.specs.Refusals as Refusals;
-ghost use Rattle.catalogue.specs.Catalogue.{catalogueOf};
+ghost use Rattle.catalogue.specs.Catalogue.{Catalogue, catalogueOf};
 ghost use Rattle.catalogue.specs.Sound as Catalogue;
 ghost use Rattle.fit.specs.Fit.{fitOf, resultCount};
 ghost use Rattle.fit.specs.Sound as Fit;
+ghost use Rattle.entry.specs.declared.Entry.{Entry};
+ghost use Rattle.entry.specs.Wrote.{Wrote};
 ghost use Rattle.context.specs.Gathered.{Gathered};
 ghost use Rattle.profile.specs.Sound as Profile;
 ghost use Rattle.skill.specs.Skill.{reported, skillList};
 ghost use Rattle.skill.specs.Held.{walkOf};
-ghost use Rattle.lists.specs.Terms.{terms, limited, readBy, main};
-ghost use Rattle.lists.specs.Lists.{listFor};
+ghost use Rattle.lists.specs.Terms.{Terms, terms, limited, readBy, main};
+ghost use Rattle.lists.specs.Lists.{listFor, mostEntries};
 ghost use Rattle.calls.specs.Answers.{answer, imageRefusals, pageRefusals, inputRefusals, bufferRefusals, skillRefusals};
-ghost use Rattle.calls.specs.Gave.{Gave, lent};
+ghost use Rattle.calls.specs.Gave.{Gave, lent, smallPlace};
 
-// The bytes of the longest list: a buffer that holds it holds any list, and need not be counted for.
+// The bytes of the longest list of any fit.
 const ANY_LIST: usize = sizes::ENTRY_SIZE * lists::MOST_ENTRIES;
+
+// Lists of few pairs need less: setting as many bytes as any list takes to 0 costs time.
+const SMALL_PLACE: usize = 12288;
 
 // Of a walk, which holds 512 skills: each is listed once at most.
 const ANY_SKILL_LIST: usize = sizes::ENTRY_SIZE * sizes::MOST_WANTED;
@@ -78,8 +84,53 @@ fn input_refusal(catalogue: &[u8], fit: &[u8], pairs: u32, profile: &[u8]) -> u6
     profile::number(profile)
 }
 
-// The list for a buffer that may be too short: it is counted first, and an empty list is not run again.
-fn counted_list(
+// As many entries of a place as were written there, where the buffer has room for them: else none, and no byte of it changes.
+fn copied(count: usize, place: &[u8], out: &mut [u8]) -> u64
+    requires { ⌜ (24 * count ≤ length (now place)) × (count ≤ mostEntries) ⌝ }
+    ensures { λ r.
+        let before = now (out .entry) in
+        let after = now (out .exit) in
+        ⌜ ((es : List Entry) (b : List ℕ) → Wrote b 0 (now (place .entry)) count es → 24 * length es ≤ length b →
+        Gave before after r (lent before es)) ⌝ }
+{
+    if out.len() / sizes::ENTRY_SIZE < count {
+        return refused(refusals::TOO_SHORT);
+    }
+    image::copy(out, 0, image::part(place, 0, sizes::ENTRY_SIZE * count));
+    count as u64
+}
+
+// A list that a small place holds, for a buffer that may be too short: it is run once, into the place.
+fn small_list(
+    asked: Asked,
+    catalogue: &[u8],
+    fit: &[u8],
+    profile: &[u8],
+    facts: &[u32; 2058],
+    hints: &mut [u32],
+    out: &mut [u8],
+) -> u64
+    requires { ⌜ Gathered (now catalogue) (now fit) (now facts) × Profile.Sound (now profile) ⌝ }
+    requires { ⌜ ((t : Terms) (c : Catalogue) → 24 * length (listFor t c (fitOf (now fit))) ≤ smallPlace) ⌝ }
+    ensures { λ r.
+        let t = readBy (asked .reader) (terms (now (profile .entry)) (asked .allowance)) in
+        let es = listFor t (catalogueOf (now (catalogue .entry))) (fitOf (now (fit .entry))) in
+        ⌜ Gave (now (out .entry)) (now (out .exit)) r (lent (now (out .entry)) es) ⌝ }
+{
+    let mut place = [0u8; SMALL_PLACE];
+    let count = lists::write(asked, catalogue, fit, profile, facts, hints, &mut place);
+    copied(count, &place, out)
+}
+
+// A place for any list.
+fn list_place() -> [u8; 135696]
+    ensures { λ r. ⌜ length r ≡ 135696 ⌝ }
+{
+    [0; ANY_LIST]
+}
+
+// Any list, for a buffer that may be too short.
+fn large_list(
     asked: Asked,
     catalogue: &[u8],
     fit: &[u8],
@@ -94,18 +145,12 @@ fn counted_list(
         let es = listFor t (catalogueOf (now (catalogue .entry))) (fitOf (now (fit .entry))) in
         ⌜ Gave (now (out .entry)) (now (out .exit)) r (lent (now (out .entry)) es) ⌝ }
 {
-    let mut none = [0u8; 0];
-    let count = lists::write(asked, catalogue, fit, profile, facts, hints, &mut none);
-    if count == 0 {
-        return 0;
-    }
-    if out.len() / sizes::ENTRY_SIZE < count {
-        return refused(refusals::TOO_SHORT);
-    }
-    lists::write(asked, catalogue, fit, profile, facts, hints, out) as u64
+    let mut whole = list_place();
+    let count = lists::write(asked, catalogue, fit, profile, facts, hints, &mut whole);
+    copied(count, &whole, out)
 }
 
-// The list call on images and a profile that are accepted.
+// The list call on images and a profile that are accepted. Where the buffer holds any list of the fit, it is written there at once.
 fn list_accepted(asked: Asked, catalogue: &[u8], fit: &[u8], profile: &[u8], out: &mut [u8]) -> u64
     requires { ⌜ Catalogue.Sound (now catalogue) × Fit.Sound (now fit) × Profile.Sound (now profile) ⌝ }
     ensures { λ r.
@@ -113,12 +158,16 @@ fn list_accepted(asked: Asked, catalogue: &[u8], fit: &[u8], profile: &[u8], out
         let es = listFor t (catalogueOf (now (catalogue .entry))) (fitOf (now (fit .entry))) in
         ⌜ Gave (now (out .entry)) (now (out .exit)) r (lent (now (out .entry)) es) ⌝ }
 {
+    let most = sizes::ENTRY_SIZE * lists::most_entries(fit);
     let mut hints = [0u32; context::LIST_HINTS];
     let facts = context::gather(catalogue, fit, &mut hints);
-    if out.len() < ANY_LIST {
-        return counted_list(asked, catalogue, fit, profile, &facts, &mut hints, out);
+    if most <= out.len() {
+        return lists::write(asked, catalogue, fit, profile, &facts, &mut hints, out) as u64;
     }
-    lists::write(asked, catalogue, fit, profile, &facts, &mut hints, out) as u64
+    if most <= SMALL_PLACE {
+        return small_list(asked, catalogue, fit, profile, &facts, &mut hints, out);
+    }
+    large_list(asked, catalogue, fit, profile, &facts, &mut hints, out)
 }
 
 // The list call of a reader that there is.

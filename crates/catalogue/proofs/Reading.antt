@@ -1,20 +1,20 @@
 -- What a sound catalogue lets a reader rely on: sorted keys, and fields within their limits.
 use Prim.Native.Nat.{ℕ, _+_, _*_, _≤_, _<_}
 use native.Mathlib.Omega.{arith}
-use mathlib.Core.Path.{_≡_, sym, ap, _∙_}
+use mathlib.Core.Path.{_≡_, sym, ap, _∙_, subst}
 use mathlib.Core.Bool.{true, false, not, _||_}
 use mathlib.Core.List.{List}
 use mathlib.Mathlib.Data.Bool.Basic.{or-eq-false-eq-eq-false-and-eq-false as neither}
 use lib.ListN.{take, drop}
 use lib.Dec.{ltb}
-use lib.IntN.{pos}
+use lib.IntN.{ℤ, pos}
 use lib.Signed.{ltZ, leZ}
 use borrow.Author.Tests.{lt-ltb, ltb-false, not-false}
 use Rattle.words.specs.Words.{inOrder}
 use Rattle.words.proofs.Tables.{any-false}
 use Rattle.image.specs.Bytes.{i32At, signed32}
 use Rattle.image.proofs.Parts.{part-i32}
-use Rattle.keys.specs.Keys.{Sorted, keyAt, rankOf}
+use Rattle.keys.specs.Keys.{Sorted, Parts, keyAt, rankOf}
 use Rattle.keys.proofs.Orders.{ascending-sorted, descending-sorted, any-le}
 use Rattle.catalogue.specs.Catalogue.{nameCount, effectCount, typeCount, linkCount, baseCount, namesAt, effectsAt, typesAt, linksAt}
 use Rattle.catalogue.specs.Catalogue.{basesAt, nameAt, effectAt}
@@ -93,3 +93,11 @@ module _ (b : List ℕ) (s : Sound b) where
 
   pub bases-sorted : Sorted (take (4 * baseCount b) (drop (basesAt b) b)) (baseCount b)
   bases-sorted = descending-sorted _ (baseCount b) (ap (inOrder leZ) (keys-part b (basesAt b) (baseCount b)) ∙ passed b s .bases)
+
+-- the keys of the types, by the block that was found
+pub types-part : (catalogue : List ℕ) {keys : List ℕ} {at n : ℕ} {z : ℤ} {r : ℕ} → keys ≡ take (4 * n) (drop at catalogue) → at ≡ typesAt catalogue
+    → n ≡ typeCount catalogue → Parts keys n z r
+    → Parts (take (4 * typeCount catalogue) (drop (typesAt catalogue) catalogue)) (typeCount catalogue) z r
+types-part c {keys} {at} {n} {z} {r} k p q h =
+    subst (λ (m : ℕ). Parts (take (4 * m) (drop (typesAt c) c)) m z r) q
+    (subst (λ (a : ℕ). Parts (take (4 * n) (drop a c)) n z r) p (subst (λ (l : List ℕ). Parts l n z r) k h))

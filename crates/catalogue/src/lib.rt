@@ -54,6 +54,14 @@ pub enum TypeAnswer {
     Unknown,
 }
 
+// The answers of four types.
+pub struct FourTypes {
+    pub a: TypeAnswer,
+    pub b: TypeAnswer,
+    pub c: TypeAnswer,
+    pub d: TypeAnswer,
+}
+
 // A rack or a hardpoint by its number.
 pub enum SlotAnswer {
     Slot(u8),
@@ -192,13 +200,31 @@ fn seek(catalogue: &[u8], b: Block, i: i32, j: i32, k: i32, l: i32, hints: &mut 
     keep(hints, hint_of(b, l, hints.len()), found.d);
 }
 
+// Where an id stands among the keys of a block, given how many of them are under it.
+fn found_at(catalogue: &[u8], b: Block, id: i32, at: usize) -> Found
+    requires { ⌜ (b .at + 4 * b .n ≤ length (now catalogue)) × Sorted (take (4 * b .n) (drop (b .at) (now catalogue))) (b .n) ⌝ }
+    requires { ⌜ Parts (take (4 * b .n) (drop (b .at) (now catalogue))) (b .n) id at ⌝ }
+    ensures { λ r. ⌜ foundOf r ≡ find (λ i. same (i32At (now (catalogue .entry)) (b .at + 4 * i)) id) (from 0 (b .n)) ⌝ }
+{
+    keys::place_at(keys_of(catalogue, b), b.n, id, at)
+}
+
 // Where an id stands among the keys of a block.
 fn find_key(catalogue: &[u8], b: Block, id: i32, hints: &mut [u32]) -> Found
     requires { ⌜ (b .at + 4 * b .n ≤ length (now catalogue)) × Sorted (take (4 * b .n) (drop (b .at) (now catalogue))) (b .n) ⌝ }
     ensures { λ r. ⌜ foundOf r ≡ find (λ i. same (i32At (now (catalogue .entry)) (b .at + 4 * i)) id) (from 0 (b .n)) ⌝ }
 {
     let at = first_key(catalogue, b, id, hints);
-    keys::place_at(keys_of(catalogue, b), b.n, id, at)
+    found_at(catalogue, b, id, at)
+}
+
+// The same, where a guess is at hand.
+fn find_near(catalogue: &[u8], b: Block, id: i32, guess: usize) -> Found
+    requires { ⌜ (b .at + 4 * b .n ≤ length (now catalogue)) × Sorted (take (4 * b .n) (drop (b .at) (now catalogue))) (b .n) ⌝ }
+    ensures { λ r. ⌜ foundOf r ≡ find (λ i. same (i32At (now (catalogue .entry)) (b .at + 4 * i)) id) (from 0 (b .n)) ⌝ }
+{
+    let at = keys::first_near(keys_of(catalogue, b), b.n, id, guess);
+    found_at(catalogue, b, id, at)
 }
 
 // The id behind key i of a block: a name's attribute, a link's effect.
@@ -209,7 +235,8 @@ fn id_at(catalogue: &[u8], b: Block, i: usize) -> i32
     image::i32_at(catalogue, b.at + 4 * b.n + 4 * i)
 }
 
-// The attribute of a name. Name numbers are at most 87, so that the order of the signed numbers is theirs.
+// The attribute of a name. Name numbers are at most 87, so that the order of the signed numbers is theirs; where all are there, each
+// stands at its own number.
 pub fn attribute_id(catalogue: &[u8], name: u32) -> AttributeId
     requires { ⌜ Sound (now catalogue) ⌝ }
     ensures { λ r. ⌜ idOf r ≡ nameId (catalogueOf (now (catalogue .entry)) .names) name ⌝ }
@@ -218,8 +245,7 @@ pub fn attribute_id(catalogue: &[u8], name: u32) -> AttributeId
         return AttributeId::Unknown;
     }
     let b = names(catalogue);
-    let mut none = [0u32; 0];
-    let found = find_key(catalogue, b, name as i32, &mut none);
+    let found = find_near(catalogue, b, name as i32, name as usize);
     match found {
         Found::At(i) => AttributeId::Known(id_at(catalogue, b, i)),
         Found::Nothing => AttributeId::Unknown,
@@ -278,16 +304,46 @@ pub fn seek_types(catalogue: &[u8], i: i32, j: i32, k: i32, l: i32, hints: &mut 
     seek(catalogue, types(catalogue), i, j, k, l, hints);
 }
 
+// What a type is, given how many types are under its id.
+fn type_found(catalogue: &[u8], id: i32, at: usize) -> TypeAnswer
+    requires { let keys = take (4 * typeCount (now catalogue)) (drop (typesAt (now catalogue)) (now catalogue)) in
+        ⌜ Sound (now catalogue) × Parts keys (typeCount (now catalogue)) id at ⌝ }
+    ensures { λ r. ⌜ infoOf r ≡ given (typeOf (catalogueOf (now (catalogue .entry))) id) none (λ x. some (infoOfType x)) ⌝ }
+{
+    let found = found_at(catalogue, types(catalogue), id, at);
+    match found {
+        Found::At(i) => TypeAnswer::Known(type_at(catalogue, i)),
+        Found::Nothing => TypeAnswer::Unknown,
+    }
+}
+
+// `get_type` of four types, looked for at once.
+pub fn four_types(catalogue: &[u8], i: i32, j: i32, k: i32, l: i32) -> FourTypes
+    requires { ⌜ Sound (now catalogue) ⌝ }
+    ensures { λ r.
+        let c = catalogueOf (now (catalogue .entry)) in
+        ⌜ (infoOf (r .a) ≡ given (typeOf c i) none (λ x. some (infoOfType x)))
+        × (infoOf (r .b) ≡ given (typeOf c j) none (λ x. some (infoOfType x)))
+        × (infoOf (r .c) ≡ given (typeOf c k) none (λ x. some (infoOfType x)))
+        × (infoOf (r .d) ≡ given (typeOf c l) none (λ x. some (infoOfType x))) ⌝ }
+{
+    let b = types(catalogue);
+    let found = keys::four_from(keys_of(catalogue, b), b.n, i, j, k, l);
+    FourTypes {
+        a: type_found(catalogue, i, found.a),
+        b: type_found(catalogue, j, found.b),
+        c: type_found(catalogue, k, found.c),
+        d: type_found(catalogue, l, found.d),
+    }
+}
+
 // `get_type`: what a type is. `hints` are any numbers: where ids stood that were looked for before with the same catalogue.
 pub fn type_of(catalogue: &[u8], id: i32, hints: &mut [u32]) -> TypeAnswer
     requires { ⌜ Sound (now catalogue) ⌝ }
     ensures { λ r. ⌜ infoOf r ≡ given (typeOf (catalogueOf (now (catalogue .entry))) id) none (λ x. some (infoOfType x)) ⌝ }
 {
-    let found = find_key(catalogue, types(catalogue), id, hints);
-    match found {
-        Found::At(i) => TypeAnswer::Known(type_at(catalogue, i)),
-        Found::Nothing => TypeAnswer::Unknown,
-    }
+    let at = first_key(catalogue, types(catalogue), id, hints);
+    type_found(catalogue, id, at)
 }
 
 // ---- walks over the links and the bases of a type

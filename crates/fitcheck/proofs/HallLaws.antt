@@ -3,7 +3,7 @@ use Prim.Native.Nat.{ℕ, zero, suc, _+_, _*_, _≤_, _<_}
 use native.Mathlib.Nat.{eq-or-lt-of-le, le-of-suc-le-suc}
 use native.Mathlib.Numerals.{add-one}
 use native.Mathlib.Omega.{arith}
-use mathlib.Core.Path.{_≡_, refl, ap₂}
+use mathlib.Core.Path.{_≡_, refl, ap, ap₂}
 use mathlib.Core.Bool.{Bool, true, false, not, _&&_, _||_, cond}
 use mathlib.Core.List.{List, [], _∷_}
 use mathlib.Core.Logic.{⊎-elim}
@@ -19,9 +19,8 @@ use Rattle.catalogue.specs.Catalogue.{Catalogue, catalogueOf}
 use Rattle.catalogue.specs.Refusals.{catalogueRefusals, catalogueRefusal}
 use Rattle.fit.specs.Fit.{fitOf, itemCount, resultCount}
 use Rattle.fit.specs.Refusals.{fitRefusal}
-use Rattle.entry.specs.declared.Entry.{Entry}
 use Rattle.lists.specs.Terms.{main}
-use Rattle.lists.specs.Lists.{wholeList, forReader, listFor}
+use Rattle.lists.specs.Lists.{wholeList}
 use Rattle.fitcheck.specs.Hall.{fitCount, lengthAt, fitStart, fitAt, fits, badInput, Laid, fitRefused, isClear, isFaulted, shareOf, wordOf}
 use Rattle.fitcheck.specs.Hall.{HallAnswer, hallBy, hallCall, hallReturned}
 use Rattle.calls.proofs.First.{first-small, first-kept, first-past, numbered-catalogue}
@@ -87,7 +86,7 @@ module _ (input : List ℕ) where
   pub laid-within : Laid input → (i : ℕ) → i < fitCount input → fitStart input i + lengthAt input i ≤ length input
   laid-within l i h = omega (arith, end-within i (fitCount input) h, l .size)
 
--- ---- what one fit adds; a hall is the officer's, who gets the whole list
+-- ---- what one fit adds
 module _ (c : Catalogue) (b : List ℕ) where
   accepted : fitRefusal b ≡ 0 → fitRefused b ≡ false
   unfolding fitRefused
@@ -111,21 +110,11 @@ module _ (c : Catalogue) (b : List ℕ) where
   share-unread h = judged true whole (turned-away h) refl
 
   module _ (e : fitRefusal b ≡ 0) where
-    pub share-clear : length (listFor main c (fitOf b)) ≡ 0 → itemCount b ≡ resultCount b → 1 ≡ shareOf c b
-    unfolding isEmpty listFor forReader
-    share-clear h q = judged false true (accepted e) (ap₂ _&&_ (go (wholeList main c (fitOf b)) h) (eq-eqb (itemCount b) (resultCount b) q))
-      where
-        go : (l : List Entry) → length l ≡ 0 → isEmpty l ≡ true
-        go [] h = refl
-        go (x ∷ l) h = absurd (omega arith)
+    pub share-clear : isEmpty (wholeList main c (fitOf b)) ≡ true → itemCount b ≡ resultCount b → 1 ≡ shareOf c b
+    share-clear h q = judged false true (accepted e) (ap₂ _&&_ h (eq-eqb (itemCount b) (resultCount b) q))
 
-    pub share-faulted : 0 < length (listFor main c (fitOf b)) → 256 ≡ shareOf c b
-    unfolding isEmpty listFor forReader
-    share-faulted h = judged false false (accepted e) (go (wholeList main c (fitOf b)) h)
-      where
-        go : (l : List Entry) → 0 < length l → (isEmpty l && eqb (itemCount b) (resultCount b)) ≡ false
-        go [] h = absurd (omega arith)
-        go (x ∷ l) h = refl
+    pub share-faulted : isEmpty (wholeList main c (fitOf b)) ≡ false → 256 ≡ shareOf c b
+    share-faulted h = judged false false (accepted e) (ap (λ (t : Bool). t && eqb (itemCount b) (resultCount b)) h)
 
     -- whatever is listed
     pub share-unequal : (itemCount b ≡ resultCount b → ⊥) → 256 ≡ shareOf c b

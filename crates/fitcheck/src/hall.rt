@@ -1,6 +1,4 @@
 // The hall number: K fits end to end, each judged where it stands in the input. Document 01, "Hall number".
-use lists::Asked;
-use numbers::readers;
 use numbers::sizes;
 ghost use mathlib.Core.Path.{_≡_};
 ghost use Prim.Native.Nat.{_+_, _*_, _<_, _≤_};
@@ -83,14 +81,7 @@ fn share(catalogue: &[u8], fit: &[u8], hints: &mut [u32]) -> u64
         return FAULTED; // whatever is listed: not all of it is read
     }
     let facts = context::gather(catalogue, fit, hints);
-    let profile = [0u8; 0];
-    let mut none = [0u8; 0];
-    let asked = Asked {
-        reader: readers::OFFICER,
-        allowance: 0,
-    };
-    let listed = lists::write(asked, catalogue, fit, &profile, &facts, hints, &mut none);
-    if listed == 0 {
+    if lists::is_empty(catalogue, fit, &facts, hints) {
         return CLEAR;
     }
     FAULTED

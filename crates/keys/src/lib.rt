@@ -1,13 +1,13 @@
 // Keys in an image: whether they are in order, and where an id stands among them.
 ghost use mathlib.Core.Path.{_≡_};
-ghost use mathlib.Core.Bool.{_||_, cond};
+ghost use mathlib.Core.Bool.{true, false, not, _||_, cond};
 ghost use Prim.Native.Nat.{_+_, _-_, _*_, _<_, _≤_};
 ghost use lib.ListN.{length};
 ghost use lib.Dec.{eqb, ltb, leb};
 ghost use lib.Signed.{ltZ, leZ};
 ghost use Rattle.words.specs.Words.{table, inOrder};
 ghost use Rattle.image.specs.Bytes.{u32At};
-ghost use Rattle.keys.specs.Keys.{keyAt, rankOf, Sorted, Parts, placeOf, foundOf, biased, stands};
+ghost use Rattle.keys.specs.Keys.{keyAt, rankOf, Sorted, Parts, placeOf, foundOf, sign, biased, stands};
 
 // A place in a slice, or none.
 pub enum Found {
@@ -37,18 +37,77 @@ fn stand(x: u32, y: u32, strict: bool) -> bool
     if strict { x < y } else { x <= y }
 }
 
-// Whether each of the n keys and the next stand in order. The verdict is gathered and the loop runs to its end, so that the
-// compiler can take many keys at once.
-fn ordered(keys: &[u8], n: usize, bias: u32, strict: bool) -> bool
+// Whether key i and the one before it stand in order.
+fn in_step(keys: &[u8], i: usize, bias: u32, strict: bool) -> bool
+    requires { ⌜ (1 ≤ i) × (4 * i + 4 ≤ length (now keys)) ⌝ }
+    ensures { λ r.
+        let x = biased bias (u32At (now (keys .entry)) (4 * (i - 1))) in
+        let y = biased bias (u32At (now (keys .entry)) (4 * i)) in
+        ⌜ r ≡ stands strict x y ⌝ }
+{
+    let x = biased_at(keys, i - 1, bias);
+    let y = biased_at(keys, i, bias);
+    stand(x, y, strict)
+}
+
+// The bias by which bits stand in the order of the signed numbers.
+const SIGN: u32 = 2147483648;
+
+// Whether each of n biased keys stands before the next. The loop runs to its end, so that the compiler can take many keys at once.
+fn ascending(keys: &[u8], n: usize, bias: u32) -> bool
     requires { ⌜ 4 * n ≤ length (now keys) ⌝ }
-    ensures { λ r. ⌜ r ≡ inOrder (stands strict) (table n (λ i. biased bias (u32At (now (keys .entry)) (4 * i)))) ⌝ }
+    ensures { λ r. ⌜ r ≡ inOrder (stands true) (table n (λ i. biased bias (u32At (now (keys .entry)) (4 * i)))) ⌝ }
 {
     let mut ok = true;
     let mut i: usize = 1;
     while i < n {
-        let x = biased_at(keys, i - 1, bias);
-        let y = biased_at(keys, i, bias);
-        ok = words::both(ok, stand(x, y, strict));
+        ok = words::both(ok, in_step(keys, i, bias, true));
+        i += 1;
+    }
+    ok
+}
+
+// Whether signed key i stands before the one in front of it.
+fn falls(keys: &[u8], i: usize) -> bool
+    requires { ⌜ (1 ≤ i) × (4 * i + 4 ≤ length (now keys)) ⌝ }
+    ensures { λ r.
+        let x = biased sign (u32At (now (keys .entry)) (4 * (i - 1))) in
+        let y = biased sign (u32At (now (keys .entry)) (4 * i)) in
+        ⌜ r ≡ not (stands false x y) ⌝ }
+{
+    !in_step(keys, i, SIGN, false)
+}
+
+// Whether none of 4h + 1 signed keys stands behind the next: four runs of h + 1 keys, each from the last key of the one before, in step.
+// One run alone waits for memory. Bias and strictness are known here: with both as parameters the loop takes twice as long.
+fn four_runs(keys: &[u8], h: usize) -> bool
+    requires { ⌜ 16 * h + 4 ≤ length (now keys) ⌝ }
+    ensures { λ r. ⌜ r ≡ inOrder (stands false) (table (4 * h + 1) (λ i. biased sign (u32At (now (keys .entry)) (4 * i)))) ⌝ }
+{
+    let mut fall = false;
+    let mut i: usize = 1;
+    while i <= h {
+        let front = words::either(falls(keys, i), falls(keys, h + i));
+        let back = words::either(falls(keys, 2 * h + i), falls(keys, 3 * h + i));
+        fall = words::either(fall, words::either(front, back));
+        i += 1;
+    }
+    !fall
+}
+
+// Whether none of the n signed keys stands behind the next: in four runs, and what is left one by one.
+fn ordered(keys: &[u8], n: usize) -> bool
+    requires { ⌜ 4 * n ≤ length (now keys) ⌝ }
+    ensures { λ r. ⌜ r ≡ inOrder (stands false) (table n (λ i. biased sign (u32At (now (keys .entry)) (4 * i)))) ⌝ }
+{
+    if n == 0 {
+        return true;
+    }
+    let h = (n - 1) / 4;
+    let mut ok = four_runs(keys, h);
+    let mut i = 4 * h + 1;
+    while i < n {
+        ok = words::both(ok, in_step(keys, i, SIGN, false));
         i += 1;
     }
     ok
@@ -59,15 +118,15 @@ pub fn ascend(keys: &[u8], n: usize) -> bool
     requires { ⌜ 4 * n ≤ length (now keys) ⌝ }
     ensures { λ r. ⌜ r ≡ inOrder ltZ (table n (keyAt (now (keys .entry)))) ⌝ }
 {
-    ordered(keys, n, 2147483648, true)
+    ascending(keys, n, SIGN)
 }
 
-// Whether the n keys never descend.
+// Whether the n keys never descend. Links and base values, by far the most keys of a catalogue, are judged by it.
 pub fn never_descend(keys: &[u8], n: usize) -> bool
     requires { ⌜ 4 * n ≤ length (now keys) ⌝ }
     ensures { λ r. ⌜ r ≡ inOrder leZ (table n (keyAt (now (keys .entry)))) ⌝ }
 {
-    ordered(keys, n, 2147483648, false)
+    ordered(keys, n)
 }
 
 // Whether n unsigned numbers ascend strictly.
@@ -75,7 +134,7 @@ pub fn ascend_unsigned(keys: &[u8], n: usize) -> bool
     requires { ⌜ 4 * n ≤ length (now keys) ⌝ }
     ensures { λ r. ⌜ r ≡ inOrder ltb (table n (λ i. u32At (now (keys .entry)) (4 * i))) ⌝ }
 {
-    ordered(keys, n, 0, true)
+    ascending(keys, n, 0)
 }
 
 // Key i in the order of the signed numbers.
@@ -84,7 +143,7 @@ fn rank_at(keys: &[u8], i: usize) -> u32
     ensures { λ r. ⌜ r ≡ rankOf (keyAt (now (keys .entry)) i) ⌝ }
 {
     let x = image::u32_at(keys, 4 * i);
-    std::num::wrapping_add_u32(x, 2147483648)
+    std::num::wrapping_add_u32(x, SIGN)
 }
 
 fn rank(id: i32) -> u32

@@ -1,16 +1,16 @@
--- The groups of the pairs, one more at a time; and a limit that an item has: an entry where more are used than it allows. One law for
+-- Arrays of the pairs, filled one at a time; the states of fitted pairs; and a limit that an item has: an entry where more are used than it allows. One law for
 -- groups and types.
 use Prim.Native.Nat.{ℕ, zero, suc, _+_, _<_, _≤_}
 use native.Mathlib.Nat.{eq-or-lt-of-le, ne-of-lt}
+use native.Mathlib.Numerals.{add-one}
 use native.Mathlib.Omega.{arith}
-use mathlib.Core.Path.{_≡_, refl, sym, subst, _∙_}
-use mathlib.Core.Bool.{Bool, true, false}
+use mathlib.Core.Path.{_≡_, refl, sym, ap, subst, _∙_}
+use mathlib.Core.Bool.{Bool, true, false, cond, _&&_}
 use mathlib.Core.List.{List, map}
 use mathlib.Core.Logic.{⊎-elim}
 use mathlib.Core.Option.{Option, none, some}
-use lib.Dec.{ltb}
+use lib.Dec.{ltb, leb, leb·suc-zero, leb·suc-suc}
 use lib.Ieee.{Float}
-use lib.IntN.{pos}
 use lib.ListN.{length, getD, set}
 use lib.Seq.{getD-set-same, getD-set-other}
 use Rattle.words.specs.Words.{_>>=_, each, when, whenAbove, countOf}
@@ -27,22 +27,32 @@ use Rattle.entry.proofs.Wrote.{wrote-unless, wrote-bind, wrote-bind-none}
 use Rattle.context.specs.Context.{Pair, Context, isFitted, on}
 use Rattle.context.specs.Gathered.{pairAt}
 use Rattle.limits.specs.declared.Row.{Row}
-use Rattle.limits.specs.Groups.{Grouped}
 use Rattle.limits.specs.Limits.{GROUP-LIMITS, rowAt, inGroup, groupLimitAt, groupLimit, groupLimits, ofType, typeLimitAt, typeLimit}
 
--- one group more
-pub grouped-next : (catalogue fit : List ℕ) (groups : List Id) (i : ℕ) {group : Id} → i < length groups → Grouped i catalogue fit groups
-    → group ≡ pairAt catalogue fit i .group → Grouped (i + 1) catalogue fit (set groups i group)
-grouped-next catalogue fit groups i {group} h f e k q = ⊎-elim here before (eq-or-lt-of-le (omega (arith, q)))
+-- one element more of an array that is filled
+pub kept-next : {A : Type 0} (f : ℕ → A) (d : A) (l : List A) (i : ℕ) {x : A} → i < length l → ((k : ℕ) → k < i → getD l k d ≡ f k) → x ≡ f i
+    → (k : ℕ) → k < i + 1 → getD (set l i x) k d ≡ f k
+kept-next {A} f d l i {x} h g e k q = ⊎-elim here before (eq-or-lt-of-le (omega (arith, q)))
   where
     At : ℕ → Type 0
-    At j = getD (set groups i group) j (pos 0) ≡ pairAt catalogue fit j .group
+    At j = getD (set l i x) j d ≡ f j
 
     here : k ≡ i → At k
-    here p = subst At (sym p) (getD-set-same groups i group (pos 0) h ∙ e)
+    here p = subst At (sym p) (getD-set-same l i x d h ∙ e)
 
     before : k < i → At k
-    before g = getD-set-other groups i k group (pos 0) (ne-of-lt g) ∙ f k g
+    before b = getD-set-other l i k x d (ne-of-lt b) ∙ g k b
+
+-- ---- the states
+state-fits : (lowest state : ℕ) → ltb lowest (state + 1) ≡ leb lowest state
+state-fits lowest state = ap (leb (suc lowest)) (add-one state) ∙ leb·suc-suc lowest state
+
+-- a limit's state is reached, of a fitted pair
+pub state-told : (alike fitted : Bool) (lowest state : ℕ) → alike && ltb lowest (cond fitted (state + 1) 0) ≡ (fitted && alike) && leb lowest state
+state-told true true lowest state = state-fits lowest state
+state-told true false lowest state = leb·suc-zero lowest
+state-told false true lowest state = refl
+state-told false false lowest state = refl
 
 -- what both rules say of a pair
 limited : Option Float → Bool → ℕ → (ℕ → ℕ → Entry) → List Entry

@@ -19,7 +19,7 @@ ghost use Rattle.fit.specs.Sound as Fit;
 ghost use Rattle.fit.specs.Sound.{Starts};
 ghost use Rattle.entry.specs.Wrote.{Room, Wrote};
 ghost use Rattle.context.specs.Gathered.{pairCount, pairAt, pairsOf, contextOf, Gathered};
-ghost use Rattle.limits.specs.Groups.{Groups};
+ghost use Rattle.limits.specs.Groups.{Groups, States, stateOf};
 ghost use Rattle.limits.specs.Limits.{rowAt, inGroup, groupLimitAt, groupLimit, groupLimits};
 ghost use Rattle.limits.specs.Limits.{ofType, typeLimitAt, typeLimit, limitRules};
 
@@ -81,34 +81,70 @@ fn groups(catalogue: &[u8], fit: &[u8], facts: &[u32; 2058]) -> [i32; 256]
     groups
 }
 
-// Whether a fitted pair of the group is in a state that the limit looks at. All is read before it is tested, so that the
-// compiler can take many pairs at once.
+// The state of pair i as limits count it: one above its own where it is fitted, else 0.
+fn state_at(fit: &[u8], i: usize) -> u32
+    requires { ⌜ Fit.Sound (now fit) × (i < pairCount (now fit)) ⌝ }
+    ensures { λ r. ⌜ ((catalogue : List ℕ) → r ≡ stateOf (pairAt catalogue (now (fit .entry)) i)) ⌝ }
+{
+    if context::is_fitted_at(fit, i) {
+        return image::wide32(fit::result_state(fit, i + 2)) + 1;
+    }
+    0
+}
+
+// The state of each pair, gathered once for all limits.
+fn states(fit: &[u8]) -> [u32; 256]
+    requires { ⌜ Fit.Sound (now fit) ⌝ }
+    ensures { λ r. ⌜ ((catalogue : List ℕ) → States catalogue (now (fit .entry)) r) ⌝ }
+{
+    let count = fit::pair_count(fit);
+    let mut states = [0u32; 256];
+    let mut i = 0;
+    while i < count {
+        states[i] = state_at(fit, i);
+        i += 1;
+    }
+    states
+}
+
+// Whether a fitted pair of the group is in a state that the limit looks at: of two arrays, so that the compiler can take many pairs
+// at once.
 fn in_group(
     catalogue: &[u8],
     fit: &[u8],
     groups: &[i32; 256],
+    states: &[u32; 256],
     group: i32,
     lowest: u8,
     i: usize,
 ) -> bool
-    requires { ⌜ Fit.Sound (now fit) × Groups (now catalogue) (now fit) (now groups) × (i < pairCount (now fit)) ⌝ }
+    requires { let c = now catalogue in
+        let f = now fit in
+        ⌜ Fit.Sound f × Groups c f (now groups) × (i < pairCount f) × States c f (now states) ⌝ }
     ensures { λ r. ⌜ r ≡ inGroup group lowest (pairAt (now (catalogue .entry)) (now (fit .entry)) i) ⌝ }
 {
-    let fitted = context::is_fitted_at(fit, i);
     let alike = words::same_id(groups[i], group);
-    let state = fit::result_state(fit, i + 2);
-    words::both(words::both(fitted, alike), lowest <= state)
+    words::both(alike, image::wide32(lowest) < states[i])
 }
 
-fn count_in_group(catalogue: &[u8], fit: &[u8], groups: &[i32; 256], group: i32, lowest: u8) -> u32
-    requires { ⌜ Fit.Sound (now fit) × Groups (now catalogue) (now fit) (now groups) ⌝ }
+fn count_in_group(
+    catalogue: &[u8],
+    fit: &[u8],
+    groups: &[i32; 256],
+    states: &[u32; 256],
+    group: i32,
+    lowest: u8,
+) -> u32
+    requires { let c = now catalogue in
+        let f = now fit in
+        ⌜ Fit.Sound f × Groups c f (now groups) × States c f (now states) ⌝ }
     ensures { λ r. ⌜ r ≡ countOf (inGroup group lowest) (pairsOf (now (catalogue .entry)) (now (fit .entry))) ⌝ }
 {
     let count = fit::pair_count(fit);
     let mut used: u32 = 0;
     let mut i = 0;
     while i < count {
-        used += words::one_if(in_group(catalogue, fit, groups, group, lowest, i));
+        used += words::one_if(in_group(catalogue, fit, groups, states, group, lowest, i));
         i += 1;
     }
     used
@@ -119,13 +155,14 @@ fn group_limit_at(
     fit: &[u8],
     facts: &[u32; 2058],
     groups: &[i32; 256],
+    states: &[u32; 256],
     limit: Limit,
     i: usize,
     out: &mut [u8],
     n: usize,
 ) -> usize
     requires { ⌜ Gathered (now catalogue) (now fit) (now facts) × (i < pairCount (now fit)) × Room n 1 ⌝ }
-    requires { ⌜ Groups (now catalogue) (now fit) (now groups) ⌝ }
+    requires { ⌜ Groups (now catalogue) (now fit) (now groups) × States (now catalogue) (now fit) (now states) ⌝ }
     ensures { λ r.
         let ps = pairsOf (now (catalogue .entry)) (now (fit .entry)) in
         let p = pairAt (now (catalogue .entry)) (now (fit .entry)) i in
@@ -139,7 +176,7 @@ fn group_limit_at(
         return n;
     }
     let group = groups[i];
-    let used = count_in_group(catalogue, fit, groups, group, limit.lowest);
+    let used = count_in_group(catalogue, fit, groups, states, group, limit.lowest);
     let allowed = floats::to_u32(value);
     entry::emit_when(
         out,
@@ -157,12 +194,13 @@ fn group_limit(
     fit: &[u8],
     facts: &[u32; 2058],
     groups: &[i32; 256],
+    states: &[u32; 256],
     k: usize,
     out: &mut [u8],
     n: usize,
 ) -> usize
     requires { ⌜ Gathered (now catalogue) (now fit) (now facts) × (k < 3) × Room n mostPairs ⌝ }
-    requires { ⌜ Groups (now catalogue) (now fit) (now groups) ⌝ }
+    requires { ⌜ Groups (now catalogue) (now fit) (now groups) × States (now catalogue) (now fit) (now states) ⌝ }
     ensures { λ r.
         let x = contextOf (now (catalogue .entry)) (now (fit .entry)) in
         let ps = pairsOf (now (catalogue .entry)) (now (fit .entry)) in
@@ -182,7 +220,7 @@ fn group_limit(
             lowest: row.lowest,
             id,
         };
-        m = group_limit_at(catalogue, fit, facts, groups, limit, i, out, m);
+        m = group_limit_at(catalogue, fit, facts, groups, states, limit, i, out, m);
         i += 1;
     }
     m
@@ -202,10 +240,11 @@ pub fn group_limits(
         ⌜ Wrote (now (out .entry)) n (now (out .exit)) r (groupLimits x ps) × (r ≤ n + 3 * mostPairs) ⌝ }
 {
     let groups = groups(catalogue, fit, facts);
+    let states = states(fit);
     let mut m = n;
     let mut k = 0;
     while k < 3 {
-        m = group_limit(catalogue, fit, facts, &groups, k, out, m);
+        m = group_limit(catalogue, fit, facts, &groups, &states, k, out, m);
         k += 1;
     }
     m

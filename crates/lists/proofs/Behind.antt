@@ -20,7 +20,7 @@ use Rattle.lists.specs.Lists.{onHull, leagueOf, leagueWith, wholeWith, l
 use Rattle.lists.proofs.Guests.{for-behind}
 
 module _ (catalogue fit : List ℕ) (t : Terms) where
-  whole-on-hull : isHull (catalogueOf catalogue) (fitOf fit .frame .ship) ≡ true
+  pub whole-on-hull : isHull (catalogueOf catalogue) (fitOf fit .frame .ship) ≡ true
       → listOf (catalogueOf catalogue) (fitOf fit) ++ leagueOf t (pairsOf catalogue fit) ++ unknownTypes (catalogueOf catalogue) (pairsOf catalogue fit)
       ≡ wholeList t (catalogueOf catalogue) (fitOf fit)
   unfolding wholeList wholeWith leagueWith onHull listOf pairsOf
@@ -45,7 +45,7 @@ module _ (catalogue fit : List ℕ) (t : Terms) where
   unfolding listFor
   no-hull e = ap (forReader (t .reader)) (whole-off-hull e)
 
-no-league : (allowance : ℕ) (ps : List Pair) → leagueOf (terms [] allowance) ps ≡ []
+pub no-league : (allowance : ℕ) (ps : List Pair) → leagueOf (terms [] allowance) ps ≡ []
 unfolding pricesOf tableFrom u32At
 no-league allowance ps = no-profile allowance ps
 

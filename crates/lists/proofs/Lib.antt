@@ -3,3 +3,5 @@ pub mod Unknowns
 pub mod Numbers
 pub mod Guests
 pub mod Behind
+pub mod Few
+pub mod Empty

@@ -7,20 +7,33 @@ use numbers::readers;
 use numbers::sizes;
 ghost use mathlib.Core.Path.{_≡_};
 ghost use Prim.Native.Nat.{_+_, _≤_, _<_};
+ghost use Rattle.words.specs.Words.{isEmpty};
 ghost use Rattle.numbers.specs.Sizes.{mostPairs};
 ghost use Rattle.profile.specs.Sound as Profile;
-ghost use Rattle.catalogue.specs.Catalogue.{catalogueOf};
+ghost use lib.ListN.{length};
+ghost use Rattle.catalogue.specs.Catalogue.{Catalogue, catalogueOf};
 ghost use Rattle.fit.specs.Fit.{fitOf};
+ghost use Rattle.fit.specs.Sound as Fit;
 ghost use Rattle.entry.specs.Wrote.{Wrote, Room};
 ghost use Rattle.context.specs.Gathered.{pairCount, pairAt, pairsOf, Gathered};
 ghost use Rattle.validate.specs.Validate as Rust;
 ghost use Rattle.validate.specs.Validate.{listOf};
-ghost use Rattle.lists.specs.Terms.{terms, readBy};
+ghost use Rattle.lists.specs.Terms.{Terms, terms, readBy, main};
 ghost use Rattle.lists.specs.Unknown.{unknownTypeAt, unknownTypes};
-ghost use Rattle.lists.specs.Lists.{forReader, listFor, mostEntries};
+ghost use Rattle.lists.specs.Lists.{forReader, wholeList, listFor, mostEntries};
 
 // No list has more entries: the Rust's, a ban for each pair, the points, a missing type for each pair.
 pub const MOST_ENTRIES: usize = validate::MOST_ENTRIES + sizes::MOST_PAIRS + 1 + sizes::MOST_PAIRS;
+
+// No list of the fit has more, whoever reads it and whatever the league: 22 of the ship, one of each listed skill, 18 of each pair.
+pub fn most_entries(fit: &[u8]) -> usize
+    requires { ⌜ Fit.Sound (now fit) ⌝ }
+    ensures { λ r.
+        let f = fitOf (now (fit .entry)) in
+        ⌜ ((t : Terms) (c : Catalogue) → length (listFor t c f) ≤ r) × (r ≤ mostEntries) ⌝ }
+{
+    22 + fit::skill_count(fit) + 18 * fit::pair_count(fit)
+}
 
 // Rule 26 of pair i.
 fn unknown_type_at(
@@ -124,4 +137,16 @@ pub fn write(
     }
     let m = league::validate(profile, asked.allowance, catalogue, fit, facts, out, n);
     unknown_types(catalogue, fit, facts, out, m)
+}
+
+// Whether a fit breaks no rule, under no league: as `validate::is_empty`, rule 26 with it.
+pub fn is_empty(catalogue: &[u8], fit: &[u8], facts: &[u32; 2058], hints: &mut [u32]) -> bool
+    requires { ⌜ Gathered (now catalogue) (now fit) (now facts) ⌝ }
+    ensures { λ r. ⌜ r ≡ isEmpty (wholeList main (catalogueOf (now (catalogue .entry))) (fitOf (now (fit .entry)))) ⌝ }
+{
+    if !validate::is_empty(catalogue, fit, facts, hints) {
+        return false;
+    }
+    let mut none = [0u8; 0];
+    unknown_types(catalogue, fit, facts, &mut none, 0) == 0
 }

@@ -32,6 +32,7 @@ use Rattle.validate.specs.Validate.{hullRules, listWith}
 use Rattle.lists.specs.Terms.{Terms}
 use Rattle.lists.specs.Unknown.{unknownTypeAt, unknownTypes}
 use Rattle.lists.specs.Lists.{onHull, leagueOf, leagueWith, wholeWith, wholeList, forGuests, forReader, listFor}
+use Rattle.lists.proofs.Few.{count-le}
 use Rattle.fitcheck.specs.Calls.{listCall, skillCall}
 use Rattle.promises.specs.Answers.{Outcome, outcome, refusal, entriesOf, Conditions, Answers}
 use Rattle.promises.specs.Compare.{Bytes, addedItems, AddedVolumes, Alike, Stays}
@@ -44,7 +45,7 @@ use Rattle.promises.proofs.Rises.{Rises, Covers, covers-stays}
 use Rattle.promises.proofs.Growth.{only-mem, added, new-pairs, list-grows}
 use Rattle.promises.proofs.Haul.{Held, all-map, only-same, each-alike, each-same, bind-same, when-no, not-fitted, list-same}
 use Rattle.promises.proofs.Sounds.{AllSound, list-sound}
-use Rattle.promises.proofs.Lengths.{count-le, pairs-short}
+use Rattle.promises.proofs.Lengths.{pairs-short}
 use Rattle.promises.proofs.Comparing.{same-result, quantities}
 use Rattle.promises.proofs.Accepted.{sized, list-accepted, asked}
 use Rattle.promises.proofs.Calls.{list-answers, skill-answers}

@@ -45,7 +45,7 @@ use Rattle.promises.specs.Answers.{profileConditions, None}
 use Rattle.promises.proofs.Conditions.{none-is}
 use Rattle.words.proofs.All.{All, nil, cons, all-join, all-table, all-when, all-unless, all-cond, all-bind, all-each, all-each-of, all-find}
 use Rattle.promises.proofs.Rises.{Sound}
-use Rattle.promises.proofs.Lengths.{count-le}
+use Rattle.lists.proofs.Few.{count-le}
 
 -- ---- the entries of the list
 abbrev pub AllSound : List Entry → Type 0

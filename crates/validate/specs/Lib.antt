@@ -1,2 +1,3 @@
 pub mod Kind
+pub mod Skills
 pub mod Validate

@@ -8,20 +8,24 @@ use numbers::categories;
 use numbers::groups;
 use numbers::sizes;
 ghost use mathlib.Core.Path.{_≡_};
-ghost use mathlib.Core.List.{[], _∷_, _++_};
-ghost use Prim.Native.Nat.{_+_, _*_, _<_, _≤_};
-ghost use Rattle.words.specs.Words.{contains};
+ghost use mathlib.Core.Bool.{false, not};
+ghost use mathlib.Core.List.{List, [], _∷_, _++_};
+ghost use Prim.Native.Nat.{ℕ, _+_, _-_, _*_, _/_, _≤_};
+ghost use Rattle.words.specs.Words.{contains, given, isEmpty, same, when};
+ghost use Rattle.numbers.specs.Categories as Categories;
 ghost use Rattle.numbers.specs.Groups as Groups;
 ghost use Rattle.numbers.specs.Sizes.{mostSkills, mostPairs};
 ghost use Rattle.catalogue.specs.Catalogue.{catalogueOf};
 ghost use Rattle.catalogue.specs.Sound as Catalogue;
+ghost use Rattle.catalogue.specs.Answers.{infoOf};
 ghost use Rattle.fit.specs.Fit.{skillCount, modeOf, fitOf};
 ghost use Rattle.fit.specs.Sound as Fit;
-ghost use Rattle.entry.specs.declared.Rule.the-variants.{NotAHull};
+ghost use Rattle.entry.specs.declared.Rule.the-variants.{NotAHull, NotASkill};
 ghost use Rattle.entry.specs.Entries.{onShip};
 ghost use Rattle.entry.specs.Wrote.{Wrote, Room};
 ghost use Rattle.context.specs.Gathered.{pairsOf, contextOf, Gathered};
-ghost use Rattle.validate.specs.Kind.{isHullKind, isHull, isMode, isSkill, notAMode, notASkillAt, notASkill};
+ghost use Rattle.validate.specs.Kind.{isHullKind, isHull, isMode, notAMode, notASkillAt, notASkill};
+ghost use Rattle.validate.specs.Skills.{OfSkills};
 ghost use Rattle.validate.specs.Validate.{hullRules, listWith, listOf, mostEntries};
 
 // No list has more entries: the mode, the skills, 12 resources, 6 racks, 2 hardpoints; and of each pair 8 by slot.rs, 8 by item.rs.
@@ -74,16 +78,14 @@ fn is_mode(catalogue: &[u8], id: i32) -> bool
     words::same_id(info.group, groups::SHIP_MODIFIERS)
 }
 
-// Whether the type is a skill. `hints` are those of `catalogue::type_of`.
-fn is_skill(catalogue: &[u8], id: i32, hints: &mut [u32]) -> bool
-    requires { ⌜ Catalogue.Sound (now catalogue) ⌝ }
-    ensures { λ r. ⌜ r ≡ isSkill (catalogueOf (now (catalogue .entry))) id ⌝ }
+// Whether a type is a skill, by what the lookup answered. One that the catalogue lacks is none.
+fn is_skill(answer: TypeAnswer) -> bool
+    ensures { λ r. ⌜ r ≡ given (infoOf answer) false (λ x. same (x .category) Categories.skill) ⌝ }
 {
-    let answer = catalogue::type_of(catalogue, id, hints);
-    let TypeAnswer::Known(info) = answer else {
-        return false;
-    };
-    words::same_id(info.category, categories::SKILL)
+    match answer {
+        TypeAnswer::Known(info) => words::same_id(info.category, categories::SKILL),
+        TypeAnswer::Unknown => false,
+    }
 }
 
 fn not_a_mode(catalogue: &[u8], fit: &[u8], out: &mut [u8], n: usize) -> usize
@@ -107,14 +109,17 @@ fn not_a_mode(catalogue: &[u8], fit: &[u8], out: &mut [u8], n: usize) -> usize
     )
 }
 
-fn not_a_skill_at(catalogue: &[u8], id: i32, hints: &mut [u32], out: &mut [u8], n: usize) -> usize
-    requires { ⌜ Catalogue.Sound (now catalogue) × Room n 1 ⌝ }
-    ensures { λ r. ⌜ Wrote (now (out .entry)) n (now (out .exit)) r (notASkillAt (catalogueOf (now (catalogue .entry))) id) ⌝ }
+// Rule 21 of a skill, by what the lookup answered of its type.
+fn unless_skill(id: i32, answer: TypeAnswer, out: &mut [u8], n: usize) -> usize
+    requires { ⌜ Room n 1 ⌝ }
+    ensures { λ r.
+        let skill = given (infoOf answer) false (λ x. same (x .category) Categories.skill) in
+        ⌜ Wrote (now (out .entry)) n (now (out .exit)) r (when (not skill) (onShip (NotASkill id))) × (r ≤ n + 1) ⌝ }
 {
     entry::emit_when(
         out,
         n,
-        !is_skill(catalogue, id, hints),
+        !is_skill(answer),
         Entry {
             target: Target::Ship,
             rule: Rule::NotASkill(id),
@@ -122,27 +127,87 @@ fn not_a_skill_at(catalogue: &[u8], id: i32, hints: &mut [u32], out: &mut [u8], 
     )
 }
 
-// At every fourth skill the next four are looked for at once. A hall, which has more hints than a list, looks for none twice.
-fn seek_skills(catalogue: &[u8], fit: &[u8], i: usize, hints: &mut [u32])
-    requires { ⌜ Catalogue.Sound (now catalogue) × Fit.Sound (now fit) × (i < skillCount (now fit)) ⌝ }
+fn not_a_skill_at(catalogue: &[u8], id: i32, hints: &mut [u32], out: &mut [u8], n: usize) -> usize
+    requires { ⌜ Catalogue.Sound (now catalogue) × Room n 1 ⌝ }
+    ensures { λ r. ⌜ Wrote (now (out .entry)) n (now (out .exit)) r (notASkillAt (catalogueOf (now (catalogue .entry))) id) ⌝ }
 {
-    if context::LIST_HINTS < hints.len() {
-        return;
+    let answer = catalogue::type_of(catalogue, id, hints);
+    unless_skill(id, answer, out, n)
+}
+
+// Rule 21 of four skills from i on, whose types are looked for at once.
+fn four_skills(catalogue: &[u8], fit: &[u8], i: usize, out: &mut [u8], n: usize) -> usize
+    requires { ⌜ Catalogue.Sound (now catalogue) × Fit.Sound (now fit) × (i + 4 ≤ skillCount (now fit)) × Room n 4 ⌝ }
+    ensures { λ r.
+        let es = OfSkills (catalogueOf (now (catalogue .entry))) (now (fit .entry)) in
+        ⌜ ((b : List ℕ) (k : ℕ) → es i b k (now (out .entry)) n → es (i + 4) b k (now (out .exit)) r) ⌝ }
+{
+    let a = fit::skill_id(fit, i);
+    let b = fit::skill_id(fit, i + 1);
+    let c = fit::skill_id(fit, i + 2);
+    let d = fit::skill_id(fit, i + 3);
+    let four = catalogue::four_types(catalogue, a, b, c, d);
+    let first = four.a;
+    let second = four.b;
+    let third = four.c;
+    let fourth = four.d;
+    let j = unless_skill(a, first, out, n);
+    let k = unless_skill(b, second, out, j);
+    let l = unless_skill(c, third, out, k);
+    unless_skill(d, fourth, out, l)
+}
+
+// How many of the listed skills are looked for by fours: in a list all. A hall, whose fits list the same ones, finds them by its hints.
+fn searched(fit: &[u8], hints: usize) -> usize
+    requires { ⌜ Fit.Sound (now fit) ⌝ }
+    ensures { λ r. ⌜ r ≤ skillCount (now (fit .entry)) ⌝ }
+{
+    if context::LIST_HINTS < hints {
+        return 0;
     }
-    if i % 4 != 0 {
-        return;
+    fit::skill_count(fit)
+}
+
+// Rule 21 of the first so many skills, four at a time; of those that are left behind, fewer than four, nothing.
+fn by_fours(catalogue: &[u8], fit: &[u8], count: usize, out: &mut [u8], n: usize) -> usize
+    requires { ⌜ Catalogue.Sound (now catalogue) × Fit.Sound (now fit) × (count ≤ skillCount (now fit)) × Room n mostSkills ⌝ }
+    ensures { λ r.
+        let es = OfSkills (catalogueOf (now (catalogue .entry))) (now (fit .entry)) in
+        ⌜ es (4 * (count / 4)) (now (out .entry)) n (now (out .exit)) r ⌝ }
+{
+    let mut m = n;
+    let mut i = 0;
+    while i + 4 <= count {
+        m = four_skills(catalogue, fit, i, out, m);
+        i += 4;
     }
-    if fit::skill_count(fit) < i + 4 {
-        return;
+    m
+}
+
+// Rule 21 of the skills from a place on, one by one.
+fn one_by_one(
+    catalogue: &[u8],
+    fit: &[u8],
+    from: usize,
+    hints: &mut [u32],
+    out: &mut [u8],
+    n: usize,
+) -> usize
+    requires { let f = now fit in
+        ⌜ Catalogue.Sound (now catalogue) × Fit.Sound f × (from ≤ skillCount f) × Room n (skillCount f - from) ⌝ }
+    ensures { λ r.
+        let es = OfSkills (catalogueOf (now (catalogue .entry))) (now (fit .entry)) in
+        let count = skillCount (now (fit .entry)) in
+        ⌜ ((b : List ℕ) (k : ℕ) → es from b k (now (out .entry)) n → es count b k (now (out .exit)) r) ⌝ }
+{
+    let count = fit::skill_count(fit);
+    let mut m = n;
+    let mut i = from;
+    while i < count {
+        m = not_a_skill_at(catalogue, fit::skill_id(fit, i), hints, out, m);
+        i += 1;
     }
-    catalogue::seek_types(
-        catalogue,
-        fit::skill_id(fit, i),
-        fit::skill_id(fit, i + 1),
-        fit::skill_id(fit, i + 2),
-        fit::skill_id(fit, i + 3),
-        hints,
-    );
+    m
 }
 
 fn not_a_skill(catalogue: &[u8], fit: &[u8], hints: &mut [u32], out: &mut [u8], n: usize) -> usize
@@ -151,15 +216,9 @@ fn not_a_skill(catalogue: &[u8], fit: &[u8], hints: &mut [u32], out: &mut [u8], 
         let ids = fitOf (now (fit .entry)) .skills in
         ⌜ Wrote (now (out .entry)) n (now (out .exit)) r (notASkill (catalogueOf (now (catalogue .entry))) ids) × (r ≤ n + mostSkills) ⌝ }
 {
-    let count = fit::skill_count(fit);
-    let mut m = n;
-    let mut i = 0;
-    while i < count {
-        seek_skills(catalogue, fit, i, hints);
-        m = not_a_skill_at(catalogue, fit::skill_id(fit, i), hints, out, m);
-        i += 1;
-    }
-    m
+    let count = searched(fit, hints.len());
+    let m = by_fours(catalogue, fit, count, out, n);
+    one_by_one(catalogue, fit, 4 * (count / 4), hints, out, m)
 }
 
 // The mode and the skills that are none.
@@ -188,6 +247,30 @@ fn hull_rules(catalogue: &[u8], fit: &[u8], facts: &[u32; 2058], out: &mut [u8],
     let c = slot::validate(catalogue, fit, facts, out, b);
     let d = item::validate(catalogue, fit, facts, out, c);
     limits::validate(catalogue, fit, facts, out, d)
+}
+
+// Whether the rules of a hull list nothing. Each is asked only where those before it list nothing.
+fn no_rule_broken(catalogue: &[u8], fit: &[u8], facts: &[u32; 2058]) -> bool
+    requires { ⌜ Gathered (now catalogue) (now fit) (now facts) ⌝ }
+    ensures { λ r.
+        let x = contextOf (now (catalogue .entry)) (now (fit .entry)) in
+        let ps = pairsOf (now (catalogue .entry)) (now (fit .entry)) in
+        ⌜ r ≡ isEmpty (hullRules x ps) ⌝ }
+{
+    let mut none = [0u8; 0];
+    if 0 < resource::validate(catalogue, fit, facts, &mut none, 0) {
+        return false;
+    }
+    if 0 < racks::validate(catalogue, fit, facts, &mut none, 0) {
+        return false;
+    }
+    if 0 < slot::validate(catalogue, fit, facts, &mut none, 0) {
+        return false;
+    }
+    if 0 < item::validate(catalogue, fit, facts, &mut none, 0) {
+        return false;
+    }
+    limits::validate(catalogue, fit, facts, &mut none, 0) == 0
 }
 
 // The list of a ship that is no hull.
@@ -239,4 +322,20 @@ pub fn without_skills(catalogue: &[u8], fit: &[u8], facts: &[u32; 2058], out: &m
     }
     let n = not_a_mode(catalogue, fit, out, 0);
     hull_rules(catalogue, fit, facts, out, n)
+}
+
+// Whether the list of a fit is empty: nothing is asked once an entry is found, and the listed skills, of which there are most, come last.
+pub fn is_empty(catalogue: &[u8], fit: &[u8], facts: &[u32; 2058], hints: &mut [u32]) -> bool
+    requires { ⌜ Gathered (now catalogue) (now fit) (now facts) ⌝ }
+    ensures { λ r. ⌜ r ≡ isEmpty (listOf (catalogueOf (now (catalogue .entry))) (fitOf (now (fit .entry)))) ⌝ }
+{
+    let on_hull = is_hull(catalogue, fit, facts);
+    if !on_hull {
+        return false;
+    }
+    if !no_rule_broken(catalogue, fit, facts) {
+        return false;
+    }
+    let mut none = [0u8; 0];
+    kind(catalogue, fit, hints, &mut none, 0) == 0
 }

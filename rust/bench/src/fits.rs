@@ -6,7 +6,10 @@ use std::collections::BTreeMap;
 use compare::model::{Fit, Item, Outcome, Skill};
 use compare::names::*;
 use compare::rng::Rng;
-use compare::sketch::{ACTIVE, CARGO, DRONE_BAY, IMPLANT, ONLINE, RIG, SHIP};
+use compare::sketch::{
+    ACTIVE, BOOSTER, CARGO, DRONE_BAY, FIGHTER_TUBE, HIGH, IMPLANT, LOW, MEDIUM, ONLINE, RIG,
+    SERVICE, SHIP, SUBSYSTEM,
+};
 
 use crate::world::{self, Role, attribute};
 
@@ -86,6 +89,101 @@ pub fn vanished(number: u64) -> Fit {
         item.type_id += 2;
     }
     made
+}
+
+/// A fit of a shape that breaks no rule: enough CPU, limits that nothing passes,
+/// and its own ship among those that its items go on.
+pub fn clear(shape: Shape, number: u64) -> Fit {
+    let mut made = fit(shape, number);
+    set(&mut made.ship, LOADS, 100.0);
+    for result in &mut made.results {
+        for limit in [GROUP_LIMITS, GROUP_LIMITS + 2, MAX_TYPE_FITTED] {
+            if has(result, limit) {
+                set(result, limit, 256.0);
+            }
+        }
+        if has(result, SHIP_GROUPS) {
+            set(result, SHIP_TYPES, f64::from(made.ship_type));
+        }
+    }
+    made
+}
+
+fn has(result: &Outcome, name: usize) -> bool {
+    let mut rows = result.attributes.iter();
+    rows.any(|(id, _)| *id == attribute(name))
+}
+
+/// Gives a result a value, whether it had one or not.
+fn set(result: &mut Outcome, name: usize, value: f64) {
+    let mut rows: BTreeMap<i32, u64> = result.attributes.iter().copied().collect();
+    rows.insert(attribute(name), value.to_bits());
+    result.attributes = rows.into_iter().collect();
+}
+
+/// The slots of the worst fit, in turn: three of four are fitted.
+const WORST_SLOTS: [u8; 16] = [
+    HIGH,
+    MEDIUM,
+    LOW,
+    RIG,
+    SUBSYSTEM,
+    SERVICE,
+    IMPLANT,
+    HIGH,
+    MEDIUM,
+    LOW,
+    RIG,
+    SUBSYSTEM,
+    SERVICE,
+    BOOSTER,
+    FIGHTER_TUBE,
+    DRONE_BAY,
+];
+
+/// As many pairs and attributes as a fit may have, of modules that break nearly
+/// every rule: in slots of other racks, all at one place of them, under limits
+/// of 0, for other ships and for structures, of another size and too big.
+pub fn worst(number: u64) -> Fit {
+    let shape = Shape {
+        modules: 0,
+        drones: 0,
+        goods: 0,
+        implants: 0,
+        ship_attributes: 38,
+        character_attributes: 10,
+        ..LARGEST
+    };
+    let mut made = fit(shape, number);
+    let mut rng = Rng::for_case(11, number);
+    let modules = world::types_of(|role| matches!(role, Role::Module(_)));
+    for pair in 0..256 {
+        let item = Item {
+            type_id: pick(&mut rng, &modules),
+            quantity: 7,
+            kind: WORST_SLOTS[pair % WORST_SLOTS.len()],
+            ..Item::default()
+        };
+        push(&mut made, &mut rng, item, ACTIVE, worst_values(), 117);
+    }
+    made
+}
+
+/// What a module of the worst fit says of itself.
+fn worst_values() -> Vec<(usize, f64)> {
+    let mut values = vec![
+        (VOLUME, 5_000.0),
+        (RIG_SIZE, 3.0),
+        (SUBSYSTEM_SLOT, 125.0),
+        (IMPLANTNESS, 11.0),
+        (BOOSTERNESS, 3.0),
+        (SHIP_TYPES, 1.0),
+        (STANDUP_FIGHTERS, 1.0),
+        (MAX_TYPE_FITTED, 0.0),
+    ];
+    values.extend((0..3).map(|limit| (GROUP_LIMITS + limit, 0.0)));
+    values.extend((0..4).map(|group| (SHIP_GROUPS + group, 1_000.0)));
+    values
 }
 
 /// A fit of so many pairs, each as in the largest one.

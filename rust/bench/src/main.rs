@@ -17,9 +17,11 @@ use compare::profile::League;
 const USAGE: &str = "\
 bench              all tables
 bench --svg FILE   and both curves of growth as a picture
+bench --lists      the tables of list calls and halls alone
 bench --call CASE TIMES
-                   the library's call of case a, b, c, C (full-size), d, e, f, g or
-                   l alone, for a profiler
+                   the library's call of case 1 (one pair), a, b, c, C (full-size),
+                   w (worst pairs), d, D (small fits), h, H (halls of clear fits), e, f, g
+                   or l alone, for a profiler
 ";
 
 /// How many fits of one shape take turns.
@@ -40,6 +42,11 @@ fn main() -> ExitCode {
     match arguments.as_slice() {
         [] => everything(None),
         ["--svg", file] => everything(Some(file)),
+        ["--lists"] => {
+            let [small, .., full] = PARTS.map(|part| Catalogue::new(&world::catalogue(part)));
+            lists(&small, &full);
+            hall(&small, &full);
+        }
         ["--call", case, times] => match times.parse() {
             Ok(times) if call(case, times) => {}
             _ => return usage(),
@@ -64,6 +71,12 @@ fn usage() -> ExitCode {
 fn of_shape(shape: Shape, count: u64) -> Vec<Fit> {
     (0..count)
         .map(|number| Fit::new(&fits::fit(shape, number)))
+        .collect()
+}
+
+fn all_clear(shape: Shape, count: u64) -> Vec<Fit> {
+    (0..count)
+        .map(|number| Fit::new(&fits::clear(shape, number)))
         .collect()
 }
 
@@ -105,26 +118,28 @@ fn overflow_is_checked() -> bool {
 fn lists(small: &Catalogue, full: &Catalogue) {
     println!("## List calls, µs\n");
     report::list_head();
-    for (title, catalogue, shape) in [
-        ("(a) small fit, small catalogue", small, fits::SMALL),
-        (
-            "(b) realistic fit, full-size catalogue",
-            full,
-            fits::REALISTIC,
-        ),
-        ("(c) 256 pairs, small catalogue", small, fits::LARGEST),
-        ("(c) 256 pairs, full-size catalogue", full, fits::LARGEST),
-        (
-            "256 stacks of single drones, small catalogue",
-            small,
-            fits::HANGAR,
-        ),
+    let worst: Vec<Fit> = (0..FITS)
+        .map(|number| Fit::new(&fits::worst(number)))
+        .collect();
+    for (title, shape, target) in [
+        ("one pair", fits::of_pairs(1), 0.9),
+        ("(a) small fit", fits::SMALL, 0.9),
+        ("(b) realistic fit", fits::REALISTIC, 0.95),
+        ("(c) 256 pairs", fits::LARGEST, 0.9),
     ] {
-        let fits = of_shape(shape, FITS);
-        let row = subject::list(catalogue, &fits);
-        report::list_row(title, fits.len(), &row);
+        list_rows(title, small, full, &of_shape(shape, FITS), target);
     }
+    list_rows("256 of the worst pairs", small, full, &worst, 0.9);
     println!();
+}
+
+/// A row for each catalogue.
+fn list_rows(title: &str, small: &Catalogue, full: &Catalogue, fits: &[Fit], target: f64) {
+    for (size, catalogue) in [("small", small), ("full-size", full)] {
+        let row = subject::list(catalogue, fits);
+        let title = format!("{title}, {size} catalogue");
+        report::list_row(&title, fits.len(), &row, target);
+    }
 }
 
 fn hangars(small: &Catalogue) {
@@ -234,10 +249,18 @@ fn skills(small: &Catalogue, full: &Catalogue) {
 
 fn hall(small: &Catalogue, full: &Catalogue) {
     println!("## (d) A hall of 64, full-size catalogue\n");
-    for (kind, shape) in [("realistic", fits::REALISTIC), ("small", fits::SMALL)] {
-        let fits = of_shape(shape, HALL);
-        report::hall_table(kind, fits.len(), &subject::hall(full, small, &fits));
-        println!();
+    for (kind, shape, target) in [
+        ("realistic", fits::REALISTIC, 0.75),
+        ("small", fits::SMALL, 0.85),
+    ] {
+        let faulted = of_shape(shape, HALL);
+        let clear = all_clear(shape, HALL);
+        for (fits, expected) in [(faulted, HALL), (clear, 0)] {
+            let row = subject::hall(full, small, &fits);
+            assert_eq!(row.faulted as u64, expected, "{kind} fits that are faulted");
+            report::hall_table(kind, fits.len(), &row, target);
+            println!();
+        }
     }
 }
 
@@ -366,15 +389,29 @@ fn call(case: &str, times: usize) -> bool {
         "b" => (world::catalogue(FULL), fits::fit(fits::REALISTIC, 0), None),
         "c" => (world::catalogue(SMALL), fits::fit(fits::LARGEST, 0), None),
         "C" => (world::catalogue(FULL), fits::fit(fits::LARGEST, 0), None),
+        "1" => (
+            world::catalogue(SMALL),
+            fits::fit(fits::of_pairs(1), 0),
+            None,
+        ),
+        "w" => (world::catalogue(SMALL), fits::worst(0), None),
         "e" => (
             world::catalogue(FULL),
             fits::fit(fits::REALISTIC, 0),
             Some(MODULE),
         ),
         "f" => (world::chain(512, 2), fits::at_chain(), Some(0)),
-        "d" => {
+        "d" | "D" | "h" | "H" => {
             let catalogue = world::catalogue(FULL).image();
-            let input = subject::hall_input(&of_shape(fits::REALISTIC, HALL));
+            let shape = match case {
+                "d" | "h" => fits::REALISTIC,
+                _ => fits::SMALL,
+            };
+            let fits = match case {
+                "d" | "D" => of_shape(shape, HALL),
+                _ => all_clear(shape, HALL),
+            };
+            let input = subject::hall_input(&fits);
             for _ in 0..times {
                 black_box(library.hall(black_box(&catalogue), &input));
             }

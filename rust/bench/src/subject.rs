@@ -18,6 +18,9 @@ use crate::timing::medians;
 /// A buffer for any list, and one for the skills of any result: the calls
 /// write into these in one pass, and count before they write into shorter ones.
 pub const ANY_LIST: usize = 135_696;
+
+/// A buffer of another length, for as many entries as fit into 64 KiB.
+pub const MIDDLE: usize = 65_520;
 const ANY_SKILLS: usize = 12_288;
 
 /// By how much a fit grows at most when it is trained: 512 skills of five bytes.
@@ -94,8 +97,10 @@ pub fn library() -> Box<dyn Checker> {
 pub struct List {
     /// Entries of all fits together.
     pub entries: usize,
-    /// With a buffer for any list, and with one that just holds the entries.
+    /// With a buffer for any list, with one of [`MIDDLE`] bytes, and with one
+    /// that just holds the entries.
     pub list: f64,
+    pub middle: f64,
     pub exact: f64,
     pub scan: f64,
     /// `validate` as published.
@@ -123,8 +128,7 @@ pub struct Hall {
     /// fit.
     pub scans: f64,
     pub fit_scans: f64,
-    /// List calls on the same catalogue, and on a smaller one.
-    pub lists: f64,
+    /// List calls on a smaller catalogue.
     pub small_lists: f64,
     /// `validate`, without the skill rule as above.
     pub part: f64,
@@ -185,16 +189,38 @@ pub fn list(catalogue: &Catalogue, fits: &[Fit]) -> List {
         .map(|fit| agreed_list(&*library, catalogue, fit))
         .collect();
     let bytes: usize = exact.iter().map(Vec::len).sum();
+    let mut middle = vec![0; MIDDLE];
 
-    let [mut t0, mut t1, mut t2, mut t3, mut t4, mut t5, mut t6] =
-        std::array::from_fn(|_| Turns::new(fits));
+    let [
+        mut t0,
+        mut t1,
+        mut t2,
+        mut t3,
+        mut t4,
+        mut t5,
+        mut t6,
+        mut t7,
+    ] = std::array::from_fn(|_| Turns::new(fits));
     let image = &catalogue.image;
-    let [list, exact, scan, hashed, sorted, hashed_part, sorted_part] = medians(
+    let [
+        list,
+        middle,
+        exact,
+        scan,
+        hashed,
+        sorted,
+        hashed_part,
+        sorted_part,
+    ] = medians(
         ROUNDS,
         [
             &mut || {
                 let fit = t0.next().1;
                 black_box(library.list(black_box(image), &fit.image, NO_LEAGUE, &mut long));
+            },
+            &mut || {
+                let fit = t7.next().1;
+                black_box(library.list(black_box(image), &fit.image, NO_LEAGUE, &mut middle));
             },
             &mut || {
                 let (number, fit) = t1.next();
@@ -226,6 +252,7 @@ pub fn list(catalogue: &Catalogue, fits: &[Fit]) -> List {
     List {
         entries: bytes / ENTRY,
         list,
+        middle,
         exact,
         scan,
         original: hashed.min(sorted),
@@ -422,8 +449,9 @@ fn target(result: u32) -> Target {
     }
 }
 
-/// The entries' bytes: those of the call with a long buffer, with an exact one,
-/// and those of the original every time, of the rules that count.
+/// The entries' bytes: those of the call with a long buffer, with an exact one
+/// and with one in between, and those of the original every time, of the rules
+/// that count.
 fn agreed(
     originals: &[Vec<Violation>],
     any: usize,
@@ -434,16 +462,15 @@ fn agreed(
     let count = call(&mut long) as usize;
     assert!(ENTRY * count <= any, "the call is answered");
     long.truncate(ENTRY * count);
-    let mut exact = vec![0; ENTRY * count];
-    assert_eq!(
-        call(&mut exact),
-        count as u64,
-        "the call with an exact buffer"
-    );
-    assert!(
-        exact == long,
-        "bytes with an exact buffer and with a long one"
-    );
+    for room in [ENTRY * count, MIDDLE] {
+        let mut shorter = vec![0; room];
+        if room < ENTRY * count {
+            continue;
+        }
+        assert_eq!(call(&mut shorter), count as u64, "with {room} bytes");
+        shorter.truncate(ENTRY * count);
+        assert!(shorter == long, "bytes with {room} bytes and with more");
+    }
     for found in originals {
         let listed = found.iter().filter(|violation| counts(&violation.rule));
         let bytes: Vec<u8> = listed.flat_map(reference::entry).collect();
@@ -513,8 +540,7 @@ pub fn hall(catalogue: &Catalogue, small: &Catalogue, fits: &[Fit]) -> Hall {
     agreed_hall(&*library, small, fits);
 
     let image = &catalogue.image;
-    let mut long_too = long.clone();
-    let [hall, scans, fit_scans, lists, small_lists, hashed, sorted] = medians(
+    let [hall, scans, fit_scans, small_lists, hashed, sorted] = medians(
         ROUNDS,
         [
             &mut || {
@@ -532,13 +558,8 @@ pub fn hall(catalogue: &Catalogue, small: &Catalogue, fits: &[Fit]) -> Hall {
             },
             &mut || {
                 for fit in fits {
-                    black_box(library.list(black_box(image), &fit.image, NO_LEAGUE, &mut long));
-                }
-            },
-            &mut || {
-                for fit in fits {
                     let image = black_box(&small.image);
-                    black_box(library.list(image, &fit.image, NO_LEAGUE, &mut long_too));
+                    black_box(library.list(image, &fit.image, NO_LEAGUE, &mut long));
                 }
             },
             &mut || {
@@ -558,7 +579,6 @@ pub fn hall(catalogue: &Catalogue, small: &Catalogue, fits: &[Fit]) -> Hall {
         hall,
         scans,
         fit_scans,
-        lists,
         small_lists,
         part: hashed.min(sorted),
     }

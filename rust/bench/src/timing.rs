@@ -23,9 +23,12 @@ pub fn medians<const N: usize>(rounds: usize, mut tasks: [&mut dyn FnMut(); N]) 
 }
 
 fn sample(task: &mut dyn FnMut(), calls: u32) -> Duration {
-    // One call before the clock starts: the caches hold this task's data, as
-    // they would in a run of such calls.
-    task();
+    // As many calls before the clock starts, and no fewer than two: the caches hold
+    // this task's data, as they would in a run of such calls, and none of the task
+    // before it.
+    for _ in 0..calls.max(2) {
+        task();
+    }
     let start = clock::now();
     for _ in 0..calls {
         task();

@@ -9,7 +9,7 @@ use Rattle.keys.proofs.ascend.Tie as tie
 returns : tie.Need-returns
 returns c =
     let a = c .before .before .args in
-    c .ordered .ensures ∙ biased-lt (a .keys .now) (u32-small (a .keys .now) (c .before .shared-slice-known .given)) (a .n)
+    c .ascending .ensures ∙ biased-lt (a .keys .now) (u32-small (a .keys .now) (c .before .shared-slice-known .given)) (a .n)
 
 pub ascend-spec : {M : Type 1} → statement M
 ascend-spec = tie.close (tie.spec (λ c κs. search needs) returns)

@@ -1,61 +1,71 @@
--- `keys::ordered` meets its contract. The invariant: the verdict so far is that of the first i keys.
-use Prim.Native.Nat.{ℕ, _-_, _*_, _≤_, _<_, max}
+-- `keys::ordered` meets its contract: four runs, then one by one. The invariant: the verdict so far is that of the first i keys.
+use Prim.Native.Nat.{ℕ, _-_, _*_, _≤_, _<_}
 use native.Mathlib.Omega.{arith}
-use mathlib.Core.Path.{_≡_, sym, ap₂, _∙_}
+use mathlib.Core.Path.{_≡_, sym, ap, _∙_}
+use mathlib.Core.Bool.{false}
 use Rattle.words.specs.Words.{table, inOrder}
-use Rattle.words.proofs.Tables.{order-one}
+use Rattle.words.proofs.Tables.{order-none}
 use Rattle.image.specs.Bytes.{u32At}
-use Rattle.keys.specs.Keys.{biased, stands}
-use Rattle.keys.proofs.Orders.{order-turn, order-end}
+use Rattle.keys.specs.Keys.{sign, biased, stands}
+use Rattle.keys.proofs.Orders.{order-turn}
 use Rattle.keys.proofs.ordered.Statement.{statement}
 use Rattle.keys.proofs.ordered.Tie as tie
 
 abbrev Inv-loop : tie.InvT-loop
-Inv-loop keys n bias strict ok₀ i₀ ok i = (0 < i) × (i ≤ max n 1) × (ok ≡ inOrder (stands strict) (table i (λ j. biased bias (u32At keys (4 * j)))))
+Inv-loop keys n h ok₀ i₀ ok i = (0 < i) × (i ≤ n) × (ok ≡ inOrder (stands false) (table i (λ j. biased sign (u32At keys (4 * j)))))
 
 abbrev μ-loop : tie.MeasureT-loop
-μ-loop keys n bias strict ok₀ i₀ ok i = n - i
+μ-loop keys n h ok₀ i₀ ok i = n - i
 
-loop-holds : tie.Need-loop-holds Inv-loop μ-loop
-loop-holds c = (omega arith, omega arith, sym (order-one _ _))
+returns : tie.Need-returns Inv-loop μ-loop
+returns c =
+    let a = c .before .before .args in
+    let f : ℕ → ℕ = λ j. biased sign (u32At (a .keys .now) (4 * j)) in
+    let none : a .n ≡ 0 = omega (arith, c .if1 .taken) in
+    sym (ap (λ (k : ℕ). inOrder (stands false) (table k f)) none ∙ order-none (stands false) f)
 
-sub-biased-at : tie.Need-sub-biased-at Inv-loop μ-loop
-sub-biased-at c = omega arith
+sub-h : tie.Need-sub-h Inv-loop μ-loop
+sub-h c = omega arith
 
-biased-at-requires : tie.Need-biased-at-requires Inv-loop μ-loop
-biased-at-requires c κs = omega arith
+four-runs-requires : tie.Need-four-runs-requires Inv-loop μ-loop
+four-runs-requires c κs = omega arith
 
-biased-at-requires-2 : tie.Need-biased-at-requires-2 Inv-loop μ-loop
-biased-at-requires-2 c κs = omega arith
-
-stand-requires : tie.Need-stand-requires Inv-loop μ-loop
-stand-requires c κs = tt
-
-both-requires : tie.Need-both-requires Inv-loop μ-loop
-both-requires c κs = tt
+mul-i : tie.Need-mul-i Inv-loop μ-loop
+mul-i c = omega arith
 
 add-i : tie.Need-add-i Inv-loop μ-loop
 add-i c = omega arith
+
+loop-holds : tie.Need-loop-holds Inv-loop μ-loop
+loop-holds c = (omega arith, omega arith, c .four-runs .ensures)
+
+in-step-requires : tie.Need-in-step-requires Inv-loop μ-loop
+in-step-requires c κs = (omega arith, omega arith)
+
+add-i-2 : tie.Need-add-i-2 Inv-loop μ-loop
+add-i-2 c = omega arith
 
 loop-less : tie.Need-loop-less Inv-loop μ-loop
 loop-less c = omega arith
 
 loop-again : tie.Need-loop-again Inv-loop μ-loop
 loop-again c =
-    let l = c .before .before .before .before .before .loop in
+    let l = c .before .before .before .loop in
     let a = c .before .before .before .before .before .before .before .args in
-    let f : ℕ → ℕ = λ j. biased (a .bias) (u32At (a .keys .now) (4 * j)) in
-    let s = c .before .stand .ensures ∙ ap₂ (stands (a .strict)) (c .before .before .before .biased-at .ensures) (c .before .before .biased-at2 .ensures) in (
+    let f : ℕ → ℕ = λ j. biased sign (u32At (a .keys .now) (4 * j)) in (
       omega arith,
       omega arith,
-      order-turn (stands (a .strict)) f (l .i) (l .ok) (c .both .result) (c .before .stand .result) (l .inv .0)
-          (l .inv .2) s (c .both .ensures),
+      order-turn (stands false) f (l .i) (l .ok) (c .both .result) (c .before .in-step .result) (l .inv .0)
+          (l .inv .2) (c .before .in-step .ensures) (c .both .ensures),
     )
 
-returns : tie.Need-returns Inv-loop μ-loop
-returns c =
+returns-2 : tie.Need-returns-2 Inv-loop μ-loop
+returns-2 c =
     let l = c .before .loop in
-    order-end _ _ (l .i) _ (l .ok) (l .inv .0) (c .loop-test .left) (l .inv .1) (l .inv .2)
+    let a = c .before .before .before .before .before .args in
+    let f : ℕ → ℕ = λ j. biased sign (u32At (a .keys .now) (4 * j)) in
+    let end : l .i ≡ a .n = omega (arith, c .loop-test .left) in
+    l .inv .2 ∙ ap (λ (k : ℕ). inOrder (stands false) (table k f)) end
 
 pub ordered-spec : {M : Type 1} → statement M
 ordered-spec =
@@ -63,13 +73,15 @@ ordered-spec =
     (tie.spec
     Inv-loop
     μ-loop
-    loop-holds
-    sub-biased-at
-    biased-at-requires
-    biased-at-requires-2
-    stand-requires
-    both-requires
+    returns
+    sub-h
+    four-runs-requires
+    mul-i
     add-i
+    loop-holds
+    in-step-requires
+    (λ c κs. tt)
+    add-i-2
     loop-less
     loop-again
-    returns)
+    returns-2)

@@ -15,10 +15,10 @@ use Rattle.limits.proofs.count_in_group.Statement.{statement}
 use Rattle.limits.proofs.count_in_group.Tie as tie
 
 abbrev Inv-loop : tie.InvT-loop
-Inv-loop catalogue fit groups group lowest count used₀ i₀ used i = Counted catalogue fit (inGroup (toZ w32 group) lowest) used i
+Inv-loop catalogue fit groups states group lowest count used₀ i₀ used i = Counted catalogue fit (inGroup (toZ w32 group) lowest) used i
 
 abbrev μ-loop : tie.MeasureT-loop
-μ-loop catalogue fit groups group lowest count used₀ i₀ used i = count - i
+μ-loop catalogue fit groups states group lowest count used₀ i₀ used i = count - i
 
 loop-holds : tie.Need-loop-holds Inv-loop μ-loop
 loop-holds c = counted-none _ _ _

@@ -22,11 +22,11 @@ use Rattle.limits.proofs.group_limit.Statement.{statement}
 use Rattle.limits.proofs.group_limit.Tie as tie
 
 abbrev Inv-loop : tie.InvT-loop
-Inv-loop catalogue fit facts groups k out₀ n row id count m₀ i₀ out m i =
+Inv-loop catalogue fit facts groups states k out₀ n row id count m₀ i₀ out m i =
     Passed catalogue fit (groupLimitAt (row .limit) (row .lowest) (toZ w32 id) (pairsOf catalogue fit)) out₀ n out m i
 
 abbrev μ-loop : tie.MeasureT-loop
-μ-loop catalogue fit facts groups k out₀ n row id count m₀ i₀ out m i = count - i
+μ-loop catalogue fit facts groups states k out₀ n row id count m₀ i₀ out m i = count - i
 
 -- the id that was looked up, as the calls after it read it
 named : (h : tie.After-pair-count Inv-loop μ-loop) → let a = h .before .before .before .before .before .before .before .before .before .args in

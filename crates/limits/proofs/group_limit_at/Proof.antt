@@ -63,7 +63,7 @@ returns-3 c =
     let ps = pairsOf (a .catalogue .now) (a .fit .now) in
     let p = pairAt (a .catalogue .now) (a .fit .now) (a .i) in
     let group = getD (a .groups .now) (a .i) (pos 0) in
-    let z : toZ w32 (ofZ w32 group) ≡ p .group = toZ-ofZ w32 group (record { sfits = g .group .given }) ∙ s .pre .1 (a .i) (s .pre .0 .1) in
+    let z : toZ w32 (ofZ w32 group) ≡ p .group = toZ-ofZ w32 group (record { sfits = g .group .given }) ∙ s .pre .1 .0 (a .i) (s .pre .0 .1) in
     group-fitted (a .limit .limit) (a .limit .lowest) (a .limit .id) ps p (sym (told v) ∙ ap valueOf (m .answer .given .1))
     (sym (f .is-fitted-at .ensures (a .catalogue .now)) ∙ not-false _ (g .before .if1 .left))
     z (u .before .count-in-group .ensures ∙ ap (λ (y : ℤ). countOf (inGroup y (a .limit .lowest)) ps) z) (u .to-u32 .ensures) (w .emit-when .ensures)

@@ -13,18 +13,28 @@ use Rattle.limits.proofs.group_limits.Statement.{statement}
 use Rattle.limits.proofs.group_limits.Tie as tie
 
 abbrev Inv-loop : tie.InvT-loop
-Inv-loop catalogue fit facts out₀ n groups m₀ k₀ out m k =
+Inv-loop catalogue fit facts out₀ n groups states m₀ k₀ out m k =
     (k ≤ 3) × (m ≤ n + 256 * k) × Wrote out₀ n out m (each (take k GROUP-LIMITS) (groupLimit (contextOf catalogue fit) (pairsOf catalogue fit)))
 
 abbrev μ-loop : tie.MeasureT-loop
-μ-loop catalogue fit facts out₀ n groups m₀ k₀ out m k = 3 - k
+μ-loop catalogue fit facts out₀ n groups states m₀ k₀ out m k = 3 - k
 
 loop-holds : tie.Need-loop-holds Inv-loop μ-loop
 loop-holds c = (omega arith, omega arith, wrote-each-none _ GROUP-LIMITS _ _)
 
+group-limit-requires : tie.Need-group-limit-requires Inv-loop μ-loop
+group-limit-requires c κs =
+    let l = c .before .before .before .before in
+    let t = l .before in
+    let s = t .before .before .before .before .before in
+    let more = c .before .before .before .loop-test .taken in (
+      (s .pre .0, omega (arith, more), omega (arith, s .pre .1, l .loop .inv .1, more)),
+      (t .before .groups .ensures, t .states .ensures (s .args .catalogue .now)),
+    )
+
 loop-again : tie.Need-loop-again Inv-loop μ-loop
 loop-again c =
-    let t = c .before .before .before .before .before in
+    let t = c .before .before .before .before .before .before in
     let l = t .before in
     let w = c .before .before .group-limit .ensures in (
       omega arith,
@@ -47,8 +57,9 @@ group-limits-spec =
     Inv-loop
     μ-loop
     (λ c κs. search needs)
-    loop-holds
     (λ c κs. search needs)
+    loop-holds
+    group-limit-requires
     (λ c. search needs)
     (λ c. search needs)
     loop-again

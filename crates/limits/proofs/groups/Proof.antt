@@ -2,6 +2,7 @@
 use Prim.Native.Nat.{ℕ, _-_, _<_, _≤_}
 use native.Mathlib.Omega.{arith}
 use mathlib.Core.Path.{_≡_, refl, _∙_}
+use lib.IntN.{pos}
 use lib.ListN.{length, length-set}
 use mir.Syntax.{w32}
 use mir.Val.{toZ, ofZ}
@@ -11,7 +12,7 @@ use Rattle.catalogue.specs.Catalogue.{catalogueOf}
 use Rattle.context.specs.Gathered.{pairCount, pairAt}
 use Rattle.context.proofs.Types.{told-group}
 use Rattle.limits.specs.Groups.{Grouped}
-use Rattle.limits.proofs.Limits.{grouped-next}
+use Rattle.limits.proofs.Limits.{kept-next}
 use Rattle.limits.proofs.groups.Statement.{statement}
 use Rattle.limits.proofs.groups.Tie as tie
 
@@ -43,7 +44,7 @@ loop-again c =
       omega (arith, t .before .loop-test .taken),
       l .inv .1,
       length-set (l .groups) (l .i) _ ∙ l .inv .2,
-      grouped-next cat fit (l .groups) (l .i) b (l .inv .3) group,
+      kept-next (λ k. pairAt cat fit k .group) (pos 0) (l .groups) (l .i) b (l .inv .3) group,
     )
 
 returns : tie.Need-returns Inv-loop μ-loop

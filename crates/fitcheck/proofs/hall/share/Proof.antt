@@ -1,13 +1,11 @@
 -- `hall::share` meets its contract: refusals 4 to 6, items and results in unequal numbers, then the list.
 use native.Mathlib.Omega.{arith}
-use mathlib.Core.Path.{_≡_}
+use mathlib.Core.Path.{_≡_, sym, _∙_}
 use Rattle.catalogue.specs.Catalogue.{catalogueOf}
 use Rattle.fit.specs.Fit.{itemCount, resultCount}
 use Rattle.fit.specs.Refusals.{fitRefusal}
 use Rattle.fit.specs.Sound.{Sound}
 use Rattle.fit.proofs.Soundness as Fits
-use Rattle.profile.proofs.Accepted.{sound-none}
-use Rattle.entry.proofs.Wrote.{wrote-count}
 use Rattle.fitcheck.proofs.HallLaws.{share-unread, share-unequal, share-clear, share-faulted}
 use borrow.Author.Needs.{needs}
 use Rattle.fitcheck.proofs.hall.share.Statement.{statement}
@@ -51,25 +49,23 @@ gather-requires c κs =
     let e = c .before .before .before .before in
     (e .before .before .before .before .before .pre, image-sound e)
 
-write-requires : tie.Need-write-requires
-write-requires c κs = (c .before .before .before .before .before .before .gather .ensures, sound-none)
+is-empty-requires : tie.Need-is-empty-requires
+is-empty-requires c κs = c .before .before .before .before .gather .ensures
 
 returns-3 : tie.Need-returns-3
 returns-3 c =
-    let v = c .before .before .before .before in
-    let t = v .before .before .before .before .before .before .before .before .before in
+    let v = c .before .before .before in
+    let t = v .before .before .before .before .before .before .before in
     let e = t .before .before .before in
     let a = e .before .before .before .before .before .args in
-    let n = wrote-count (v .write .ensures .0) in
-    (share-clear (catalogueOf (a .catalogue .now)) (a .fit .now) (accepted e) (omega (arith, n, c .if3 .taken)) (equal t), omega arith)
+    (share-clear (catalogueOf (a .catalogue .now)) (a .fit .now) (accepted e) (sym (v .is-empty .ensures) ∙ c .if3 .taken) (equal t), omega arith)
 
 returns-4 : tie.Need-returns-4
 returns-4 c =
-    let v = c .before .before .before .before in
-    let e = v .before .before .before .before .before .before .before .before .before .before .before .before in
+    let v = c .before .before .before in
+    let e = v .before .before .before .before .before .before .before .before .before .before in
     let a = e .before .before .before .before .before .args in
-    let n = wrote-count (v .write .ensures .0) in
-    (share-faulted (catalogueOf (a .catalogue .now)) (a .fit .now) (accepted e) (omega (arith, n, c .if3 .left)), omega arith)
+    (share-faulted (catalogueOf (a .catalogue .now)) (a .fit .now) (accepted e) (sym (v .is-empty .ensures) ∙ c .if3 .left), omega arith)
 
 pub share-spec : {M : Type 1} → statement M
 share-spec =
@@ -81,9 +77,7 @@ share-spec =
     result-count-requires
     returns-2
     gather-requires
-    (λ c. search needs)
-    (λ c. search needs)
-    write-requires
+    is-empty-requires
     (λ c. search needs)
     returns-3
     (λ c. search needs)
