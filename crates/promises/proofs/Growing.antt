@@ -32,11 +32,11 @@ any-growth old levels items results even lower =
     record { frame = refl; skills = refl; levels = lower; even = even; items = take-own (old .items) items; results = take-own (old .results) results }
 
 -- ---- bytes
-below : List ℕ → Bool
+unfoldable pub below : List ℕ → Bool
 below [] = true
 below (x ∷ l) = ltb x 256 && below l
 
-are-bytes : (l : List ℕ) → T (below l) → Bytes l
+pub are-bytes : (l : List ℕ) → T (below l) → Bytes l
 unfolding below
 are-bytes [] t i = lit< tt
 are-bytes (x ∷ l) t zero = ltb→lt x 256 (and-left (ltb x 256) (below l) t)

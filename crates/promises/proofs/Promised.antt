@@ -11,7 +11,8 @@ use Rattle.promises.specs.Compare.{Alike, Kept}
 use Rattle.promises.specs.Hauls.{outsideHold}
 use Rattle.promises.specs.GrownCase.{CATALOGUE, OLD, NEW, RETRAINED, LOADED, BANNING, PRICING, NARROW, WIDER, ROOM}
 use Rattle.promises.specs.TrainCases.{demanding}
-use Rattle.promises.specs.Trains.{listAfter, Onward, PILOT}
+use Rattle.promises.specs.Trains.{trainOutcome, listAfter, Onward, Copied, PILOT}
+use Rattle.promises.specs.Widens.{written}
 use Rattle.promises.specs.Promises.{listOutcome, skillOutcome, Names, Promises}
 use Rattle.promises.proofs.Calls.{list-answers, skill-answers, list-room, skill-room}
 use Rattle.promises.proofs.Comparing.{list-kept, skills-kept}
@@ -27,7 +28,7 @@ use Rattle.promises.proofs.Unknowns.{unknowns, unknowns-left}
 use Rattle.promises.proofs.Hauling.{haul-lists, haul-skills, hold-one, hold-kept}
 use Rattle.promises.proofs.Pages.{small-page, small-page-skills, main-page}
 use Rattle.promises.proofs.Widening.{widen-answers, widen-decodes, widen-stands}
-use Rattle.promises.proofs.Trains.{train-answers, train-as-skill, trained-accepts, trained-fit, trained-empty, trained-onward, step-none}
+use Rattle.promises.proofs.Trains.{train-answers, train-as-skill, trained-accepts, trained-fit, trained-copies, trained-same, trained-empty, trained-onward, step-none}
 use Rattle.promises.proofs.Trained.{train-example}
 use Rattle.promises.proofs.Edges.{edges}
 
@@ -75,6 +76,7 @@ promised = record {
   train-answers = train-answers;
   train-as-skill = train-as-skill;
   train-decodes = λ catalogue fit n steps buffer h. (trained-accepts catalogue fit n steps buffer h, trained-fit catalogue fit n steps buffer h);
+  train-copies = λ catalogue fit n steps buffer h. (trained-copies catalogue fit n steps buffer h, trained-same catalogue fit n steps buffer h);
   train-empty = trained-empty;
   train-steps = trained-onward;
   train-still = step-none;
@@ -129,3 +131,12 @@ skill-applies = promised .skill-kept NARROW WIDER CATALOGUE OLD NEW ROOM ROOM 2 
 train-applies : (k : ℕ) → let after = listAfter (catalogueOf demanding) 2 (fitOf PILOT) in Onward (after k) (after (k + 1))
 unfolding opened
 train-applies = promised .train-steps demanding PILOT 2 5 (replicate 105 7) refl
+
+copies-apply : Copied PILOT (written (trainOutcome demanding PILOT 2 5 (replicate 105 7)))
+unfolding opened
+copies-apply = promised .train-copies demanding PILOT 2 5 (replicate 105 7) refl .0
+
+-- the ship wants nothing
+same-applies : written (trainOutcome demanding PILOT 0 3 (replicate 105 7)) ≡ PILOT
+unfolding opened
+same-applies = promised .train-copies demanding PILOT 0 3 (replicate 105 7) refl .1 (train-example .bytes) refl

@@ -8,7 +8,7 @@ use mathlib.Core.List.{List, [], _∷_, _++_, map}
 use mathlib.Core.Option.{Option, some}
 use mathlib.Core.Logic.{_⊎_, inl, inr, _↔_}
 use lib.Dec.{T, ltb, leb, nltb→le}
-use lib.ListN.{length, take}
+use lib.ListN.{length, take, drop}
 use borrow.Author.Tests.{lt-ltb, le-ltb, le-leb, lt-leb, ltb-false}
 use Rattle.words.specs.Words.{each, when, countOf, isEmpty, contains, same, anyOf, firstOf, given}
 use Rattle.words.proofs.All.{All}
@@ -41,13 +41,15 @@ use Rattle.training.proofs.Lacking.{missingOf, absent, missing-steps, missing-e
 use Rattle.training.proofs.Room.{turns-size}
 use Rattle.training.proofs.Ranges.{InRange, skills-range, wanted-range, turns-range}
 use Rattle.training.proofs.Decoding.{trained-decodes, trained-accepted}
+use Rattle.training.proofs.Copying.{sizes-copied, rest-copied, own-image}
 use Rattle.calls.specs.Answers.{tooShort}
 use Rattle.calls.specs.Output.{output, noRoom}
 use Rattle.fitcheck.specs.Calls.{skillCall}
 use Rattle.fitcheck.specs.Train.{trainCall}
 use Rattle.promises.specs.Answers.{Outcome, outcome, refusal, count, Conditions, catalogueConditions, fitConditions, First, None}
 use Rattle.promises.specs.Widens.{Fills, written}
-use Rattle.promises.specs.Trains.{trainOutcome, trainedBytes, trainOwn, trainConditions, missing, Onward}
+use Rattle.promises.specs.Compare.{Bytes}
+use Rattle.promises.specs.Trains.{trainOutcome, trainedBytes, trainOwn, trainConditions, missing, Onward, Copied}
 use Rattle.promises.proofs.Conditions.{none-parts, prefix-first, front-first, passed-over, never-first}
 use Rattle.promises.proofs.Pages.{few-pairs}
 use Rattle.promises.proofs.Calls.{skill-answers}
@@ -216,11 +218,32 @@ module _ (c : Catalogue) (fit : List ℕ) (result : ℕ) (s : Fit.Sound fit) (be
         ap (λ (x : Training). fitRefusal (trainedImage fit x)) (as-trained k)
         ∙ trained-accepted fit (after k) (s .sized) (listed k .paired) (size k) (range k) (listed k .order) (s .order) (s .fields)
 
+    pub copies : (k : ℕ) → Copied fit (trainedImage fit (trainingOf (trainedBy c result k f)))
+    copies k =
+        let t = trainingOf (trainedBy c result k f) in
+        let long : 28 ≤ length fit = omega (arith, s .sized .size) in
+        let paired = subst (λ (x : Training). length (x .ids) ≡ length (x .levels)) (sym (as-trained k)) (listed k .paired) in
+        let new = ap (λ (x : Fit). 28 + 5 * length (x .skills)) (decodes k) in
+        let old : itemsAt fit ≡ 28 + 5 * length (f .skills) = omega (arith, skills-length fit) in (
+          sizes-copied fit t long,
+          ap (λ (n : ℕ). drop n (trainedImage fit t)) new ∙ rest-copied fit t long paired ∙ ap (λ (n : ℕ). drop n fit) old,
+        )
+
     pub short : (k : ℕ) → length (trainedImage fit (trainingOf (trainedBy c result k f))) < 2 ^ 32
     short k =
         let e = ap (λ (x : Training). length (trainedImage fit x)) (as-trained k) in
         let l = image-length fit (after k) (omega (arith, s .sized .size)) (listed k .paired) in
         omega (arith, e, l, size k, s .sized .size, s .sized .skills, s .sized .items, s .sized .results, s .sized .attributes)
+
+-- ---- a step on an empty list
+pub step-none : (c : Catalogue) (n : ℕ) (f : Fit) → skillList c f n ≡ [] → step c n f ≡ f
+unfolding step stepBy
+step-none c n f e = ap (stepBy f) e
+
+steps-none : (c : Catalogue) (n k : ℕ) (f : Fit) → skillList c f n ≡ [] → trainedBy c n k f ≡ f
+unfolding trainedBy
+steps-none c n zero f e = refl
+steps-none c n (suc k) f e = ap (trainedBy c n k) (step-none c n f e) ∙ steps-none c n k f e
 
 -- ---- what an answered call knows
 no : (b : Bool) → T (not b) → b ≡ false
@@ -280,6 +303,15 @@ module _ (catalogue fit : List ℕ) (result steps : ℕ) (buffer : List ℕ) whe
     pub trained-fit : fitOf (written (trainOutcome catalogue fit result steps buffer)) ≡ trainedBy c result steps (fitOf fit)
     trained-fit = ap fitOf is-trained ∙ decodes c fit result (its-fit none) (its-result none) (its-skills none) steps
 
+    pub trained-copies : Copied fit (written (trainOutcome catalogue fit result steps buffer))
+    trained-copies =
+        subst (Copied fit) (sym is-trained) (copies c fit result (its-fit none) (its-result none) (its-skills none) steps)
+
+    pub trained-same : Bytes fit → skillList c (fitOf fit) result ≡ [] → written (trainOutcome catalogue fit result steps buffer) ≡ fit
+    trained-same small e =
+        is-trained ∙ ap (λ (x : Fit). trainedImage fit (trainingOf x)) (steps-none c result steps (fitOf fit) e)
+        ∙ own-image fit (λ i. record { fits = small i }) (omega (arith, its-fit none .sized .size))
+
     pub trained-empty : isEmpty (skillList c (fitOf (written (trainOutcome catalogue fit result steps buffer))) result)
         ≡ leb (missing (skillList c (fitOf fit) result)) steps
     trained-empty =
@@ -333,8 +365,3 @@ module _ (catalogue fit : List ℕ) (result steps : ℕ) (buffer other : List �
         λ h. s .1 (past-page .1 (prefix-first n (images ++ asked) lists (front-first n (images ++ asked) trains no-trains (t .0 h)))),
         λ h. t .1 (prefix-first n (images ++ asked) trains (front-first n (images ++ asked) lists no-lists (past-page .0 (s .0 h)))),
       )
-
--- ---- a step on an empty list
-pub step-none : (c : Catalogue) (n : ℕ) (f : Fit) → skillList c f n ≡ [] → step c n f ≡ f
-unfolding step stepBy
-step-none c n f e = ap (stepBy f) e

@@ -37,7 +37,7 @@ use Rattle.promises.specs.KeptCases.{Tables}
 use Rattle.promises.specs.Walks.{MoreWanted, SkillsOf}
 use Rattle.promises.specs.Halls.{HallAnswers, Judged}
 use Rattle.promises.specs.Widens.{widenOutcome, widenConditions, Fills, written, Stands}
-use Rattle.promises.specs.Trains.{trainOutcome, trainedBytes, trainConditions, missing, listAfter, Onward, TrainExample}
+use Rattle.promises.specs.Trains.{trainOutcome, trainedBytes, trainConditions, missing, listAfter, Onward, Copied, TrainExample}
 use Rattle.promises.specs.Names.{numbered, nameNumbers}
 use Rattle.promises.specs.Edges.{EDGES, Agree}
 
@@ -259,6 +259,12 @@ TrainDecodes = (catalogue fit : List ℕ) (result steps : ℕ) (buffer : List �
     → let new = written (trainOutcome catalogue fit result steps buffer) in
     (fitRefusal new ≡ 0) × (fitOf new ≡ trainedBy (catalogueOf catalogue) result steps (fitOf fit))
 
+-- All but skills and levels is copied byte for byte; and where the first list is empty, the fit is written as it is.
+abbrev pub TrainCopies : Type 0
+TrainCopies = (catalogue fit : List ℕ) (result steps : ℕ) (buffer : List ℕ) → refusal (trainOutcome catalogue fit result steps buffer) ≡ 0
+    → let new = written (trainOutcome catalogue fit result steps buffer) in
+    Copied fit new × (Bytes fit → skillList (catalogueOf catalogue) (fitOf fit) result ≡ [] → new ≡ fit)
+
 -- The skill list of that result is empty in it exactly where the steps are no fewer than the sum of required less trained over the first list:
 -- after exactly that many, and at no earlier step.
 abbrev pub TrainEmpty : Type 0
@@ -327,10 +333,11 @@ pub record Promises : Type 0 where
   pub train-answers : TrainAnswers
   pub train-as-skill : TrainAsSkill
   pub train-decodes : TrainDecodes
+  pub train-copies : TrainCopies
   pub train-empty : TrainEmpty
   pub train-steps : TrainSteps
   pub train-still : TrainStill
-  -- a fit trained step by step, and lists that no step leads to
+  -- a fit trained step by step; lists that no step leads to, and bytes that no training writes
   pub train-example : TrainExample
   pub names : Names
   pub edges : Edges

@@ -1,13 +1,13 @@
 -- Document 02, P11: what a caller has after the training call, how many levels are missing, and what one step does to a skill list; an
 -- image that is trained step by step, and lists that no step leads to.
-use Prim.Native.Nat.{ℕ, _+_}
+use Prim.Native.Nat.{ℕ, _+_, _*_}
 use mathlib.Core.Path.{_≡_}
 use mathlib.Core.Bool.{false, not}
 use mathlib.Core.List.{List, [], _∷_, _++_}
 use mathlib.Core.Logic.{_⊎_}
 use lib.Dec.{ltb}
 use lib.IntN.{pos}
-use lib.ListN.{length, getD, replicate}
+use lib.ListN.{length, getD, set, take, drop, replicate}
 use Rattle.words.specs.Words.{countOf, sumOf, given, contains}
 use Rattle.catalogue.specs.Catalogue.{Catalogue, catalogueOf}
 use Rattle.fit.specs.Fit.{Fit, fitOf, resultAt}
@@ -19,6 +19,7 @@ use Rattle.training.specs.Training.{trainingOf, skillOf, lacking, trainedBy, tr
 use Rattle.calls.specs.Output.{Written, outputWord, filled}
 use Rattle.fitcheck.specs.Train.{trainCall}
 use Rattle.promises.specs.Answers.{Outcome, Conditions, catalogueConditions, fitConditions}
+use Rattle.promises.specs.Compare.{Bytes}
 use Rattle.promises.specs.TrainCases.{demanding, pilot}
 
 -- ---- the call as a caller sees it
@@ -66,6 +67,13 @@ abbrev pub Onward : List Entry → List Entry → Type 0
 Onward [] after = after ≡ []
 Onward (e ∷ es) after = (after ≡ es) ⊎ (after ≡ oneMore e ∷ es)
 
+-- ---- what is copied byte for byte: the sizes and the frame's ids, bytes 4 to 27, and all that stands behind the listed skills
+abbrev behindSkills : List ℕ → List ℕ
+behindSkills b = drop (28 + 5 * length (fitOf b .skills)) b
+
+abbrev pub Copied : (old new : List ℕ) → Type 0
+Copied old new = (take 24 (drop 4 new) ≡ take 24 (drop 4 old)) × (behindSkills new ≡ behindSkills old)
+
 -- ---- an image: skills 10 at 1 and 20 at 4; result 2 wants 15 at 2, for that 20 at 5, and 10 at 3. Five levels are missing
 abbrev pub PILOT : List ℕ
 PILOT = pilot (10 ∷ 20 ∷ []) (1 ∷ 4 ∷ [])
@@ -80,13 +88,17 @@ first = lacks 15 2 0 ∷ lacks 10 3 1 ∷ lacks 20 5 4 ∷ []
 abbrev Gives : ℕ → List ℕ → Type 0
 Gives steps bytes = trainCall demanding PILOT 2 steps (replicate 105 7) ≡ Written bytes
 
+-- the image after one step: 15 is listed at 1
+abbrev pub STEPPED : List ℕ
+STEPPED = pilot (10 ∷ 15 ∷ 20 ∷ []) (1 ∷ 1 ∷ 4 ∷ [])
+
 -- its skill list after so many
 abbrev Lists : ℕ → List Entry → Type 0
 Lists steps es = listAfter (catalogueOf demanding) 2 (fitOf PILOT) steps ≡ es
 
 pub record TrainExample : Type 0 where
   pub none-yet : Gives 0 PILOT
-  pub one : Gives 1 (pilot (10 ∷ 15 ∷ 20 ∷ []) (1 ∷ 1 ∷ 4 ∷ []))
+  pub one : Gives 1 STEPPED
   pub last-but-one : Gives 4 (pilot (10 ∷ 15 ∷ 20 ∷ []) (3 ∷ 2 ∷ 4 ∷ []))
   pub last : Gives 5 (pilot (10 ∷ 15 ∷ 20 ∷ []) (3 ∷ 2 ∷ 5 ∷ []))
   pub one-more : Gives 6 (pilot (10 ∷ 15 ∷ 20 ∷ []) (3 ∷ 2 ∷ 5 ∷ []))
@@ -106,3 +118,15 @@ pub record TrainExample : Type 0 where
   pub not-all : Onward first [] → ⊥
   pub not-added : Onward first (lacks 9 1 0 ∷ first) → ⊥
   pub not-from-none : Onward [] (lacks 9 1 0 ∷ []) → ⊥
+  -- copied, and not where one byte is another: the second of the items' number, the ship's last, the mode's last, the first behind the skills,
+  -- the last of all; nor with one byte more or less
+  pub bytes : Bytes PILOT
+  pub itself : Copied PILOT PILOT
+  pub copied : Copied PILOT STEPPED
+  pub not-other-items : Copied PILOT (set STEPPED 5 1) → ⊥
+  pub not-other-ship : Copied PILOT (set STEPPED 19 1) → ⊥
+  pub not-other-mode : Copied PILOT (set STEPPED 27 1) → ⊥
+  pub not-other-result : Copied PILOT (set STEPPED 43 1) → ⊥
+  pub not-other-value : Copied PILOT (set STEPPED 102 1) → ⊥
+  pub not-longer : Copied PILOT (STEPPED ++ (0 ∷ [])) → ⊥
+  pub not-shorter : Copied PILOT (take 102 STEPPED) → ⊥

@@ -1,175 +1,175 @@
 -- A skill raised in the arrays that hold it: by where a search has ended, and by the bytes that were stored.
-use Prim.Native.Nat.{ℕ, zero, suc, _+_, _*_, _-_, _≤_, _<_, min}
+use Prim.Native.Nat.{ℕ, zero, suc, _+_, _*_, _-_, _≤_, _<_}
 use native.Mathlib.Omega.{arith}
-use mathlib.Core.Path.{_≡_, refl, sym, ap, ap₂, _∙_, subst}
-use mathlib.Core.Bool.{Bool, true, false, _&&_, cond, true≢false}
-use mathlib.Core.List.{List, [], _∷_}
+use mathlib.Core.Path.{_≡_, refl, sym, ap, _∙_, subst}
+use mathlib.Core.Bool.{Bool, true, false, _&&_}
+use mathlib.Core.List.{List}
 use lib.Dec.{ltb}
 use lib.IntN.{ℤ}
 use lib.Signed.{ltZ, mag}
-use lib.ListN.{length, getD, set, take, drop, length-take, length-drop, length-set}
-use lib.Seq.{getD-take, getD-drop, getD-set-same, getD-set-other, set-getD}
+use lib.ListN.{length, set, take, drop}
+use lib.Seq.{getD-set-same, getD-set-other, set-getD}
 use borrow.Author.Tests.{lt-ltb, le-ltb, ltb-true, ltb-false}
 use Rattle.words.specs.Words.{table, inOrder, same}
-use Rattle.image.specs.Bytes.{u8At, i32At, bits32, le, put}
-use Rattle.image.proofs.Stores.{length-put, length-le}
-use Rattle.image.proofs.Parts.{part-length}
-use Rattle.keys.specs.Keys.{keyAt, rankOf, Sorted, Parts}
+use Rattle.words.proofs.Tables.{table-same}
+use Rattle.image.specs.Bytes.{u8At, i32At}
+use Rattle.keys.specs.Keys.{keyAt, rankOf, Sorted}
 use Rattle.keys.proofs.Ranks.{rank-lt}
 use Rattle.keys.proofs.Orders.{key-range, ascending-sorted, before-differs, after-differs}
-use Rattle.catalogue.specs.Catalogue.{Id}
+use Rattle.keys.proofs.Parts.{part-key}
 use Rattle.fit.specs.Lookups.{trained}
-use Rattle.skill.specs.Skill.{Demand}
 use Rattle.training.specs.Training.{Training, raised}
-use Rattle.training.specs.Turns.{levelOf, gain, portion, turn, Listed, heldIn}
+use Rattle.training.specs.Turns.{levelOf, gain, Listed, heldIn, Parted}
 use Rattle.training.proofs.Raising.{same-sym, other-under}
-use Rattle.image.proofs.Puts.{put-before, put-behind, put-among, i32-alike, le-i32, moved}
 use Rattle.training.proofs.Places.{put-in, level-there, stored, trained-none}
+use Rattle.training.proofs.Opening.{ids-above, levels-above, above-front-id, above-here-id, above-back-id}
+use Rattle.training.proofs.Opening.{above-front-level, above-here-level, above-back-level, ids-below, levels-below}
+use Rattle.training.proofs.Opening.{below-front-id, below-here-id, below-back-id, below-front-level, below-here-level, below-back-level}
 
-module _ (ids levels : List ℕ) (len : ℕ) (id : ℤ) (range : mag id < 2147483648) (at : ℕ) (parts : Parts ids len id at) where
+-- ---- the ids that are searched: a part of the array
+module _ (ids : List ℕ) (from len : ℕ) where
+  abbrev pub searched : List ℕ
+  searched = take (4 * len) (drop (4 * from) ids)
+
+  pub in-part : (k : ℕ) → k < len → keyAt searched k ≡ keyAt ids (from + k)
+  in-part k h =
+      let e : 4 * from + 4 * k ≡ 4 * (from + k) = omega arith in
+      part-key ids (4 * from) len k h ∙ ap (i32At ids) e
+
+  pub part-sorted : inOrder ltZ (table len (λ i. keyAt ids (from + i))) ≡ true → Sorted searched len
+  part-sorted e = ascending-sorted searched len (ap (inOrder ltZ) (table-same len (keyAt searched) (λ i. keyAt ids (from + i)) in-part) ∙ e)
+
+module _ (ids levels : List ℕ) (from len : ℕ) (id : ℤ) (range : mag id < 2147483648) (at : ℕ) (parts : Parted ids from len id at) where
   abbrev held : Training
-  held = heldIn ids levels len
+  held = heldIn ids levels from len
+
+  abbrev key : ℕ → ℤ
+  key k = keyAt ids (from + k)
+
+  abbrev level-at : ℕ → ℕ
+  level-at k = u8At levels (from + k)
+
+  within : at ≤ len
+  within = parts .within
 
   -- ---- by the search
-  before : (k : ℕ) → k < at → (same (keyAt ids k) id ≡ false) × (ltZ id (keyAt ids k) ≡ false)
-  before k h = (
-    before-differs ids len id range at parts k h,
-    rank-lt id (keyAt ids k) range (key-range ids k) ∙ le-ltb (rankOf id) (rankOf (keyAt ids k)) (omega (arith, parts .under k h)),
-  )
+  before : (k : ℕ) → k < at → (same (key k) id ≡ false) × (ltZ id (key k) ≡ false)
+  before k h =
+      let part = searched ids from len in
+      let e = sym (in-part ids from len k (omega (arith, h, within))) in (
+        ap (λ (z : ℤ). same z id) e ∙ before-differs part len id range at parts k h,
+        ap (ltZ id) e ∙ rank-lt id (keyAt part k) range (key-range part k) ∙ le-ltb (rankOf id) (rankOf (keyAt part k)) (omega (arith, parts .under k h)),
+      )
 
-  there : at < len → same (keyAt ids at) id ≡ false → (same (keyAt ids at) id ≡ false) × (ltZ id (keyAt ids at) ≡ true)
+  there : at < len → same (key at) id ≡ false → (same (key at) id ≡ false) × (ltZ id (key at) ≡ true)
   there h e =
-      let above = rank-lt (keyAt ids at) id (key-range ids at) range ∙ le-ltb (rankOf (keyAt ids at)) (rankOf id) (parts .beyond at (omega arith) h) in
-      (e, other-under id (keyAt ids at) (same-sym id (keyAt ids at) ∙ e) above)
+      let b = subst (λ (z : ℤ). rankOf id ≤ rankOf z) (in-part ids from len at h) (parts .beyond at (omega arith) h) in
+      let above = rank-lt (key at) id (key-range ids (from + at)) range ∙ le-ltb (rankOf (key at)) (rankOf id) b in
+      (e, other-under id (key at) (same-sym id (key at) ∙ e) above)
 
   -- ---- it stands there
-  module _ (inside : at < len) (found : same (keyAt ids at) id ≡ true) where
+  module _ (inside : at < len) (found : same (key at) id ≡ true) where
     abbrev rest : ℕ
     rest = len - suc at
 
     all : suc rest + at ≡ len
     all = omega (arith, inside)
 
-    pub found-level : levelOf held id ≡ u8At levels at
-    found-level =
-        sym (ap (λ (n : ℕ). trained (table n (keyAt ids)) (table n (u8At levels)) id) all)
-        ∙ level-there id (keyAt ids) (u8At levels) at rest before found
+    pub found-level : levelOf held id ≡ level-at at
+    found-level = sym (ap (λ (n : ℕ). trained (table n key) (table n level-at) id) all) ∙ level-there id key level-at at rest before found
 
-    found-raised : (by : ℕ) → at < length levels → heldIn ids (set levels at (u8At levels at + by)) len ≡ raised (held .ids) (held .levels) id by
+    found-raised : (by : ℕ) → from + at < length levels
+        → heldIn ids (set levels (from + at) (level-at at + by)) from len ≡ raised (held .ids) (held .levels) id by
     found-raised by room =
-        let ls = set levels at (u8At levels at + by) in
-        sym (ap (λ (n : ℕ). heldIn ids ls n) all)
-        ∙ stored id (keyAt ids) (u8At levels) at rest before found by (u8At ls)
-        (λ k other. getD-set-other levels at k (u8At levels at + by) 0 other)
-        (getD-set-same levels at (u8At levels at + by) 0 room)
-        ∙ ap (λ (n : ℕ). raised (table n (keyAt ids)) (table n (u8At levels)) id by) all
+        let ls = set levels (from + at) (level-at at + by) in
+        sym (ap (λ (n : ℕ). heldIn ids ls from n) all)
+        ∙ stored id key level-at at rest before found by (λ k. u8At ls (from + k))
+        (λ k other. getD-set-other levels (from + at) (from + k) (level-at at + by) 0 (λ e. other (omega (arith, e))))
+        (getD-set-same levels (from + at) (level-at at + by) 0 room)
+        ∙ ap (λ (n : ℕ). raised (table n key) (table n level-at) id by) all
 
-    pub found-gain : (by : ℕ) → at < length levels → heldIn ids (set levels at (u8At levels at + by)) len ≡ gain held id by
+    pub found-gain : (by : ℕ) → from + at < length levels → heldIn ids (set levels (from + at) (level-at at + by)) from len ≡ gain held id by
     unfolding gain
     found-gain zero room =
-        let q : u8At levels at + 0 ≡ u8At levels at = omega arith in
-        ap (λ (ls : List ℕ). heldIn ids ls len) (ap (set levels at) q ∙ set-getD levels at 0)
+        let q : level-at at + 0 ≡ level-at at = omega arith in
+        ap (λ (ls : List ℕ). heldIn ids ls from len) (ap (set levels (from + at)) q ∙ set-getD levels (from + at) 0)
     found-gain (suc by) room = found-raised (suc by) room
 
   -- ---- it does not
-  module _ (missing : ltb at len && same (keyAt ids at) id ≡ false) where
-    other : at < len → same (keyAt ids at) id ≡ false
-    other h = ap (λ (b : Bool). b && same (keyAt ids at) id) (sym (lt-ltb at len h)) ∙ missing
+  module _ (missing : ltb at len && same (key at) id ≡ false) where
+    other : at < len → same (key at) id ≡ false
+    other h = ap (λ (b : Bool). b && same (key at) id) (sym (lt-ltb at len h)) ∙ missing
 
-    differs : Listed held → (k : ℕ) → k < len → same (keyAt ids k) id ≡ false
+    differs : Listed held → (k : ℕ) → k < len → same (key k) id ≡ false
     differs g k h = go (ltb k at) refl
       where
-        go : (b : Bool) → ltb k at ≡ b → same (keyAt ids k) id ≡ false
+        go : (b : Bool) → ltb k at ≡ b → same (key k) id ≡ false
         go true e = before k (ltb-true k at e) .0
         go false e =
             let l = ltb-false k at e in
-            after-differs ids len id range at parts (ascending-sorted ids len (g .order)) at k (omega arith) (other (omega (arith, l, h))) l h
+            let j : at < len = omega (arith, l, h) in
+            ap (λ (z : ℤ). same z id) (sym (in-part ids from len k h))
+            ∙ after-differs (searched ids from len) len id range at parts (part-sorted ids from len (g .order)) at k (omega arith)
+            (ap (λ (z : ℤ). same z id) (in-part ids from len at j) ∙ other j) l h
 
     pub missing-level : Listed held → levelOf held id ≡ 0
-    missing-level g = trained-none id (keyAt ids) (u8At levels) 0 len (λ k _ q. differs g k (omega (arith, q)))
+    missing-level g = trained-none id key level-at 0 len (λ k _ q. differs g k (omega (arith, q)))
 
-    -- ---- what is stored puts it in
-    module _ (level : ℕ) (room : 4 * len + 4 ≤ length ids) (space : len + 1 ≤ length levels) where
-      abbrev opened : List ℕ
-      opened = moved ids (4 * len) 4 (4 * at)
+    -- ---- what is stored puts it in: f and g are ids and levels then, from their first place on
+    put-there : (level : ℕ) (f : ℕ → ℤ) (g : ℕ → ℕ) → ((k : ℕ) → k < at → (f k ≡ key k) × (g k ≡ level-at k)) → (f at ≡ id) × (g at ≡ level)
+        → ((k : ℕ) → at ≤ k → k < len → (f (suc k) ≡ key k) × (g (suc k) ≡ level-at k))
+        → _≡_ {A = Training} (record { ids = table (len + 1) f; levels = table (len + 1) g }) (raised (held .ids) (held .levels) id level)
+    put-there level f g front here back =
+        let m = len - at in
+        let n : suc m + at ≡ len + 1 = omega (arith, within) in
+        let o : m + at ≡ len = omega (arith, within) in
+        sym (ap (λ (j : ℕ). record { ids = table j f; levels = table j g }) n)
+        ∙ put-in id key level-at f g level at m front here (λ k l h. back k l (omega (arith, h, within)))
+        before (λ h. there (omega (arith, h)) (other (omega (arith, h))))
+        ∙ ap (λ (j : ℕ). raised (table j key) (table j level-at) id level) o
 
-      abbrev pub ids-after : List ℕ
-      ids-after = put opened (4 * at) (le 4 (bits32 id))
+    pub inserted-up : (level : ℕ) → 4 * (from + len) + 4 ≤ length ids → from + len + 1 ≤ length levels
+        → heldIn (ids-above ids (from + len) (from + at) id) (levels-above levels (from + len) (from + at) level) from (len + 1)
+        ≡ raised (held .ids) (held .levels) id level
+    inserted-up level room space =
+        let end = from + len in
+        let place = from + at in
+        let is = ids-above ids end place id in
+        let ls = levels-above levels end place level in
+        let w : place ≤ end = omega (arith, within) in
+        put-there level (λ k. keyAt is (from + k)) (λ k. u8At ls (from + k))
+        (λ k h. (
+          above-front-id ids levels end id range place w level room space (from + k) (omega (arith, h)),
+          above-front-level ids levels end id range place w level room space (from + k) (omega (arith, h)),
+        ))
+        (above-here-id ids levels end id range place w level room space, above-here-level ids levels end id range place w level room space)
+        (λ k l h.
+        let e : from + suc k ≡ suc (from + k) = omega arith in (
+          ap (keyAt is) e ∙ above-back-id ids levels end id range place w level room space (from + k) (omega (arith, l)) (omega (arith, h)),
+          ap (u8At ls) e ∙ above-back-level ids levels end id range place w level room space (from + k) (omega (arith, l)) (omega (arith, h)),
+        ))
 
-      abbrev pub levels-after : List ℕ
-      levels-after = set (moved levels len 1 at) at level
-
-      within : at ≤ len
-      within = parts .within
-
-      opened-length : length opened ≡ length ids
-      opened-length = length-put ids (4 * at + 4) (take (4 * len - 4 * at) (drop (4 * at) ids))
-
-      four : length (le 4 (bits32 id)) ≡ 4
-      four = length-le 4 (bits32 id)
-
-      -- the ids
-      front-id : (k : ℕ) → k < at → keyAt ids-after k ≡ keyAt ids k
-      front-id k h =
-          i32-alike ids-after ids (4 * k) (4 * k) (λ b q.
-          put-before opened (4 * at) (le 4 (bits32 id)) (4 * k + b) (omega (arith, h, q)) ∙ put-before ids (4 * at + 4) (take (4 * len - 4 * at) (drop (4 * at) ids)) (4 * k + b) (omega (arith, h, q)))
-
-      here-id : keyAt ids-after at ≡ id
-      here-id =
-          i32-alike ids-after (le 4 (bits32 id)) (4 * at) 0 (λ b q.
-          let z : b ≡ 0 + b = omega arith in
-          put-among opened (4 * at) (le 4 (bits32 id)) b (omega (arith, q, four)) (omega (arith, four, opened-length, room, within))
-          ∙ ap (λ (i : ℕ). getD (le 4 (bits32 id)) i 0) z)
-          ∙ le-i32 id range
-
-      back-id : (k : ℕ) → at ≤ k → k < len → keyAt ids-after (suc k) ≡ keyAt ids k
-      back-id k l h =
-          i32-alike ids-after ids (4 * suc k) (4 * k) (λ b q.
-          let i = 4 * (k - at) + b in
-          let mid = take (4 * len - 4 * at) (drop (4 * at) ids) in
-          let n : length mid ≡ 4 * len - 4 * at = part-size in
-          let e : 4 * suc k + b ≡ 4 * at + 4 + i = omega (arith, l) in
-          let d : 4 * at + i ≡ 4 * k + b = omega (arith, l) in
-          put-behind opened (4 * at) (le 4 (bits32 id)) (4 * suc k + b) (omega (arith, four, l))
-          ∙ ap (λ (j : ℕ). getD opened j 0) e
-          ∙ put-among ids (4 * at + 4) mid i (omega (arith, n, l, h, q)) (omega (arith, n, room, within))
-          ∙ getD-take (4 * len - 4 * at) (drop (4 * at) ids) i 0 (omega (arith, l, h, q))
-          ∙ getD-drop (4 * at) ids i 0
-          ∙ ap (λ (j : ℕ). getD ids j 0) d)
-        where
-          part-size : length (take (4 * len - 4 * at) (drop (4 * at) ids)) ≡ 4 * len - 4 * at
-          part-size = part-length ids (4 * at) (4 * len - 4 * at) (omega (arith, room, within))
-
-      -- the levels
-      levels-part : length (take (len - at) (drop at levels)) ≡ len - at
-      levels-part = part-length levels at (len - at) (omega (arith, space, within))
-
-      front-level : (k : ℕ) → k < at → u8At levels-after k ≡ u8At levels k
-      front-level k h =
-          getD-set-other (moved levels len 1 at) at k level 0 (λ e. omega (arith, e, h)) ∙ put-before levels (at + 1) (take (len - at) (drop at levels)) k (omega (arith, h))
-
-      here-level : u8At levels-after at ≡ level
-      here-level = getD-set-same (moved levels len 1 at) at level 0 (omega (arith, length-put levels (at + 1) (take (len - at) (drop at levels)), space, within))
-
-      back-level : (k : ℕ) → at ≤ k → k < len → u8At levels-after (suc k) ≡ u8At levels k
-      back-level k l h =
-          let e : suc k ≡ at + 1 + (k - at) = omega (arith, l) in
-          let d : at + (k - at) ≡ k = omega (arith, l) in
-          getD-set-other (moved levels len 1 at) at (suc k) level 0 (λ q. omega (arith, q, l))
-          ∙ ap (λ (j : ℕ). getD (moved levels len 1 at) j 0) e
-          ∙ put-among levels (at + 1) (take (len - at) (drop at levels)) (k - at) (omega (arith, levels-part, l, h)) (omega (arith, levels-part, space, within))
-          ∙ getD-take (len - at) (drop at levels) (k - at) 0 (omega (arith, l, h))
-          ∙ getD-drop at levels (k - at) 0
-          ∙ ap (λ (j : ℕ). getD levels j 0) d
-
-      pub inserted : heldIn ids-after levels-after (len + 1) ≡ raised (held .ids) (held .levels) id level
-      inserted =
-          let m = len - at in
-          let n : suc m + at ≡ len + 1 = omega (arith, within) in
-          let o : m + at ≡ len = omega (arith, within) in
-          sym (ap (λ (j : ℕ). heldIn ids-after levels-after j) n)
-          ∙ put-in id (keyAt ids) (u8At levels) (keyAt ids-after) (u8At levels-after) level at m
-          (λ k h. (front-id k h, front-level k h)) (here-id, here-level)
-          (λ k l h. (back-id k l (omega (arith, h, within)), back-level k l (omega (arith, h, within))))
-          before (λ h. there (omega (arith, h)) (other (omega (arith, h))))
-          ∙ ap (λ (j : ℕ). raised (table j (keyAt ids)) (table j (u8At levels)) id level) o
+    pub inserted-down : (level : ℕ) → 1 ≤ from → 4 * (from + len) ≤ length ids → from + len ≤ length levels
+        → heldIn (ids-below ids from (from + at) id) (levels-below levels from (from + at) level) (from - 1) (len + 1)
+        ≡ raised (held .ids) (held .levels) id level
+    inserted-down level some long wide =
+        let place = from + at in
+        let is = ids-below ids from place id in
+        let ls = levels-below levels from place level in
+        let w : from ≤ place = omega arith in
+        let room : 4 * place ≤ length ids = omega (arith, within, long) in
+        let space : place ≤ length levels = omega (arith, within, wide) in
+        let here : from - 1 + at ≡ place - 1 = omega (arith, some) in
+        put-there level (λ k. keyAt is (from - 1 + k)) (λ k. u8At ls (from - 1 + k))
+        (λ k h. (
+          below-front-id ids levels from id range place some w level room space k (omega (arith, h)),
+          below-front-level ids levels from id range place some w level room space k (omega (arith, h)),
+        )) (
+          ap (keyAt is) here ∙ below-here-id ids levels from id range place some w level room space,
+          ap (u8At ls) here ∙ below-here-level ids levels from id range place some w level room space,
+        )
+        (λ k l h.
+        let e : from - 1 + suc k ≡ from + k = omega (arith, some) in (
+          ap (keyAt is) e ∙ below-back-id ids levels from id range place some w level room space (from + k) (omega (arith, l)),
+          ap (u8At ls) e ∙ below-back-level ids levels from id range place some w level room space (from + k) (omega (arith, l)),
+        ))

@@ -53,11 +53,11 @@ module _ (catalogue fit : List ℕ) (result : ℕ) (w : Walk) (v : HoldsWanted c
       ∙ sym (ap trainingOf (trained-turns c result steps f (resultOf fit result) (result-some fit result below) (fit-listed fit s)))
 
   -- refusal 16, by what is counted
-  pub listed-count : (k n : ℕ) → k ≡ skillCount fit → n ≡ countOf (isNew (trainingOf (fitOf fit))) (walkOf w)
-      → tooManyListed (catalogueOf catalogue) result (fitOf fit) ≡ ltb Sizes.mostSkills (k + n)
+  pub listed-count : tooManyListed (catalogueOf catalogue) result (fitOf fit)
+      ≡ ltb Sizes.mostSkills (skillCount fit + countOf (isNew (trainingOf (fitOf fit))) (walkOf w))
   unfolding tooManyListed
-  listed-count k n e d =
+  listed-count =
       let f = fitOf fit in
       let counted = count-listed f result (catalogueOf catalogue) (resultOf fit result) (result-some fit result below)
-      ∙ sym (ap (countOf (isNew (trainingOf f))) (v .holds held)) ∙ sym d in
-      ap₂ (λ (x y : ℕ). ltb Sizes.mostSkills (x + y)) (skills-length fit ∙ sym e) counted
+      ∙ sym (ap (countOf (isNew (trainingOf f))) (v .holds held)) in
+      ap₂ (λ (x y : ℕ). ltb Sizes.mostSkills (x + y)) (skills-length fit) counted

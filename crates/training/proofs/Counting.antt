@@ -6,7 +6,7 @@ use mathlib.Core.Bool.{Bool, true, false, not, _&&_, _||_, cond, true≢false}
 use mathlib.Core.List.{List, [], _∷_, _++_}
 use mathlib.Core.Option.{Option, none, some}
 use lib.Dec.{ltb}
-use lib.IntN.{ℤ}
+use lib.IntN.{ℤ, pos}
 use lib.ListN.{length}
 use borrow.Author.Tests.{lt-ltb, le-ltb}
 use Rattle.words.specs.Words.{_>>=_, tableFrom, table, from, each, when, only, countOf, anyOf, find, given, same, contains}
@@ -20,6 +20,10 @@ use Rattle.fit.proofs.Searches.{skillIds}
 use Rattle.entry.specs.declared.Entry.{Entry}
 use Rattle.entry.specs.declared.Rule.the-variants.{Skill}
 use Rattle.skill.specs.Skill.{Demand, wantedSkills, targetOf, entryOf, reported, skillList}
+use Rattle.skill.specs.Held.{walkOf}
+use Rattle.skill.specs.declared.Walk.{Walk}
+use Rattle.skill.proofs.Zips.{zip-length}
+use Rattle.lists.proofs.Few.{count-le}
 use Rattle.training.specs.Training.{trainingOf, skillOf}
 use Rattle.training.specs.Turns.{isNew}
 use Rattle.training.proofs.Raising.{same-sym}
@@ -115,3 +119,7 @@ module _ (f : Fit) (n : ℕ) where
       → countOf unlisted (skillList c f n) ≡ countOf (isNew (trainingOf f)) (wantedSkills c r)
   unfolding skillList _>>=_
   count-listed c r e = ap (λ (o : Option Result). countOf unlisted (_>>=_ o (λ x. reported f n (wantedSkills c x)))) e ∙ count-reported (wantedSkills c r)
+
+-- no more are counted than there are
+pub count-walk : (t : Demand → Bool) (w : Walk) → countOf t (walkOf w) ≤ w .len
+count-walk t w = omega (arith, count-le t (walkOf w), zip-length (pos 0) 0 (w .ids) (w .levels) (w .len))

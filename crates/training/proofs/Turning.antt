@@ -11,15 +11,15 @@ use lib.ListN.{length, set}
 use Rattle.words.specs.Words.{tableFrom, same}
 use Rattle.words.proofs.Tables.{foldl-more}
 use Rattle.image.specs.Bytes.{u8At}
-use Rattle.keys.specs.Keys.{keyAt, Parts}
+use Rattle.keys.specs.Keys.{keyAt}
 use Rattle.catalogue.specs.Catalogue.{Id}
 use Rattle.skill.specs.Skill.{Demand}
 use Rattle.skill.specs.Held.{zipTo, heldAt, heldOf}
 use Rattle.skill.proofs.Zips.{pair-eq}
 use Rattle.training.specs.Training.{Training, raised}
-use Rattle.training.specs.Turns.{levelOf, gain, portion, turn, turns, Listed, heldIn}
+use Rattle.training.specs.Turns.{levelOf, gain, portion, turn, turns, Listed, heldIn, Parted}
 use Rattle.training.proofs.Raising.{gain-listed}
-use Rattle.training.proofs.Arrays.{found-level, found-gain, missing-level, ids-after, levels-after, inserted}
+use Rattle.training.proofs.Arrays.{found-level, found-gain, missing-level}
 
 gain-some : (s : Training) (t : Id) (k : ℕ) → 0 < k → raised (s .ids) (s .levels) t k ≡ gain s t k
 unfolding gain
@@ -31,22 +31,23 @@ unfolding gain
 gain-none s t zero h = refl
 gain-none s t (suc k) h = absurd (omega (arith, h))
 
-module _ (ids levels : List ℕ) (len : ℕ) (id : ℤ) (range : mag id < 2147483648) (at : ℕ) (parts : Parts ids len id at) (wanted steps given : ℕ) where
+module _ (ids levels : List ℕ) (from len : ℕ) (id : ℤ) (range : mag id < 2147483648) (at : ℕ) (parts : Parted ids from len id at)
+    (wanted steps given : ℕ) where
   abbrev held : Training
-  held = heldIn ids levels len
+  held = heldIn ids levels from len
 
   abbrev due : ℕ
   due = portion held steps (id, wanted)
 
-  pub turn-found : at < len → same (keyAt ids at) id ≡ true → at < length levels → given ≡ min (wanted - u8At levels at) steps
-      → _≡_ {A = Training × ℕ} (heldIn ids (set levels at (u8At levels at + given)) len, steps - given) (turn (held, steps) (id, wanted))
+  pub turn-found : at < len → same (keyAt ids (from + at)) id ≡ true → from + at < length levels → given ≡ min (wanted - u8At levels (from + at)) steps
+      → _≡_ {A = Training × ℕ} (heldIn ids (set levels (from + at) (u8At levels (from + at) + given)) from len, steps - given) (turn (held, steps) (id, wanted))
   turn-found inside found room e =
-      let p : given ≡ due = e ∙ ap (λ (l : ℕ). min (wanted - l) steps) (sym (found-level ids levels len id range at parts inside found)) in
-      pair-eq (found-gain ids levels len id range at parts inside found given room ∙ ap (λ (k : ℕ). gain held id k) p) (ap (λ (k : ℕ). steps - k) p)
+      let p : given ≡ due = e ∙ ap (λ (l : ℕ). min (wanted - l) steps) (sym (found-level ids levels from len id range at parts inside found)) in
+      pair-eq (found-gain ids levels from len id range at parts inside found given room ∙ ap (λ (k : ℕ). gain held id k) p) (ap (λ (k : ℕ). steps - k) p)
 
-  module _ (missing : ltb at len && same (keyAt ids at) id ≡ false) (listed : Listed held) (e : given ≡ min wanted steps) where
+  module _ (missing : ltb at len && same (keyAt ids (from + at)) id ≡ false) (listed : Listed held) (e : given ≡ min wanted steps) where
     whole : given ≡ due
-    whole = let z = missing-level ids levels len id range at parts missing listed in omega (arith, e, z)
+    whole = let z = missing-level ids levels from len id range at parts missing listed in omega (arith, e, z)
 
     pub turn-none : given ≡ 0 → _≡_ {A = Training × ℕ} (held, steps) (turn (held, steps) (id, wanted))
     turn-none z =

@@ -1,6 +1,6 @@
 -- The image with other skills: ids and levels in arrays are their bytes, and the stores one after the other make it.
 use Prim.Native.Nat.{ℕ, zero, suc, _+_, _*_, _-_, _^_, _≤_, _<_}
-use native.Mathlib.Nat.{zero-add, add-assoc}
+use native.Mathlib.Nat.{add-assoc}
 use native.Mathlib.Numerals.{add-one}
 use native.Mathlib.Omega.{arith}
 use mathlib.Core.Path.{_≡_, refl, sym, ap, ap₂, _∙_}
@@ -9,7 +9,7 @@ use mathlib.Core.List.{List, [], _∷_, _++_}
 use lib.Dec.{ltb}
 use lib.IntN.{ℤ, pos, negsuc}
 use lib.ListN.{length, getD, take, drop, length-append, length-drop}
-use lib.Seq.{drop-cons, take-add, take-suc, getD-take, getD-drop}
+use lib.Seq.{drop-cons, drop-drop, take-add, take-suc, getD-take, getD-drop}
 use mir.Syntax.{w8}
 use mir.Val.{Fits}
 use borrow.Author.Tests.{ltb-true, ltb-false}
@@ -68,31 +68,36 @@ module _ (b : List ℕ) (small : (i : ℕ) → Fits w8 (getD b i 0)) where
       (le-byte 2 x1 (x2 + 256 * (x3 + 256 * 0)) h1
       ∙ ap (λ (l : List ℕ). x1 ∷ l) (le-byte 1 x2 (x3 + 256 * 0) h2 ∙ ap (λ (l : List ℕ). x2 ∷ l) (le-byte 0 x3 0 h3)))
 
+  pub size-bytes : (i : ℕ) → i + 4 ≤ length b → le 4 (u32At b i) ≡ take 4 (drop i b)
+  size-bytes i h = le-four i ∙ sym (four-bytes i h)
+
   key-bytes : (i : ℕ) → i + 4 ≤ length b → le 4 (bits32 (i32At b i)) ≡ take 4 (drop i b)
   unfolding i32At
-  key-bytes i h = ap (le 4) (bits-signed (u32At b i) (u32-small b small i)) ∙ le-four i ∙ sym (four-bytes i h)
+  key-bytes i h = ap (le 4) (bits-signed (u32At b i) (u32-small b small i)) ∙ size-bytes i h
 
-  -- n ids, one behind the other
-  pub ids-bytes : (n : ℕ) → 4 * n ≤ length b → each (table n (keyAt b)) (λ i. le 4 (bits32 i)) ≡ take (4 * n) b
-  ids-bytes zero h = unfold each tableFrom in refl
-  ids-bytes (suc n) h =
+  -- n ids from a place on, one behind the other
+  pub ids-bytes : (from n : ℕ) → 4 * (from + n) ≤ length b → each (table n (λ i. keyAt b (from + i))) (λ i. le 4 (bits32 i)) ≡ take (4 * n) (drop (4 * from) b)
+  ids-bytes from zero h = unfold each tableFrom in refl
+  ids-bytes from (suc n) h =
       let m : suc n ≡ n + 1 = omega arith in
       let q : 4 * n + 4 ≡ 4 * suc n = omega arith in
-      ap (λ (k : ℕ). each (table k (keyAt b)) (λ i. le 4 (bits32 i))) m
-      ∙ each-more (keyAt b) (λ i. le 4 (bits32 i)) n
-      ∙ ap₂ (λ (l r : List ℕ). l ++ r) (ids-bytes n (omega (arith, h))) (key-bytes (4 * n) (omega (arith, h)))
-      ∙ sym (take-add (4 * n) 4 b)
-      ∙ ap (λ (k : ℕ). take k b) q
+      let d : 4 * (from + n) ≡ 4 * from + 4 * n = omega arith in
+      let last = key-bytes (4 * (from + n)) (omega (arith, h)) ∙ ap (λ (k : ℕ). take 4 (drop k b)) d ∙ ap (λ (l : List ℕ). take 4 l) (sym (drop-drop (4 * n) (4 * from) b)) in
+      ap (λ (k : ℕ). each (table k (λ i. keyAt b (from + i))) (λ i. le 4 (bits32 i))) m
+      ∙ each-more (λ i. keyAt b (from + i)) (λ i. le 4 (bits32 i)) n
+      ∙ ap₂ (λ (l r : List ℕ). l ++ r) (ids-bytes from n (omega (arith, h))) last
+      ∙ sym (take-add (4 * n) 4 (drop (4 * from) b))
+      ∙ ap (λ (k : ℕ). take k (drop (4 * from) b)) q
 
--- n bytes
-pub levels-bytes : (b : List ℕ) (n : ℕ) → n ≤ length b → table n (u8At b) ≡ take n b
-levels-bytes b zero h = unfold tableFrom in refl
-levels-bytes b (suc n) h =
+-- n bytes from a place on
+pub levels-bytes : (b : List ℕ) (from n : ℕ) → from + n ≤ length b → table n (λ i. u8At b (from + i)) ≡ take n (drop from b)
+levels-bytes b from zero h = unfold tableFrom in refl
+levels-bytes b from (suc n) h =
     let m : suc n ≡ n + 1 = omega arith in
-    ap (λ (k : ℕ). table k (u8At b)) m
-    ∙ table-more n (u8At b)
-    ∙ ap (λ (l : List ℕ). l ++ (getD b n 0 ∷ [])) (levels-bytes b n (omega (arith, h)))
-    ∙ sym (take-suc b n 0 (omega (arith, h)))
+    ap (λ (k : ℕ). table k (λ i. u8At b (from + i))) m
+    ∙ table-more n (λ i. u8At b (from + i))
+    ∙ ap₂ (λ (l : List ℕ) (x : ℕ). l ++ (x ∷ [])) (levels-bytes b from n (omega (arith, h))) (sym (getD-drop from b n 0))
+    ∙ sym (take-suc (drop from b) n 0 (omega (arith, h, length-drop from b)))
 
 -- ---- five stores are one
 pub put-five : (l v w x y z : List ℕ) (p q r s : ℕ) → length v ≡ p → p + length w ≡ q → q + length x ≡ r → r + length y ≡ s
@@ -111,16 +116,13 @@ put-five l v w x y z p q r s a b c d =
     ∙ put-append l3 r y z
     ∙ ap (λ (k : ℕ). put (put l3 r y) k z) d)
 
--- ---- the arrays as a fit fills them
-module _ (b ids levels : List ℕ) (sized : itemsAt b ≤ length b)
-    (room : 4 * skillCount b ≤ length ids) (space : skillCount b ≤ length levels) where
+-- ---- the arrays as a fit fills them, from a place on
+module _ (b ids levels : List ℕ) (from : ℕ) (sized : itemsAt b ≤ length b)
+    (room : 4 * (from + skillCount b) ≤ length ids) (space : from + skillCount b ≤ length levels) where
   abbrev n : ℕ
   n = skillCount b
 
-  among : (l part : List ℕ) (j : ℕ) → j < length part → length part ≤ length l → getD (put l 0 part) j 0 ≡ getD part j 0
-  among l part j h fits = ap (λ (k : ℕ). getD (put l 0 part) k 0) (sym (zero-add j)) ∙ put-among l 0 part j h (omega (arith, fits))
-
-  pub filled-held : heldIn (put ids 0 (take (4 * n) (drop 28 b))) (put levels 0 (take n (drop (28 + 4 * n) b))) n ≡ trainingOf (fitOf b)
+  pub filled-held : heldIn (put ids (4 * from) (take (4 * n) (drop 28 b))) (put levels from (take n (drop (28 + 4 * n) b))) from n ≡ trainingOf (fitOf b)
   unfolding fitOf
   filled-held =
       let p = take (4 * n) (drop 28 b) in
@@ -128,26 +130,32 @@ module _ (b ids levels : List ℕ) (sized : itemsAt b ≤ length b)
       let pl : length p ≡ 4 * n = part-length b 28 (4 * n) (omega (arith, sized)) in
       let ql : length q ≡ n = part-length b (28 + 4 * n) n (omega (arith, sized)) in
       ap₂ (λ (is : List ℤ) (ls : List ℕ). record { ids = is; levels = ls })
-      (table-same n (keyAt (put ids 0 p)) (λ i. i32At b (skillsAt b + 4 * i)) (λ k h.
-      i32-alike (put ids 0 p) b (4 * k) (28 + 4 * k) (λ c g.
+      (table-same n (λ i. keyAt (put ids (4 * from) p) (from + i)) (λ i. i32At b (skillsAt b + 4 * i)) (λ k h.
+      i32-alike (put ids (4 * from) p) b (4 * (from + k)) (28 + 4 * k) (λ c g.
+      let d : 4 * (from + k) + c ≡ 4 * from + (4 * k + c) = omega arith in
       let e : 28 + (4 * k + c) ≡ 28 + 4 * k + c = omega arith in
-      among ids p (4 * k + c) (omega (arith, pl, h, g)) (omega (arith, pl, room))
+      ap (λ (i : ℕ). getD (put ids (4 * from) p) i 0) d
+      ∙ put-among ids (4 * from) p (4 * k + c) (omega (arith, pl, h, g)) (omega (arith, pl, room))
       ∙ getD-take (4 * n) (drop 28 b) (4 * k + c) 0 (omega (arith, h, g))
       ∙ getD-drop 28 b (4 * k + c) 0
       ∙ ap (λ (i : ℕ). getD b i 0) e)))
-      (table-same n (u8At (put levels 0 q)) (λ i. u8At b (levelsAt b + i)) (λ k h.
-      among levels q k (omega (arith, ql, h)) (omega (arith, ql, space))
+      (table-same n (λ i. u8At (put levels from q) (from + i)) (λ i. u8At b (levelsAt b + i)) (λ k h.
+      put-among levels from q k (omega (arith, ql, h)) (omega (arith, ql, space))
       ∙ getD-take n (drop (28 + 4 * n) b) k 0 h
       ∙ getD-drop (28 + 4 * n) b k 0))
 
 -- ---- the parts that are stored
-pub image-parts : (b ids levels : List ℕ) → ((i : ℕ) → Fits w8 (getD ids i 0)) → (n : ℕ) → 4 * n ≤ length ids → n ≤ length levels
-    → le 4 n ++ (take 24 (drop 4 b) ++ (take (4 * n) ids ++ (take n levels ++ drop (itemsAt b) b))) ≡ trainedImage b (heldIn ids levels n)
+pub image-parts : (b ids levels : List ℕ) → ((i : ℕ) → Fits w8 (getD ids i 0)) → (from n : ℕ)
+    → 4 * (from + n) ≤ length ids → from + n ≤ length levels
+    → le 4 n ++ (take 24 (drop 4 b) ++ (take (4 * n) (drop (4 * from) ids) ++ (take n (drop from levels) ++ drop (itemsAt b) b)))
+    ≡ trainedImage b (heldIn ids levels from n)
 unfolding trainedImage
-image-parts b ids levels small n h k =
+image-parts b ids levels small from n h k =
     let rest = drop (itemsAt b) b in
-    sym (ap (λ (m : ℕ). le 4 m ++ (take 24 (drop 4 b) ++ (each (table n (keyAt ids)) (λ i. le 4 (bits32 i)) ++ (table n (u8At levels) ++ rest)))) (length-table 0 n (keyAt ids))
-    ∙ ap₂ (λ (x y : List ℕ). le 4 n ++ (take 24 (drop 4 b) ++ (x ++ (y ++ rest)))) (ids-bytes ids small n h) (levels-bytes levels n k))
+    let is = table n (λ i. keyAt ids (from + i)) in
+    let ls = table n (λ i. u8At levels (from + i)) in
+    sym (ap (λ (m : ℕ). le 4 m ++ (take 24 (drop 4 b) ++ (each is (λ i. le 4 (bits32 i)) ++ (ls ++ rest)))) (length-table 0 n (λ i. keyAt ids (from + i)))
+    ∙ ap₂ (λ (x y : List ℕ). le 4 n ++ (take 24 (drop 4 b) ++ (x ++ (y ++ rest)))) (ids-bytes ids small from n h) (levels-bytes levels from n k))
 
 -- ---- how long the image is
 pub ids-size : (l : List ℤ) → length (each l (λ i. le 4 (bits32 i))) ≡ 4 * length l

@@ -96,13 +96,23 @@ module _ (c : Catalogue) (n : ℕ) where
   -- 16: the entries of the first list whose ids are not listed would carry the listed skills over 1,024, whatever the steps
   unfoldable pub tooManyListed : Fit → Bool
   tooManyListed f =
-      ltb Sizes.mostSkills (length (f .skills) + countOf (λ (e : Entry). not (contains (skillOf (e .rule)) (f .skills))) (skillList c f n))
+      let unlisted : Entry → Bool = λ e. not (contains (skillOf (e .rule)) (f .skills)) in
+      ltb Sizes.mostSkills (length (f .skills) + countOf unlisted (skillList c f n))
 
 -- 8 and 9 as the skill call gives them, then 16
 abbrev pub trainRefusals : Catalogue → Fit → (result : ℕ) → List (ℕ × Bool)
 trainRefusals c f result =
-    (Refusals.noResult, noResult f result) ∷ (Refusals.tooManySkills, tooManySkills c f result) ∷ (Refusals.tooManyListed, tooManyListed c result f) ∷ []
+    (Refusals.noResult, noResult f result)
+    ∷ (Refusals.tooManySkills, tooManySkills c f result)
+    ∷ (Refusals.tooManyListed, tooManyListed c result f)
+    ∷ []
 
--- the image b with other skills and levels: their number, the other sizes and ids as they stand, they themselves, all behind them as it stands
+-- the image b with other skills and levels: their number, the other sizes and ids as they stand, they themselves, all behind them as it
+-- stands
 unfoldable pub trainedImage : List ℕ → Training → List ℕ
-trainedImage b t = le 4 (length (t .ids)) ++ (take 24 (drop 4 b) ++ (each (t .ids) (λ i. le 4 (bits32 i)) ++ (t .levels ++ drop (itemsAt b) b)))
+trainedImage b t =
+    le 4 (length (t .ids))
+    ++ (take 24 (drop 4 b)
+    ++ (each (t .ids) (λ i. le 4 (bits32 i))
+    ++ (t .levels
+    ++ drop (itemsAt b) b)))

@@ -1,14 +1,14 @@
 -- Document 02, P11, all steps at once: each wanted skill in turn is given what it lacks, as far as the steps reach.
-use Prim.Native.Nat.{ℕ, zero, suc, _-_, min}
+use Prim.Native.Nat.{ℕ, zero, suc, _+_, _*_, _-_, min}
 use mathlib.Core.Path.{_≡_}
 use mathlib.Core.Bool.{Bool, true, not, _&&_}
 use mathlib.Core.List.{List, foldl}
 use lib.Dec.{ltb}
 use lib.Signed.{ltZ}
-use lib.ListN.{length}
+use lib.ListN.{length, take, drop}
 use Rattle.words.specs.Words.{inOrder, contains, table}
 use Rattle.image.specs.Bytes.{u8At}
-use Rattle.keys.specs.Keys.{keyAt}
+use Rattle.keys.specs.Keys.{keyAt, Parts}
 use Rattle.catalogue.specs.Catalogue.{Id}
 use Rattle.fit.specs.Lookups.{trained}
 use Rattle.skill.specs.Skill.{Demand}
@@ -44,6 +44,10 @@ pub record Listed (t : Training) : Type 0 where
   pub paired : length (t .ids) ≡ length (t .levels)
   pub order : inOrder ltZ (t .ids) ≡ true
 
--- what the arrays of the code hold: so many ids of four bytes, and the level of each
-abbrev pub heldIn : (ids levels : List ℕ) → ℕ → Training
-heldIn ids levels len = record { ids = table len (keyAt ids); levels = table len (u8At levels) }
+-- what the arrays of the code hold from a place on: so many ids of four bytes, and the level of each
+abbrev pub heldIn : (ids levels : List ℕ) → (from len : ℕ) → Training
+heldIn ids levels from len = record { ids = table len (λ i. keyAt ids (from + i)); levels = table len (λ i. u8At levels (from + i)) }
+
+-- a place that parts those ids: the ones under an id from the others
+abbrev pub Parted : (ids : List ℕ) → (from len : ℕ) → Id → ℕ → Type 0
+Parted ids from len id at = Parts (take (4 * len) (drop (4 * from) ids)) len id at

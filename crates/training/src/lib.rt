@@ -14,7 +14,7 @@ ghost use lib.ListN.{length, take, drop};
 ghost use Rattle.words.specs.Words.{countOf, contains, same};
 ghost use Rattle.numbers.specs.Sizes as Sizes;
 ghost use Rattle.image.specs.Bytes.{put};
-ghost use Rattle.keys.specs.Keys.{keyAt, Parts};
+ghost use Rattle.keys.specs.Keys.{keyAt};
 ghost use Rattle.catalogue.specs.Catalogue.{catalogueOf};
 ghost use Rattle.catalogue.specs.Sound as Catalogue;
 ghost use Rattle.fit.specs.Fit.{fitOf, skillCount};
@@ -23,23 +23,31 @@ ghost use Rattle.skill.specs.Held.{walkOf};
 ghost use Rattle.calls.specs.Output.{output, roomRefusals};
 ghost use Rattle.calls.specs.Gave.{GaveBytes};
 ghost use Rattle.training.specs.Training.{trainingOf, raised, trainedBy, trainedImage, trainRefusals};
-ghost use Rattle.training.specs.Turns.{turn, turns, isNew, Listed, heldIn};
+ghost use Rattle.training.specs.Turns.{turn, turns, isNew, Listed, heldIn, Parted};
 
-// Room for as many skills as may be listed, and for every wanted one beside them.
-const ROOM: usize = sizes::MOST_SKILLS + sizes::MOST_WANTED;
+// Room for as many skills as may be listed, and on either side of them for every wanted one.
+const ROOM: usize = sizes::MOST_SKILLS + 2 * sizes::MOST_WANTED;
 
 const ROOM_BYTES: usize = 4 * ROOM;
 
-// After a turn: how many skills are listed, and how many steps are left.
+// Where skills stand in two arrays: from which place on, and how many.
+struct Span {
+    from: usize,
+    len: usize,
+}
+
+// After a turn: where the skills stand, and how many steps are left.
 struct Left {
+    from: usize,
     len: usize,
     steps: u32,
 }
 
-// Listed skills, ids and levels side by side.
+// Listed skills, ids and levels side by side, from a place on.
 struct Plan {
     ids: [u8; ROOM_BYTES],
     levels: [u8; ROOM],
+    from: usize,
     len: usize,
 }
 
@@ -58,45 +66,108 @@ fn portion(wanted: u8, level: u8, steps: u32) -> u8
 }
 
 // Whether an id stands at a place.
-fn stands(ids: &[u8], len: usize, at: usize, id: i32) -> bool
-    requires { ⌜ 4 * len ≤ length (now ids) ⌝ }
-    ensures { λ r. ⌜ r ≡ ltb at len && same (keyAt (now (ids .entry)) at) id ⌝ }
+fn stands(ids: &[u8], span: Span, at: usize, id: i32) -> bool
+    requires { ⌜ 4 * (span .from + span .len) ≤ length (now ids) ⌝ }
+    ensures { λ r. ⌜ r ≡ ltb at (span .len) && same (keyAt (now (ids .entry)) (span .from + at)) id ⌝ }
 {
+    let from = span.from;
+    let len = span.len;
     if at < len {
-        return words::same_id(image::i32_at(ids, 4 * at), id);
+        return words::same_id(image::i32_at(ids, 4 * (from + at)), id);
     }
     false
 }
 
-// Puts a skill that is not listed to its place, at a level.
-fn insert(ids: &mut [u8], levels: &mut [u8], len: usize, at: usize, id: i32, level: u8)
-    requires { ⌜ (4 * len + 4 ≤ length (now ids)) × (len + 1 ≤ length (now levels)) × Parts (now ids) len id at
-        × (ltb at len && same (keyAt (now ids) at) id ≡ false) ⌝ }
+// The bytes from `at` to `end`, moved down.
+fn move_down(b: &mut [u8], at: usize, end: usize, by: usize)
+    requires { ⌜ (by ≤ at) × (at ≤ end) × (end ≤ length (now b)) ⌝ }
+    ensures { λ r. ⌜ now (b .exit) ≡ put (now (b .entry)) (at - by) (take (end - at) (drop at (now (b .entry)))) ⌝ }
+{
+    let mut i = at;
+    while i < end {
+        b[i - by] = b[i];
+        i += 1;
+    }
+}
+
+// Puts a skill that is not listed to its place, at a level. Those above it make room.
+fn insert_up(ids: &mut [u8], levels: &mut [u8], span: Span, at: usize, id: i32, level: u8)
+    requires { ⌜ (4 * (span .from + span .len) + 4 ≤ length (now ids)) × (span .from + span .len + 1 ≤ length (now levels))
+        × Parted (now ids) (span .from) (span .len) id at × (ltb at (span .len) && same (keyAt (now ids) (span .from + at)) id ≡ false) ⌝ }
     ensures { λ r.
-        let t = heldIn (now (ids .entry)) (now (levels .entry)) len in
-        ⌜ (heldIn (now (ids .exit)) (now (levels .exit)) (len + 1) ≡ raised (t .ids) (t .levels) id level)
+        let t = heldIn (now (ids .entry)) (now (levels .entry)) (span .from) (span .len) in
+        ⌜ (heldIn (now (ids .exit)) (now (levels .exit)) (span .from) (span .len + 1) ≡ raised (t .ids) (t .levels) id level)
         × (length (now (ids .exit)) ≡ length (now (ids .entry))) × (length (now (levels .exit)) ≡ length (now (levels .entry))) ⌝ }
 {
-    image::move_up(ids, 4 * at, 4 * len, 4);
-    image::put_u32(ids, 4 * at, image::bits(id));
-    image::move_up(levels, at, len, 1);
-    levels[at] = level;
+    let from = span.from;
+    let len = span.len;
+    let place = from + at;
+    let end = from + len;
+    image::move_up(ids, 4 * place, 4 * end, 4);
+    image::put_u32(ids, 4 * place, image::bits(id));
+    image::move_up(levels, place, end, 1);
+    levels[place] = level;
+}
+
+// The same, and those below it make room.
+fn insert_down(ids: &mut [u8], levels: &mut [u8], span: Span, at: usize, id: i32, level: u8)
+    requires { ⌜ (1 ≤ span .from) × (4 * (span .from + span .len) ≤ length (now ids)) × (span .from + span .len ≤ length (now levels))
+        × Parted (now ids) (span .from) (span .len) id at × (ltb at (span .len) && same (keyAt (now ids) (span .from + at)) id ≡ false) ⌝ }
+    ensures { λ r.
+        let t = heldIn (now (ids .entry)) (now (levels .entry)) (span .from) (span .len) in
+        ⌜ (heldIn (now (ids .exit)) (now (levels .exit)) (span .from - 1) (span .len + 1) ≡ raised (t .ids) (t .levels) id level)
+        × (length (now (ids .exit)) ≡ length (now (ids .entry))) × (length (now (levels .exit)) ≡ length (now (levels .entry))) ⌝ }
+{
+    let from = span.from;
+    let place = from + at;
+    move_down(ids, 4 * from, 4 * place, 4);
+    image::put_u32(ids, 4 * place - 4, image::bits(id));
+    move_down(levels, from, place, 1);
+    levels[place - 1] = level;
+}
+
+// The same, whichever are fewer: from which place on the skills stand then.
+fn insert(ids: &mut [u8], levels: &mut [u8], span: Span, at: usize, id: i32, level: u8) -> usize
+    requires { ⌜ (1 ≤ span .from) × (4 * (span .from + span .len) + 4 ≤ length (now ids))
+        × (span .from + span .len + 1 ≤ length (now levels))
+        × Parted (now ids) (span .from) (span .len) id at × (ltb at (span .len) && same (keyAt (now ids) (span .from + at)) id ≡ false) ⌝ }
+    ensures { λ r.
+        let t = heldIn (now (ids .entry)) (now (levels .entry)) (span .from) (span .len) in
+        ⌜ (heldIn (now (ids .exit)) (now (levels .exit)) r (span .len + 1) ≡ raised (t .ids) (t .levels) id level)
+        × (r ≤ span .from) × (span .from ≤ r + 1)
+        × (length (now (ids .exit)) ≡ length (now (ids .entry))) × (length (now (levels .exit)) ≡ length (now (levels .entry))) ⌝ }
+{
+    let from = span.from;
+    let len = span.len;
+    if at < len - at {
+        insert_down(ids, levels, span, at, id, level);
+        return from - 1;
+    }
+    insert_up(ids, levels, span, at, id, level);
+    from
 }
 
 // A wanted skill's turn.
-fn take_turn(ids: &mut [u8], levels: &mut [u8], len: usize, steps: u32, id: i32, wanted: u8) -> Left
-    requires { ⌜ (4 * len + 4 ≤ length (now ids)) × (len + 1 ≤ length (now levels)) × Listed (heldIn (now ids) (now levels) len) ⌝ }
+fn take_turn(ids: &mut [u8], levels: &mut [u8], span: Span, steps: u32, id: i32, wanted: u8) -> Left
+    requires { ⌜ (1 ≤ span .from) × (4 * (span .from + span .len) + 4 ≤ length (now ids))
+        × (span .from + span .len + 1 ≤ length (now levels))
+        × Listed (heldIn (now ids) (now levels) (span .from) (span .len)) ⌝ }
     ensures { λ r.
-        let t = heldIn (now (ids .entry)) (now (levels .entry)) len in
-        ⌜ ((heldIn (now (ids .exit)) (now (levels .exit)) (r .len), r .steps) ≡ turn (t, steps) (id, wanted)) × (r .len ≤ len + 1)
+        let t = heldIn (now (ids .entry)) (now (levels .entry)) (span .from) (span .len) in
+        ⌜ ((heldIn (now (ids .exit)) (now (levels .exit)) (r .from) (r .len), r .steps) ≡ turn (t, steps) (id, wanted))
+        × (r .len ≤ span .len + 1) × (r .from ≤ span .from) × (span .from ≤ r .from + 1)
         × (length (now (ids .exit)) ≡ length (now (ids .entry))) × (length (now (levels .exit)) ≡ length (now (levels .entry))) ⌝ }
 {
-    let at = keys::first_from(ids, len, id);
-    if stands(ids, len, at, id) {
-        let level = levels[at];
+    let from = span.from;
+    let len = span.len;
+    let at = keys::first_from(image::part(ids, 4 * from, 4 * len), len, id);
+    if stands(ids, span, at, id) {
+        let place = from + at;
+        let level = levels[place];
         let given = portion(wanted, level, steps);
-        levels[at] = level + given;
+        levels[place] = level + given;
         return Left {
+            from: from,
             len: len,
             steps: steps - (given as u32),
         };
@@ -104,73 +175,103 @@ fn take_turn(ids: &mut [u8], levels: &mut [u8], len: usize, steps: u32, id: i32,
     let given = portion(wanted, 0, steps);
     if given == 0 {
         return Left {
+            from: from,
             len: len,
             steps: steps,
         };
     }
-    insert(ids, levels, len, at, id, given);
+    let first = insert(ids, levels, span, at, id, given);
     Left {
+        from: first,
         len: len + 1,
         steps: steps - (given as u32),
     }
 }
 
-// The turns of a walk's skills, in their order: how many skills are listed then.
-fn take_turns(ids: &mut [u8], levels: &mut [u8], len: usize, walk: Walk, steps: u32) -> usize
-    requires { ⌜ (4 * (len + Sizes.mostWanted) ≤ length (now ids)) × (len + Sizes.mostWanted ≤ length (now levels))
-        × (walk .len ≤ Sizes.mostWanted) × Listed (heldIn (now ids) (now levels) len) ⌝ }
+// The turns of a walk's skills, in their order: where the skills stand then.
+fn take_turns(ids: &mut [u8], levels: &mut [u8], span: Span, walk: Walk, steps: u32) -> Span
+    requires { ⌜ (Sizes.mostWanted ≤ span .from) × (4 * (span .from + span .len + Sizes.mostWanted) ≤ length (now ids))
+        × (span .from + span .len + Sizes.mostWanted ≤ length (now levels))
+        × (walk .len ≤ Sizes.mostWanted) × Listed (heldIn (now ids) (now levels) (span .from) (span .len)) ⌝ }
     ensures { λ r.
-        let t = heldIn (now (ids .entry)) (now (levels .entry)) len in
-        ⌜ (heldIn (now (ids .exit)) (now (levels .exit)) r ≡ turns t steps (walkOf walk) .0) × (r ≤ len + Sizes.mostWanted)
+        let t = heldIn (now (ids .entry)) (now (levels .entry)) (span .from) (span .len) in
+        ⌜ (heldIn (now (ids .exit)) (now (levels .exit)) (r .from) (r .len) ≡ turns t steps (walkOf walk) .0)
+        × (r .len ≤ span .len + Sizes.mostWanted) × (r .from ≤ span .from)
         × (length (now (ids .exit)) ≡ length (now (ids .entry))) × (length (now (levels .exit)) ≡ length (now (levels .entry))) ⌝ }
 {
     let n = walk.len;
-    let mut listed = len;
+    let mut from = span.from;
+    let mut len = span.len;
     let mut left = steps;
     let mut i: usize = 0;
     while i < n {
         let id = walk.ids[i];
         let wanted = walk.levels[i];
-        let after = take_turn(ids, levels, listed, left, id, wanted);
-        listed = after.len;
+        let now = Span {
+            from: from,
+            len: len,
+        };
+        let after = take_turn(ids, levels, now, left, id, wanted);
+        from = after.from;
+        len = after.len;
         left = after.steps;
         i += 1;
     }
-    listed
+    Span {
+        from: from,
+        len: len,
+    }
 }
 
 // A fit's skills once each skill of a walk had its turn.
 fn planned(fit: &[u8], walk: Walk, steps: u32) -> Plan
     requires { ⌜ Fit.Sound (now fit) × (walk .len ≤ Sizes.mostWanted) ⌝ }
-    ensures { λ r. ⌜ (heldIn (r .ids) (r .levels) (r .len) ≡ turns (trainingOf (fitOf (now (fit .entry)))) steps (walkOf walk) .0)
-        × (r .len ≤ 1536) × (length (r .ids) ≡ 6144) × (length (r .levels) ≡ 1536) ⌝ }
+    ensures { λ r. ⌜ (heldIn (r .ids) (r .levels) (r .from) (r .len) ≡ turns (trainingOf (fitOf (now (fit .entry)))) steps (walkOf walk) .0)
+        × (r .len ≤ 1536) × (r .from ≤ 512) × (length (r .ids) ≡ 8192) × (length (r .levels) ≡ 2048) ⌝ }
 {
     let n = fit::skill_count(fit);
     let mut ids = [0u8; ROOM_BYTES];
     let mut levels = [0u8; ROOM];
-    image::copy(&mut ids, 0, image::part(fit, 28, 4 * n));
-    image::copy(&mut levels, 0, image::part(fit, 28 + 4 * n, n));
-    let len = take_turns(&mut ids, &mut levels, n, walk, steps);
+    image::copy(
+        &mut ids,
+        4 * sizes::MOST_WANTED,
+        image::part(fit, 28, 4 * n),
+    );
+    image::copy(
+        &mut levels,
+        sizes::MOST_WANTED,
+        image::part(fit, 28 + 4 * n, n),
+    );
+    let span = Span {
+        from: sizes::MOST_WANTED,
+        len: n,
+    };
+    let after = take_turns(&mut ids, &mut levels, span, walk, steps);
     Plan {
         ids: ids,
         levels: levels,
-        len: len,
+        from: after.from,
+        len: after.len,
     }
 }
 
-// The fit's image with the first n skills of two arrays, from byte 0 on.
-fn write_fit<'a>(fit: &[u8], ids: &'a [u8], levels: &'a [u8], n: usize, out: &mut [u8])
-    requires { ⌜ Fit.Sound (now fit) × (n ≤ 1536) × (4 * n ≤ length (now ids)) × (n ≤ length (now levels))
-        × (length (now fit) + 5 * n ≤ length (now out) + 5 * skillCount (now fit)) ⌝ }
-    ensures { λ r. ⌜ now (out .exit)
-        ≡ put (now (out .entry)) 0 (trainedImage (now (fit .entry)) (heldIn (now (ids .entry)) (now (levels .entry)) n)) ⌝ }
+// The fit's image with skills of two arrays, from byte 0 on.
+fn write_fit<'a>(fit: &[u8], ids: &'a [u8], levels: &'a [u8], span: Span, out: &mut [u8])
+    requires { ⌜ Fit.Sound (now fit) × (span .len ≤ 1536) × (4 * (span .from + span .len) ≤ length (now ids))
+        × (span .from + span .len ≤ length (now levels))
+        × (length (now fit) + 5 * span .len ≤ length (now out) + 5 * skillCount (now fit)) ⌝ }
+    ensures { λ r.
+        let t = heldIn (now (ids .entry)) (now (levels .entry)) (span .from) (span .len) in
+        ⌜ now (out .exit) ≡ put (now (out .entry)) 0 (trainedImage (now (fit .entry)) t) ⌝ }
 {
     let at = fit::layout::items_at(fit);
     let rest = fit.len() - at;
+    let from = span.from;
+    let n = span.len;
     image::put_u32(out, 0, n as u32);
     image::copy(out, 4, image::part(fit, 4, 24));
-    image::copy(out, 28, image::part(ids, 0, 4 * n));
-    image::copy(out, 28 + 4 * n, image::part(levels, 0, n));
+    image::copy(out, 28, image::part(ids, 4 * from, 4 * n));
+    image::copy(out, 28 + 4 * n, image::part(levels, from, n));
     image::copy(out, 28 + 5 * n, image::part(fit, at, rest));
 }
 
@@ -218,6 +319,21 @@ fn new_skills(fit: &[u8], walk: Walk) -> usize
     count
 }
 
+// Whether the skills of a walk that lack and are not listed would carry those that are over 1,024. Where all of its skills would not,
+// none is looked up.
+fn too_many_listed(fit: &[u8], walk: Walk) -> bool
+    requires { ⌜ Fit.Sound (now fit) × (walk .len ≤ Sizes.mostWanted) ⌝ }
+    ensures { λ r.
+        let b = now (fit .entry) in
+        ⌜ r ≡ ltb Sizes.mostSkills (skillCount b + countOf (isNew (trainingOf (fitOf b))) (walkOf walk)) ⌝ }
+{
+    let listed = fit::skill_count(fit);
+    if listed + walk.len <= sizes::MOST_SKILLS {
+        return false;
+    }
+    sizes::MOST_SKILLS < listed + new_skills(fit, walk)
+}
+
 // The fit that the steps lead to, where there is room for it.
 fn train_listed(fit: &[u8], walk: Walk, steps: u32, out: &mut [u8]) -> u64
     requires { ⌜ Fit.Sound (now fit) × (walk .len ≤ Sizes.mostWanted) ⌝ }
@@ -232,7 +348,11 @@ fn train_listed(fit: &[u8], walk: Walk, steps: u32, out: &mut [u8]) -> u64
     if out.len() < size {
         return refused(refusals::TOO_SHORT);
     }
-    write_fit(fit, &plan.ids, &plan.levels, plan.len, out);
+    let span = Span {
+        from: plan.from,
+        len: plan.len,
+    };
+    write_fit(fit, &plan.ids, &plan.levels, span, out);
     size as u64
 }
 
@@ -255,7 +375,7 @@ pub fn train(catalogue: &[u8], fit: &[u8], result: u32, steps: u32, out: &mut [u
     if sizes::MOST_WANTED < walk.len {
         return refused(refusals::TOO_MANY_SKILLS);
     }
-    if sizes::MOST_SKILLS < fit::skill_count(fit) + new_skills(fit, walk) {
+    if too_many_listed(fit, walk) {
         return refused(refusals::TOO_MANY_LISTED);
     }
     train_listed(fit, walk, steps, out)

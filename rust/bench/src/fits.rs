@@ -320,12 +320,22 @@ pub fn at_chain() -> Fit {
 }
 
 /// A fit whose ship demands the first skill of `world::falling_chain(512, _)`, and
-/// that lists as many skills with higher ids: whatever is put in moves them all.
+/// that lists as many skills with higher ids: whatever is put in stands before all.
 pub fn at_falling_chain() -> Fit {
     let mut fit = at_chain();
     let listed = (10_000..10_512).map(|id| Skill { id, level: 1 });
     fit.skills = listed.collect();
     fit.ship.attributes = rows(vec![(REQUIRED, 4_322.0), (REQUIRED + 1, 5.0)]);
+    fit
+}
+
+/// A fit whose ship demands the first skill of `world::narrowing_chain(512, _)`, and
+/// that lists as many skills, half of them with lower ids and half with higher ones:
+/// whatever is put in stands in the middle, and half of all others make room.
+pub fn at_narrowing_chain() -> Fit {
+    let mut fit = at_chain();
+    let listed = (2_000..2_256).chain(10_000..10_256);
+    fit.skills = listed.map(|id| Skill { id, level: 1 }).collect();
     fit
 }
 

@@ -282,6 +282,8 @@ fn trainings(small: &Catalogue, full: &Catalogue) {
     let chain = Catalogue::new(&world::chain(512, 2));
     let crowded = [Fit::new(&fits::at_falling_chain())];
     let falling = Catalogue::new(&world::falling_chain(512, 2));
+    let amid = [Fit::new(&fits::at_narrowing_chain())];
+    let narrowing = Catalogue::new(&world::narrowing_chain(512, 2));
     for (title, catalogue, fits, result) in [
         ("one module, small catalogue", small, &realistic[..], MODULE),
         ("one module, full-size catalogue", full, &realistic, MODULE),
@@ -290,6 +292,12 @@ fn trainings(small: &Catalogue, full: &Catalogue) {
             "falling chain of 512 before 512 listed",
             &falling,
             &crowded,
+            0,
+        ),
+        (
+            "narrowing chain of 512 amid 512 listed",
+            &narrowing,
+            &amid,
             0,
         ),
     ] {

@@ -242,6 +242,17 @@ pub fn falling_chain(length: usize, width: usize) -> Catalogue {
     })
 }
 
+/// The same from both ends inwards: a skill that is put in stands between those that were.
+pub fn narrowing_chain(length: usize, width: usize) -> Catalogue {
+    linked(length, width, |number| {
+        let place = match number % 2 {
+            0 => number / 2,
+            _ => length - 1 - number / 2,
+        };
+        3_300 + 2 * place as i32
+    })
+}
+
 fn linked(length: usize, width: usize, skill: impl Fn(usize) -> i32) -> Catalogue {
     let mut types = vec![Type {
         id: SHIP,

@@ -146,10 +146,12 @@ impl<'a> TrainingPlan<'a> {
         let raised = raised(&self.skills, self.fit, &fit);
         let made: u32 = raised.iter().map(|skill| skill.levels()).sum();
         let missing = self.levels_missing();
+        let lacking = lacking(&self.skills, &raised);
         Ok(Trained {
             fit,
             result: self.result,
             raised,
+            lacking,
             levels_missing: missing.saturating_sub(made),
         })
     }
@@ -191,11 +193,24 @@ fn raised(plan: &[PlannedSkill], old: &[u8], new: &[u8]) -> Vec<PlannedSkill> {
     raised.filter(|skill| skill.from != skill.to).collect()
 }
 
+/// What a plan still lacks once some of its skills were raised, in the plan's order.
+fn lacking(plan: &[PlannedSkill], raised: &[PlannedSkill]) -> Vec<PlannedSkill> {
+    let left = plan.iter().map(|skill| {
+        let raised = raised.iter().find(|it| it.type_id == skill.type_id);
+        PlannedSkill {
+            from: raised.map_or(skill.from, |it| it.to),
+            ..*skill
+        }
+    });
+    left.filter(|skill| skill.levels() > 0).collect()
+}
+
 /// A fit after steps of training; see [`TrainingPlan::train`].
 #[derive(Debug, Clone, PartialEq, Eq)]
 pub struct Trained {
     fit: Vec<u8>,
     raised: Vec<PlannedSkill>,
+    lacking: Vec<PlannedSkill>,
     levels_missing: u32,
     result: u32,
 }
@@ -217,6 +232,13 @@ impl Trained {
     #[must_use]
     pub fn raised(&self) -> &[PlannedSkill] {
         &self.raised
+    }
+
+    /// The skills that are still lacking, from the levels that they have now, in the
+    /// order in which they would be raised.
+    #[must_use]
+    pub fn lacking(&self) -> &[PlannedSkill] {
+        &self.lacking
     }
 
     /// How many levels are still missing.
@@ -260,7 +282,7 @@ impl Trained {
         format!("{whom} lacks {lacks}; after {steps} {missing} missing\n{lines}")
     }
 
-    /// The same as one object.
+    /// The same as one object, which lists too what is still lacking.
     pub fn json(&self, explainer: &Explainer<'_>) -> Json {
         let skill = |skill: &PlannedSkill| {
             Json::Object(vec![
@@ -270,6 +292,7 @@ impl Trained {
                 ("sentence", Json::text(explainer.explain_training(*skill))),
             ])
         };
+        let list = |skills: &[PlannedSkill]| Json::List(skills.iter().map(skill).collect());
         let mut fields = json::versioned(match self.levels_missing {
             0 => "trained",
             _ => "lacking",
@@ -278,10 +301,8 @@ impl Trained {
             ("result", Json::Integer(self.result.into())),
             ("levels_raised", Json::Integer(self.levels_raised().into())),
             ("levels_missing", Json::Integer(self.levels_missing.into())),
-            (
-                "skills",
-                Json::List(self.raised.iter().map(skill).collect()),
-            ),
+            ("skills", list(&self.raised)),
+            ("lacking", list(&self.lacking)),
         ]);
         Json::Object(fields)
     }
@@ -327,6 +348,17 @@ mod tests {
     }
 
     #[test]
+    fn what_is_lacking_goes_on_from_what_was_raised() {
+        let plan = [planned(9, 2, 4), planned(3, 0, 5), planned(7, 1, 2)];
+        assert_eq!(lacking(&plan, &[]), plan);
+        assert_eq!(
+            lacking(&plan, &[planned(9, 2, 4), planned(3, 0, 1)]),
+            [planned(3, 1, 5), planned(7, 1, 2)]
+        );
+        assert_eq!(lacking(&plan, &plan), []);
+    }
+
+    #[test]
     fn a_training_in_words() {
         let image = fit(&[]);
         let names = Names::parse("587 Rifter\n3300 Gunnery\n").unwrap();
@@ -335,6 +367,7 @@ mod tests {
             let trained = Trained {
                 fit: Vec::new(),
                 raised: raised.to_vec(),
+                lacking: Vec::new(),
                 levels_missing,
                 result: 0,
             };

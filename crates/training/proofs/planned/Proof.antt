@@ -18,16 +18,16 @@ use Rattle.training.proofs.planned.Statement.{statement}
 use Rattle.training.proofs.planned.Tie as tie
 
 abbrev no-ids : List ℕ
-no-ids = replicate 6144 0
+no-ids = replicate 8192 0
 
 abbrev no-levels : List ℕ
-no-levels = replicate 1536 0
+no-levels = replicate 2048 0
 
-ids-room : length no-ids ≡ 6144
-ids-room = length-replicate {A = ℕ} 6144 0
+ids-room : length no-ids ≡ 8192
+ids-room = length-replicate {A = ℕ} 8192 0
 
-levels-room : length no-levels ≡ 1536
-levels-room = length-replicate {A = ℕ} 1536 0
+levels-room : length no-levels ≡ 2048
+levels-room = length-replicate {A = ℕ} 2048 0
 
 abbrev start : tie.After-copy2 → tie.Start
 start c = c .before .before .before .before .before .before .before .before .before
@@ -35,41 +35,41 @@ start c = c .before .before .before .before .before .before .before .before .bef
 -- the ids as they are copied, and the levels
 ids : (c : tie.After-copy2) →
     let b = start c .args .fit .now in
-    c .before .before .before .before .copy .last .0 ≡ put no-ids 0 (take (4 * skillCount b) (drop 28 b))
+    c .before .before .before .before .copy .last .0 ≡ put no-ids 2048 (take (4 * skillCount b) (drop 28 b))
 ids c =
     let k = c .before .before .before .before in
     let b = start c .args .fit .now in
-    k .copy .ensures ∙ ap (put no-ids 0) (k .before .part .ensures ∙ ap (λ (n : ℕ). take (4 * n) (drop 28 b)) (k .before .before .before .skill-count .ensures))
+    k .copy .ensures ∙ ap (put no-ids 2048) (k .before .part .ensures ∙ ap (λ (n : ℕ). take (4 * n) (drop 28 b)) (k .before .before .before .skill-count .ensures))
 
 levels : (c : tie.After-copy2) →
     let b = start c .args .fit .now in
-    c .copy2 .last .0 ≡ put no-levels 0 (take (skillCount b) (drop (28 + 4 * skillCount b) b))
+    c .copy2 .last .0 ≡ put no-levels 512 (take (skillCount b) (drop (28 + 4 * skillCount b) b))
 levels c =
     let k = c .before .before .before .before in
     let b = start c .args .fit .now in
     c .copy2 .ensures
-    ∙ ap (put no-levels 0) (c .before .part2 .ensures ∙ ap (λ (n : ℕ). take n (drop (28 + 4 * n) b)) (k .before .before .before .skill-count .ensures))
+    ∙ ap (put no-levels 512) (c .before .part2 .ensures ∙ ap (λ (n : ℕ). take n (drop (28 + 4 * n) b)) (k .before .before .before .skill-count .ensures))
 
-ids-long : (c : tie.After-copy2) → length (c .before .before .before .before .copy .last .0) ≡ 6144
-ids-long c = let b = start c .args .fit .now in ap length (ids c) ∙ length-put no-ids 0 (take (4 * skillCount b) (drop 28 b)) ∙ ids-room
+ids-long : (c : tie.After-copy2) → length (c .before .before .before .before .copy .last .0) ≡ 8192
+ids-long c = let b = start c .args .fit .now in ap length (ids c) ∙ length-put no-ids 2048 (take (4 * skillCount b) (drop 28 b)) ∙ ids-room
 
-levels-long : (c : tie.After-copy2) → length (c .copy2 .last .0) ≡ 1536
+levels-long : (c : tie.After-copy2) → length (c .copy2 .last .0) ≡ 2048
 levels-long c =
     let b = start c .args .fit .now in
-    ap length (levels c) ∙ length-put no-levels 0 (take (skillCount b) (drop (28 + 4 * skillCount b) b)) ∙ levels-room
+    ap length (levels c) ∙ length-put no-levels 512 (take (skillCount b) (drop (28 + 4 * skillCount b) b)) ∙ levels-room
 
 -- they are the fit's
 held : (c : tie.After-copy2) →
     let k = c .before .before .before .before in
-    heldIn (k .copy .last .0) (c .copy2 .last .0) (k .before .before .before .skill-count .result) ≡ trainingOf (fitOf (start c .args .fit .now))
+    heldIn (k .copy .last .0) (c .copy2 .last .0) 512 (k .before .before .before .skill-count .result) ≡ trainingOf (fitOf (start c .args .fit .now))
 held c =
     let k = c .before .before .before .before in
     let s = start c in
     let b = s .args .fit .now in
     let few = s .pre .0 .sized .skills in
-    ap (heldIn (k .copy .last .0) (c .copy2 .last .0)) (k .before .before .before .skill-count .ensures)
-    ∙ ap₂ (λ (i l : List ℕ). heldIn i l (skillCount b)) (ids c) (levels c)
-    ∙ filled-held b no-ids no-levels (omega (arith, s .pre .0 .sized .size))
+    ap (heldIn (k .copy .last .0) (c .copy2 .last .0) 512) (k .before .before .before .skill-count .ensures)
+    ∙ ap₂ (λ (i l : List ℕ). heldIn i l 512 (skillCount b)) (ids c) (levels c)
+    ∙ filled-held b no-ids no-levels 512 (omega (arith, s .pre .0 .sized .size))
     (omega (arith, few, ids-room)) (omega (arith, few, levels-room))
 
 part-requires : tie.Need-part-requires
@@ -103,6 +103,7 @@ take-turns-requires c κs =
     let s = start d in
     let b = s .args .fit .now in
     let few = s .pre .0 .sized .skills in (
+      omega arith,
       omega (arith, n, few, ids-long d),
       omega (arith, n, few, levels-long d),
       s .pre .1,
@@ -119,8 +120,9 @@ returns c =
     let e = t .take-turns .ensures in (
       e .0 ∙ ap (λ (x : Training). turns x (a .steps) (walkOf (a .walk)) .0) (held d),
       omega (arith, e .1, n, s .pre .0 .sized .skills),
-      e .2 ∙ ids-long d,
-      e .3 ∙ levels-long d,
+      e .2,
+      e .3 ∙ ids-long d,
+      e .4 ∙ levels-long d,
     )
 
 pub planned-spec : {M : Type 1} → statement M
@@ -128,6 +130,7 @@ planned-spec =
     tie.close
     (tie.spec
     (λ c κs. search needs)
+    (λ c. search needs)
     (λ c. search needs)
     (λ c. search needs)
     part-requires

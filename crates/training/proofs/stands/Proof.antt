@@ -1,5 +1,5 @@
 -- `training::stands` meets its contract.
-use Prim.Native.Nat.{_*_, _<_}
+use Prim.Native.Nat.{_+_, _*_, _<_}
 use native.Mathlib.Omega.{arith}
 use mathlib.Core.Path.{_≡_, sym, ap, ap₂, _∙_}
 use mathlib.Core.Bool.{Bool, _&&_}
@@ -19,12 +19,12 @@ returns c =
     let k = c .before .i32-at in
     let key = toZ-ofZ w32 _ (record { sfits = k .ok }) ∙ k .ensures in
     c .same-id .ensures ∙ ap₂ same key (toZ-ofZ w32 (s .args .id) (s .fits .id))
-    ∙ sym (ap (λ (b : Bool). b && same (keyAt (s .args .ids .now) (s .args .at)) (s .args .id)) (lt-ltb (s .args .at) (s .args .len) (c .before .before .if1 .taken)))
+    ∙ sym (ap (λ (b : Bool). b && same (keyAt (s .args .ids .now) (s .args .span .from + s .args .at)) (s .args .id)) (lt-ltb (s .args .at) (s .args .span .len) (c .before .before .if1 .taken)))
 
 returns-2 : tie.Need-returns-2
 returns-2 c =
     let s = c .before .before in
-    sym (ap (λ (b : Bool). b && same (keyAt (s .args .ids .now) (s .args .at)) (s .args .id)) (le-ltb (s .args .at) (s .args .len) (omega (arith, c .if1 .left))))
+    sym (ap (λ (b : Bool). b && same (keyAt (s .args .ids .now) (s .args .span .from + s .args .at)) (s .args .id)) (le-ltb (s .args .at) (s .args .span .len) (omega (arith, c .if1 .left))))
 
 pub stands-spec : {M : Type 1} → statement M
-stands-spec = tie.close (tie.spec (λ c. search needs) (λ c κs. search needs) (λ c κs. search needs) returns returns-2)
+stands-spec = tie.close (tie.spec (λ c. search needs) (λ c. search needs) (λ c κs. search needs) (λ c κs. search needs) returns returns-2)

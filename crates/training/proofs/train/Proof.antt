@@ -4,9 +4,7 @@ use native.Mathlib.Omega.{arith}
 use mathlib.Core.Path.{_≡_, sym, ap, _∙_}
 use mathlib.Core.Bool.{Bool, true, false}
 use mathlib.Core.List.{List, _∷_}
-use lib.Dec.{ltb}
 use borrow.Author.Needs.{needs}
-use borrow.Author.Tests.{lt-ltb, le-ltb}
 use Rattle.numbers.specs.Sizes as Sizes
 use Rattle.numbers.specs.Refusals as Refusals
 use Rattle.catalogue.specs.Catalogue.{catalogueOf}
@@ -57,26 +55,19 @@ returns-2 c =
 held : (c : tie.Else2) → c .before .before .wanted-skills .result .len ≤ Sizes.mostWanted
 held c = omega (arith, c .if2 .left)
 
-new-skills-requires : tie.Need-new-skills-requires
-new-skills-requires c κs = let e = c .before in (start (e .before .before) .pre .1, held e)
-
-add-if3 : tie.Need-add-if3
-add-if3 c =
-    let e = c .before .before in
-    let s = start (e .before .before) in
-    omega (arith, c .before .skill-count .ensures, c .new-skills .ensures .1, s .pre .1 .sized .skills)
+too-many-listed-requires : tie.Need-too-many-listed-requires
+too-many-listed-requires c κs = (start (c .before .before) .pre .1, held c)
 
 -- 16, by what was counted
-counted : (c : tie.After-new-skills) →
-    let a = start (c .before .before .before .before) .args in
-    tooManyListed (catalogueOf (a .catalogue .now)) (a .result) (fitOf (a .fit .now)) ≡ ltb Sizes.mostSkills (c .before .skill-count .result + c .new-skills .result)
+counted : (c : tie.After-too-many-listed) →
+    let a = start (c .before .before .before) .args in
+    tooManyListed (catalogueOf (a .catalogue .now)) (a .result) (fitOf (a .fit .now)) ≡ c .too-many-listed .result
 counted c =
-    let e = c .before .before in
+    let e = c .before in
     let v = e .before .before in
     let a = start v .args in
     let w = v .wanted-skills in
-    listed-count (a .catalogue .now) (a .fit .now) (a .result) (w .result) (w .ensures) (held e) (below v)
-    (c .before .skill-count .result) (c .new-skills .result) (c .before .skill-count .ensures) (c .new-skills .ensures .0)
+    listed-count (a .catalogue .now) (a .fit .now) (a .result) (w .result) (w .ensures) (held e) (below v) ∙ sym (c .too-many-listed .ensures)
 
 -- neither 8 nor 9
 past : (c : tie.Else2) (m : List (ℕ × Bool)) (bs : List ℕ) →
@@ -94,24 +85,24 @@ returns-3 : tie.Need-returns-3
 returns-3 c =
     let t = c .before in
     let n = t .before in
-    let e = n .before .before in
-    let many = counted n ∙ lt-ltb Sizes.mostSkills (n .before .skill-count .result + n .new-skills .result) (omega (arith, t .if3 .taken)) in
+    let e = n .before in
+    let many = counted n ∙ t .if3 .taken in
     bytes-same (sym (past e _ _ ∙ output-true Refusals.tooManyListed _ _ (omega arith) many)) (bytes-refused _ Refusals.tooManyListed (c .refused3 .ensures))
 
 train-listed-requires : tie.Need-train-listed-requires
-train-listed-requires c κs = let e = c .before .before .before .before in (start (e .before .before) .pre .1, held e)
+train-listed-requires c κs = let e = c .before .before .before in (start (e .before .before) .pre .1, held e)
 
 returns-4 : tie.Need-returns-4
 returns-4 c =
     let t = c .before .before in
     let i = t .before .before in
     let n = i .before in
-    let e = n .before .before in
+    let e = n .before in
     let v = e .before .before in
     let s = start v in
     let a = s .args in
     let w = v .wanted-skills in
-    let room = counted n ∙ le-ltb Sizes.mostSkills (n .before .skill-count .result + n .new-skills .result) (omega (arith, i .if3 .left)) in
+    let room = counted n ∙ i .if3 .left in
     let led = trained-by-turns (a .catalogue .now) (a .fit .now) (a .result) (w .result) (w .ensures) (held e) (below v) (s .pre .1) (a .steps) in
     bytes-same
     (ap (λ (x : Training). let bs = trainedImage (a .fit .now) x in output (roomRefusals (a .out .now) bs) bs) led
@@ -130,9 +121,7 @@ train-spec =
     (λ c κs. search needs)
     (λ c κs. search needs)
     returns-2
-    (λ c κs. search needs)
-    new-skills-requires
-    add-if3
+    too-many-listed-requires
     (λ c κs. search needs)
     returns-3
     train-listed-requires

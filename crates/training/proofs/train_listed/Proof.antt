@@ -32,7 +32,7 @@ size c =
     let a = s .args in
     let b = a .fit .now in
     let p = c .planned in
-    let many = sym (ap (λ (t : Training). length (t .ids)) (p .ensures .0)) ∙ length-table 0 (p .result .len) (keyAt (p .result .ids)) in
+    let many = sym (ap (λ (t : Training). length (t .ids)) (p .ensures .0)) ∙ length-table 0 (p .result .len) (λ i. keyAt (p .result .ids) (p .result .from + i)) in
     ap (λ (k : ℕ). length b - 5 * k + 5 * p .result .len) (c .before .skill-count .ensures)
     ∙ trained-size b (s .pre .0) (a .steps) (walkOf (a .walk)) (p .result .len) many
 

@@ -944,11 +944,34 @@ fn what_is_no_old_catalogue_is_not_written() {
     assert!(ran.err.contains("refused by 1"), "{}", ran.err);
     assert!(!Path::new(&other).exists());
 
+    // The same file, also under another path and behind a link.
     let old_path = put(&folder, "old.bin", &old);
-    let ran = fitcheck(&["widen", &old_path, &old_path]);
-    assert_eq!(ran.status, 1);
-    assert!(ran.err.contains("it is read, so it is not written"));
-    assert_eq!(fs::read(&old_path).unwrap(), old);
+    let around = folder.join(".").join("old.bin");
+    let link = folder.join("link.bin");
+    std::os::unix::fs::symlink(&old_path, &link).unwrap();
+    for same in [Path::new(&old_path), &around, &link] {
+        let ran = fitcheck(&["widen", &old_path, same.to_str().unwrap()]);
+        assert_eq!((ran.status, ran.out.as_str()), (1, ""));
+        assert!(ran.err.contains("it is read, so it is not written"));
+        assert_eq!(fs::read(&old_path).unwrap(), old);
+    }
+}
+
+/// What is written has a name: standard output has what is said.
+#[test]
+fn nothing_is_written_to_a_dash() {
+    let folder = folder("dash");
+    let (catalogue, fit) = planned(&folder);
+    let old = put(&folder, "old.bin", &both_forms().0);
+    for words in [
+        &["train", &catalogue, &fit, "--result", "0", "-o", "-"][..],
+        &["widen", &old, "-"],
+    ] {
+        let ran = fitcheck(words);
+        assert_eq!((ran.status, ran.out.as_str()), (2, ""), "{words:?}");
+        assert!(ran.err.contains("- is no file to write"), "{}", ran.err);
+    }
+    assert!(!Path::new("-").exists());
 }
 
 #[test]
@@ -1081,6 +1104,24 @@ fn a_plan_in_json() {
     assert_eq!(skill.get("type_id").number(), 3329.0);
     assert_eq!(skill.get("from").number(), 2.0);
     assert_eq!(skill.get("to").number(), 3.0);
+    let left = |ran: &str| -> Vec<[f64; 3]> {
+        let value = Value::parse(ran);
+        let skills = value.get("lacking").list().iter();
+        let numbers = skills.map(|it| ["type_id", "from", "to"].map(|name| it.get(name).number()));
+        numbers.collect()
+    };
+    assert_eq!(left(&ran.out), [[3329.0, 3.0, 4.0], [3327.0, 0.0, 1.0]]);
+
+    // With no step, everything that is lacking; with all of them, nothing.
+    let with = |steps: &str| {
+        let words = [
+            "train", &catalogue, &fit, "--result", "0", "--steps", steps, "--json",
+        ];
+        fitcheck(&words).out
+    };
+    assert_eq!(left(&with("0")), [[3329.0, 2.0, 4.0], [3327.0, 0.0, 1.0]]);
+    assert!(Value::parse(&with("0")).get("skills").list().is_empty());
+    assert_eq!(left(&with("9")), [[0.0; 3]; 0]);
 }
 
 #[test]

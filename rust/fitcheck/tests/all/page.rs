@@ -245,9 +245,14 @@ fn the_objects_in_json_have_the_fields_that_the_page_lists() {
         let trained = shown(&[&["train"][..], &trained].concat());
         assert_eq!(trained.names(), row("`train`"));
         let skills = trained.get("skills").list();
-        assert_eq!(skills.len(), usize::from(steps == "9"));
-        for skill in skills {
-            assert_eq!(skill.names(), row("one of `skills` of `train`"));
+        let lacking = trained.get("lacking").list();
+        let made = usize::from(steps == "9");
+        assert_eq!((skills.len(), lacking.len()), (made, 1 - made));
+        for skill in skills.iter().chain(lacking) {
+            assert_eq!(
+                skill.names(),
+                row("one of `skills` and `lacking` of `train`")
+            );
         }
         let status = trained.get("status").text();
         assert_eq!(status, if steps == "9" { "trained" } else { "lacking" });

@@ -52,7 +52,8 @@ widen    An old catalogue, whose base values are f32, made into the file NEW in
          the form that the other commands read.
 
 CATALOGUE, FIT and OLD are images; one of them may be -, standard input. A catalogue
-that lacks names or effects leaves rules unchecked: which, a warning says.
+that lacks names or effects leaves rules unchecked: which, a warning says. NEW and
+the FILE of -o are written, and are no file that is read, nor -.
 
 --as READER   Who reads what explain says: guest, pilot or officer. Skills are
               private: a guest is told neither which are lacking nor which
@@ -265,13 +266,13 @@ pub fn parse(line: impl IntoIterator<Item = OsString>) -> Result<Command, String
         }),
         Some("profile") => Command::Profile(Profile {
             words: next("WORDS")?.0.into(),
-            new: next("NEW")?.0.into(),
+            new: written(next("NEW")?)?,
             names: words.value("--names"),
         }),
         Some("train") => train(&mut words, &mut next)?,
         Some("widen") => Command::Widen(Widen {
             old: source(next("OLD")?),
-            new: next("NEW")?.0.into(),
+            new: written(next("NEW")?)?,
         }),
         _ => return Err(format!("there is no command {shown}")),
     };
@@ -309,12 +310,14 @@ fn train(
                 .to_string(),
         );
     };
+    let new = words.value("-o");
+    let new = new.map(|new| written((new.into_os_string(), false)));
     Ok(Command::Train(Train {
         catalogue,
         fit,
         result,
         steps: named_number(words, "--steps")?,
-        new: words.value("-o"),
+        new: new.transpose()?,
         names: words.value("--names"),
         json: std::mem::take(&mut words.json),
     }))
@@ -398,6 +401,15 @@ fn source((word, is_path): (OsString, bool)) -> Source {
     }
 }
 
+/// A path that is written to. `-` is none where it does not stand behind `--`: what
+/// is said goes to standard output, and no image beside it.
+fn written((word, is_path): (OsString, bool)) -> Result<PathBuf, String> {
+    match word == "-" && !is_path {
+        true => Err("- is no file to write: standard output has what is said".to_string()),
+        false => Ok(word.into()),
+    }
+}
+
 #[cfg(test)]
 mod tests {
     use super::*;
@@ -466,6 +478,11 @@ mod tests {
             new: "-new".into(),
         });
         assert_eq!(parsed("widen old -- -new"), Ok(widened));
+        let to_dash = Command::Widen(Widen {
+            old: file("old"),
+            new: "-".into(),
+        });
+        assert_eq!(parsed("widen old -- -"), Ok(to_dash));
     }
 
     #[test]
@@ -554,6 +571,7 @@ mod tests {
 
     #[test]
     fn wrong_usage_is_named() {
+        const NO_FILE: &str = "- is no file to write: standard output has what is said";
         for (line, wrong) in [
             ("", "nothing is asked"),
             ("explain", "explain wants a CATALOGUE"),
@@ -571,6 +589,10 @@ mod tests {
             ),
             ("pack", "pack wants a FIT.txt"),
             ("widen o", "widen wants a NEW"),
+            ("widen o -", NO_FILE),
+            ("profile w -", NO_FILE),
+            ("train c f --result 0 -o -", NO_FILE),
+            ("train c f --result 0 -o=-", NO_FILE),
             ("widen o n --json", "widen takes no --json"),
             ("train c", "train wants a FIT"),
             (

@@ -15,6 +15,16 @@ pub enum Source {
     StandardInput,
 }
 
+impl Source {
+    /// The file, where it is one.
+    pub fn file(&self) -> Option<&Path> {
+        match self {
+            Source::File(path) => Some(path),
+            Source::StandardInput => None,
+        }
+    }
+}
+
 impl fmt::Display for Source {
     fn fmt(&self, formatter: &mut fmt::Formatter<'_>) -> fmt::Result {
         match self {
@@ -61,6 +71,26 @@ fn at_most(source: &Source, longest: usize) -> io::Result<Vec<u8>> {
         Source::StandardInput => io::stdin().lock().take(most).read_to_end(&mut bytes)?,
     };
     Ok(bytes)
+}
+
+/// Whether a file may be written: not where it is one of those that are read, under
+/// whatever path.
+pub fn not_read<'a>(
+    new: &Path,
+    read: impl IntoIterator<Item = Option<&'a Path>>,
+) -> Result<(), String> {
+    let same = fs::canonicalize(new);
+    let is_new = |path: &Path| {
+        let as_new = |new: &PathBuf| fs::canonicalize(path).is_ok_and(|it| it == *new);
+        path == new || same.as_ref().is_ok_and(as_new)
+    };
+    match read.into_iter().flatten().any(is_new) {
+        true => {
+            let path = shown(new.as_os_str());
+            Err(format!("{path}: it is read, so it is not written"))
+        }
+        false => Ok(()),
+    }
 }
 
 /// The names of a file; none without one.

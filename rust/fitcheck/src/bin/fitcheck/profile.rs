@@ -14,11 +14,10 @@ pub fn run(asked: &Profile, out: &mut impl Write) -> Result<u8, Trouble> {
     let words = files::text(&asked.words)?;
     let profile = text::profile(&words, &names).map_err(|error| about(&asked.words, &error))?;
     let path = shown(asked.new.as_os_str());
-    if asked.new == asked.words || asked.names.as_ref() == Some(&asked.new) {
-        return Err(Trouble::Given(format!(
-            "{path}: it is read, so it is not written"
-        )));
-    }
+    files::not_read(
+        &asked.new,
+        [Some(asked.words.as_path()), asked.names.as_deref()],
+    )?;
     let image = profile.to_bytes();
     fs::write(&asked.new, &image).map_err(|error| about(&asked.new, &error))?;
     writeln!(out, "{path}: {} bytes", image.len())?;

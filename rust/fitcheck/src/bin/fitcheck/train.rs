@@ -3,7 +3,6 @@
 
 use std::fs;
 use std::io::Write;
-use std::path::Path;
 
 use fitcheck::{Attribute, CatalogueImage, Explainer, TrainingPlan};
 
@@ -30,11 +29,11 @@ pub fn run(asked: &Train, out: &mut impl Write) -> Result<u8, Trouble> {
     };
     warn(&asked.catalogue, &catalogue);
     if let Some(new) = &asked.new {
-        if is_read(asked, new) {
-            let path = shown(new.as_os_str());
-            let words = format!("{path}: it is read, so it is not written");
-            return Err(Trouble::Given(words));
-        }
+        // The fit itself is among those that are read: a plan that is tried leaves it
+        // as it is.
+        let names = asked.names.as_deref();
+        let read = [asked.catalogue.file(), asked.fit.file(), names];
+        files::not_read(new, read)?;
         fs::write(new, trained.fit()).map_err(|error| about(new, &error))?;
     }
 
@@ -49,27 +48,6 @@ pub fn run(asked: &Train, out: &mut impl Write) -> Result<u8, Trouble> {
         writeln!(out, "{path}: {} bytes", trained.fit().len())?;
     }
     Ok(DONE)
-}
-
-/// Whether a file is one of those that are read, under whatever path. The fit
-/// itself is among them: a plan that is tried leaves it as it is.
-fn is_read(asked: &Train, path: &Path) -> bool {
-    let file = |source: &Source| match source {
-        Source::File(file) => Some(file.clone()),
-        Source::StandardInput => None,
-    };
-    let read = [
-        file(&asked.catalogue),
-        file(&asked.fit),
-        asked.names.clone(),
-    ];
-    let new = fs::canonicalize(path);
-    read.into_iter().flatten().any(|read| {
-        read == path
-            || new
-                .as_ref()
-                .is_ok_and(|new| fs::canonicalize(read).is_ok_and(|it| it == *new))
-    })
 }
 
 /// Warns of skills that a catalogue leaves out; what else it lacks is nothing to a

@@ -6,7 +6,7 @@ use std::io::Write;
 use fitcheck::CATALOGUE_BYTES;
 
 use crate::args::Widen;
-use crate::files::{self, Source, about, shown};
+use crate::files::{self, about, shown};
 use crate::{DONE, Trouble, complain, refused};
 
 pub fn run(asked: &Widen, out: &mut impl Write) -> Result<u8, Trouble> {
@@ -16,11 +16,7 @@ pub fn run(asked: &Widen, out: &mut impl Write) -> Result<u8, Trouble> {
         Err(refusal) => return refused(out, &asked.old, refusal, false),
     };
     let path = shown(asked.new.as_os_str());
-    if asked.old == Source::File(asked.new.clone()) {
-        return Err(Trouble::Given(format!(
-            "{path}: it is read, so it is not written"
-        )));
-    }
+    files::not_read(&asked.new, [asked.old.file()])?;
     fs::write(&asked.new, &new).map_err(|error| about(&asked.new, &error))?;
     if new.len() > CATALOGUE_BYTES {
         complain(&format!(
