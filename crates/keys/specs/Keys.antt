@@ -38,10 +38,11 @@ abbrev pub foundOf : Found → Option ℕ
 foundOf (At i) = some i
 foundOf Nothing = none
 
--- 32 bits moved up by a bias: with 0 they count as unsigned, with 2 ^ 31 in the order of the signed numbers
+-- the bias by which bits stand in the order of the signed numbers
 abbrev pub sign : ℕ
 sign = 2147483648
 
+-- 32 bits moved up by a bias: with 0 they count as unsigned, with `sign` in the order of the signed numbers
 abbrev pub biased : ℕ → ℕ → ℕ
 biased bias x = (x + bias) % 4294967296
 
