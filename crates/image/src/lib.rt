@@ -1,4 +1,6 @@
 // Little-endian integers at a place of a byte slice: document 01, "Records".
+#![tactic(auto)]
+
 ghost use Rattle.std.specs.Prelude.{◌≡◌, ◌+◌, ◌-◌, ◌*◌, ◌<◌, ◌≤◌, negsuc, length, take, drop};
 ghost use Rattle.image.specs.Bytes.{u8_at, u16_at, u32_at, u64_at, signed32, bits32, i32_at, le, put};
 

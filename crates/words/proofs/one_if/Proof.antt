@@ -11,11 +11,11 @@ by_cases : (b : Bool) → (bool_byte b ≡ cond b 1 0) × (bool_byte b ≤ 1)
 by_cases true = (refl, omega arith)
 by_cases false = (refl, omega arith)
 
-cast-result : tie.Need-overflow-cast-result
+cast-result : tie.Need-overflow_cast-result
 cast-result c = omega (arith, (by_cases c.args.b).1)
 
 returns : tie.Need-returns
 returns c = by_cases c.args.b
 
-pub one-if-spec : {M : Type 1} → statement M
-one-if-spec = tie.close (tie.spec cast-result returns)
+pub one_if_spec : {M : Type 1} → statement M
+one_if_spec = tie.close (tie.spec cast-result returns)

@@ -6,5 +6,5 @@ use Rattle.words.proofs.same_id.Tie as tie
 returns : tie.Need-returns
 returns c = bits_same c.args.a c.args.b c.ranges.a c.ranges.b
 
-pub same-id-spec : {M : Type 1} → statement M
-same-id-spec = tie.close (tie.spec returns)
+pub same_id_spec : {M : Type 1} → statement M
+same_id_spec = tie.close (tie.spec returns)

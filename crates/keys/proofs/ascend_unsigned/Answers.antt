@@ -1,0 +1,10 @@
+-- `keys::ascend_unsigned` meets its contract: the order of the biased bits is the order asked for.
+use Rattle.std.proofs.Common.{◌∙◌, rules}
+use Rattle.keys.proofs.Ranks.{u32_small}
+use Rattle.keys.proofs.Orders.{biased-none}
+use Rattle.keys.proofs.ascend_unsigned.Goals as goal
+
+pub returns : goal.returns
+returns c =
+    let a = c.args in
+    c.ascending.ensures ∙ biased-none a.keys.now (u32_small a.keys.now c.type_inv.keys) a.n

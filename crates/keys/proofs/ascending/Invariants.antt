@@ -1,0 +1,14 @@
+-- `keys::ascending` meets its contract. The invariant: the verdict so far is that of the first i keys.
+use Rattle.std.proofs.Common.{◌≡◌, ℕ, ◌-◌, ◌*◌, ◌<◌, ◌≤◌, max, true, sym, arith}
+use Rattle.words.specs.Words.{table, in_order}
+use Rattle.words.proofs.Tables.{order-one}
+use Rattle.image.specs.Bytes.{u32_at}
+use Rattle.keys.specs.Keys.{biased, stands}
+use Rattle.keys.proofs.Orders.{order-turn, order-end}
+use Rattle.keys.proofs.ascending.Given as goal
+
+abbrev pub invariant-loop-i : goal.invariant-loop-i
+invariant-loop-i l = (0 < l.i) × (l.i ≤ max l.n 1) × (l.ok ≡ in_order (stands true) (table l.i (λ j. biased l.bias (u32_at l.keys (4 * j)))))
+
+abbrev pub decreases-loop-i : goal.decreases-loop-i
+decreases-loop-i l = l.n - l.i
