@@ -1,5 +1,7 @@
 // Floats of the images: read from their bits and written, cast to integers, and held against a limit.
 // Document 01, "Records", "Values and casts", "Resources".
+#![tactic(auto)]
+
 ghost use Rattle.std.specs.Prelude.{◌≡◌, ◌+◌, ◌≤◌, min, length, from_bits};
 ghost use Rattle.std.specs.Float.{binary32, binary64};
 ghost use Rattle.words.specs.Words.{given};

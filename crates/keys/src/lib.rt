@@ -1,4 +1,6 @@
 // Keys in an image: whether they are in order, and where an id stands among them.
+#![tactic(auto)]
+
 ghost use Rattle.std.specs.Prelude.{◌≡◌, ◌+◌, ◌-◌, ◌*◌, ◌<◌, ◌≤◌, true, false, not, ◌||◌, ltb, length, if◌then◌else◌, ◌==◌, int_le, int_lt, nat_le, nat_lt};
 ghost use Rattle.words.specs.Words.{table, in_order};
 ghost use Rattle.image.specs.Bytes.{u32_at};

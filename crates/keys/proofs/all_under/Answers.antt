@@ -1,5 +1,5 @@
 -- `keys::all_under` meets its contract.
-use Rattle.std.proofs.Common.{rules, eq-eqb, ne_eqb}
+use Rattle.std.proofs.Common.{eq-eqb, ne_eqb}
 use Rattle.keys.proofs.all_under.Goals as goal
 
 pub returns-then-r-eq0 : goal.returns-then-r-eq0

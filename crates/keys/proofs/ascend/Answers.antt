@@ -1,5 +1,5 @@
 -- `keys::ascend` meets its contract: the order of the biased bits is the order asked for.
-use Rattle.std.proofs.Common.{◌∙◌, rules}
+use Rattle.std.proofs.Common.{◌∙◌}
 use Rattle.keys.proofs.Ranks.{u32_small}
 use Rattle.keys.proofs.Orders.{biased-lt}
 use Rattle.keys.proofs.ascend.Goals as goal

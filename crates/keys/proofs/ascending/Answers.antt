@@ -1,6 +1,5 @@
 -- `keys::ascending` meets its contract. The invariant: the verdict so far is that of the first i keys.
-use Rattle.std.proofs.Common.{◌≡◌, ℕ, ◌-◌, ◌*◌, ◌<◌, ◌≤◌, max, true, sym, arith}
-use Rattle.words.specs.Words.{table, in_order}
+use Rattle.std.proofs.Common.{ℕ, ◌*◌, true, sym, arith}
 use Rattle.words.proofs.Tables.{order-one}
 use Rattle.image.specs.Bytes.{u32_at}
 use Rattle.keys.specs.Keys.{biased, stands}

@@ -1,10 +1,8 @@
 -- `keys::ascending` meets its contract. The invariant: the verdict so far is that of the first i keys.
-use Rattle.std.proofs.Common.{◌≡◌, ℕ, ◌-◌, ◌*◌, ◌<◌, ◌≤◌, max, true, sym, arith}
+use Rattle.std.proofs.Common.{◌≡◌, ◌-◌, ◌*◌, ◌<◌, ◌≤◌, max, true}
 use Rattle.words.specs.Words.{table, in_order}
-use Rattle.words.proofs.Tables.{order-one}
 use Rattle.image.specs.Bytes.{u32_at}
 use Rattle.keys.specs.Keys.{biased, stands}
-use Rattle.keys.proofs.Orders.{order-turn, order-end}
 use Rattle.keys.proofs.ascending.Given as goal
 
 abbrev pub invariant-loop-i : goal.invariant-loop-i

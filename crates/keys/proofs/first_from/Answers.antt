@@ -1,8 +1,8 @@
 -- `keys::first_from` meets its contract. The invariant: all keys before `base` are under the id, and none from `base + left` on.
-use Rattle.std.proofs.Common.{◌≡◌, ◌+◌, ◌/◌, ap, ◌∙◌, arith, w32}
+use Rattle.std.proofs.Common.{◌≡◌, ◌/◌, ap, ◌∙◌, arith, w32}
 use mir.ValLaws.{to_z-of_z}
 use Rattle.keys.specs.Keys.{rank_of}
-use Rattle.keys.proofs.Skips.{Searched, skipped, parted}
+use Rattle.keys.proofs.Skips.{skipped, parted}
 use Rattle.keys.proofs.first_from.Goals as goal
 
 pub rank-key-requires : goal.rank-key-requires

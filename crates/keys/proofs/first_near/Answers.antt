@@ -1,5 +1,5 @@
 -- `keys::first_near` meets its contract: a guess that passes both tests, or the search.
-use Rattle.std.proofs.Common.{ℤ, sym, ap, ◌∙◌, subst, arith, w32, rules}
+use Rattle.std.proofs.Common.{ℤ, sym, ap, ◌∙◌, subst, arith, w32}
 use mir.ValLaws.{to_z-of_z}
 use Rattle.keys.specs.Keys.{rank_of, Parts}
 use Rattle.keys.proofs.Skips.{guess_under, guess_over}

@@ -1,5 +1,5 @@
 -- `keys::four_from` meets its contract. The invariant is that of `first_from`, for each of the four.
-use Rattle.std.proofs.Common.{◌≡◌, ℕ, ◌+◌, ◌/◌, ◌≤◌, List, ap, ◌∙◌, arith, w32, rules}
+use Rattle.std.proofs.Common.{◌≡◌, ℕ, ◌+◌, ◌/◌, ◌≤◌, List, ap, ◌∙◌, arith, w32}
 use mir.ValLaws.{to_z-of_z}
 use Rattle.keys.specs.Keys.{rank_of}
 use Rattle.keys.proofs.Skips.{Searched, skipped, parted}

@@ -1,8 +1,6 @@
 -- `keys::four_from` meets its contract. The invariant is that of `first_from`, for each of the four.
-use Rattle.std.proofs.Common.{◌≡◌, ℕ, ◌+◌, ◌/◌, ◌≤◌, List, ap, ◌∙◌, arith, w32, rules}
-use mir.ValLaws.{to_z-of_z}
-use Rattle.keys.specs.Keys.{rank_of}
-use Rattle.keys.proofs.Skips.{Searched, skipped, parted}
+use Rattle.std.proofs.Common.{◌+◌}
+use Rattle.keys.proofs.Skips.{Searched}
 use Rattle.keys.proofs.four_from.Given as goal
 
 abbrev pub invariant-loop-left : goal.invariant-loop-left

@@ -1,8 +1,8 @@
 -- `keys::four_runs` meets its contract. The invariant: a fall was noted where the first i keys of some run are in no order.
-use Rattle.std.proofs.Common.{◌≡◌, ℕ, ◌+◌, ◌-◌, ◌*◌, ◌<◌, ◌≤◌, Bool, false, not, ◌||◌, ap, ◌∙◌, ap₂, arith}
+use Rattle.std.proofs.Common.{◌≡◌, ◌+◌, ◌-◌, ◌*◌, ◌<◌, ◌≤◌, false, not}
 use Rattle.image.specs.Bytes.{u32_at}
 use Rattle.keys.specs.Keys.{sign, biased, stands}
-use Rattle.keys.proofs.Orders.{runs, runs_one, runs_turn, runs_all}
+use Rattle.keys.proofs.Orders.{runs}
 use Rattle.keys.proofs.four_runs.Given as goal
 
 abbrev pub invariant-loop-i : goal.invariant-loop-i

@@ -1,5 +1,5 @@
 -- `keys::in_step` meets its contract: both keys are read, and stand or do not.
-use Rattle.std.proofs.Common.{◌∙◌, ap₂, rules}
+use Rattle.std.proofs.Common.{◌∙◌, ap₂}
 use Rattle.keys.specs.Keys.{stands}
 use Rattle.keys.proofs.in_step.Goals as goal
 

@@ -1,5 +1,5 @@
 -- `keys::none_under` meets its contract.
-use Rattle.std.proofs.Common.{rules, le-leb}
+use Rattle.std.proofs.Common.{le-leb}
 use borrow.Author.Tests.{lt-leb}
 use Rattle.keys.proofs.none_under.Goals as goal
 

@@ -1,5 +1,5 @@
 -- `keys::ordered` meets its contract: four runs, then one by one. The invariant: the verdict so far is that of the first i keys.
-use Rattle.std.proofs.Common.{◌≡◌, ℕ, ◌-◌, ◌*◌, ◌<◌, ◌≤◌, false, sym, ap, ◌∙◌, arith}
+use Rattle.std.proofs.Common.{◌≡◌, ℕ, ◌*◌, false, sym, ap, ◌∙◌, arith}
 use Rattle.words.specs.Words.{table, in_order}
 use Rattle.words.proofs.Tables.{order-none}
 use Rattle.image.specs.Bytes.{u32_at}

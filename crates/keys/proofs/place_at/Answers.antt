@@ -1,5 +1,5 @@
 -- `keys::place_at` meets its contract: the first key that is not under the id is the id, or no key is.
-use Rattle.std.proofs.Common.{◌≡◌, ℕ, ◌<◌, ◌≤◌, sym, ap, ◌∙◌, arith, w32, rules}
+use Rattle.std.proofs.Common.{◌≡◌, ℕ, ◌<◌, ◌≤◌, sym, ap, ◌∙◌, arith, w32}
 use mir.ValLaws.{to_z-of_z}
 use Rattle.keys.specs.Keys.{rank_of, key_at}
 use Rattle.keys.proofs.Orders.{place_found, place_none}

@@ -1,5 +1,5 @@
 -- `keys::place_of` meets its contract: the search, and what stands where it ends.
-use Rattle.std.proofs.Common.{ap, ◌∙◌, w32, rules}
+use Rattle.std.proofs.Common.{ap, ◌∙◌, w32}
 use mir.ValLaws.{to_z-of_z}
 use Rattle.keys.specs.Keys.{place_of}
 use Rattle.keys.proofs.place_of.Goals as goal

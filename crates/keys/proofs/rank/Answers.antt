@@ -1,5 +1,5 @@
 -- `keys::rank` meets its contract: the bits moved up by 2 ^ 31.
-use Rattle.std.proofs.Common.{sym, ap, ◌∙◌, w32, rules}
+use Rattle.std.proofs.Common.{sym, ap, ◌∙◌, w32}
 use mir.ValLaws.{to_z-of_z}
 use Rattle.image.specs.Bytes.{bits32}
 use Rattle.keys.specs.Keys.{biased}

@@ -1,5 +1,5 @@
 -- `keys::rank_at` meets its contract: the bits moved up by 2 ^ 31.
-use Rattle.std.proofs.Common.{ℕ, sym, ap, ◌∙◌, rules}
+use Rattle.std.proofs.Common.{ℕ, sym, ap, ◌∙◌}
 use Rattle.image.specs.Bytes.{i32_at, signed32}
 use Rattle.keys.specs.Keys.{rank_of}
 use Rattle.keys.proofs.Ranks.{rank_signed}

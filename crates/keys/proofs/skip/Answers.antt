@@ -1,5 +1,5 @@
 -- `keys::skip` meets its contract: half of the keys or none, by the rank of the last of them.
-use Rattle.std.proofs.Common.{◌≡◌, ℕ, ◌+◌, ◌-◌, ◌*◌, cond, ltb, ap, ◌∙◌, arith, rules}
+use Rattle.std.proofs.Common.{◌≡◌, ℕ, ◌+◌, ◌-◌, ◌*◌, cond, ltb, ap, ◌∙◌, arith}
 use Rattle.keys.proofs.Skips.{halves, at_most_half}
 use Rattle.keys.proofs.skip.Goals as goal
 

@@ -1,5 +1,5 @@
 -- `keys::under` meets its contract: the quotient is 1 exactly where x is under y.
-use Rattle.std.proofs.Common.{arith, rules}
+use Rattle.std.proofs.Common.{arith}
 use Rattle.keys.proofs.Skips.{under-is}
 use Rattle.keys.proofs.under.Goals as goal
 
