@@ -19,7 +19,7 @@ use keys::Found;
 use numbers::{marks, names};
 
 // Refusals 1 to 3, or none.
-#[derive(Drop)]
+#[derive(Clone, Copy)]
 pub enum Verdict {
     Accepted,
     BadLength,
@@ -28,35 +28,35 @@ pub enum Verdict {
 }
 
 // The id of an attribute, where its name has one.
-#[derive(Drop)]
+#[derive(Clone, Copy)]
 pub enum AttributeId {
     Known(i32),
     Unknown,
 }
 
 // The mark of an effect, where the effect is there.
-#[derive(Drop)]
+#[derive(Clone, Copy)]
 pub enum Mark {
     Known(u8),
     Unknown,
 }
 
 // What a type is. Its volume is 0 where none is given.
-#[derive(Drop)]
+#[derive(Clone, Copy)]
 pub struct TypeInfo {
     pub group: i32,
     pub category: i32,
     pub volume: f64,
 }
 
-#[derive(Drop)]
+#[derive(Clone, Copy)]
 pub enum TypeAnswer {
     Known(TypeInfo),
     Unknown,
 }
 
 // The answers of four types.
-#[derive(Drop)]
+#[derive(Clone, Copy)]
 pub struct FourTypes {
     pub a: TypeAnswer,
     pub b: TypeAnswer,
@@ -65,28 +65,28 @@ pub struct FourTypes {
 }
 
 // A rack or a hardpoint by its number.
-#[derive(Drop)]
+#[derive(Clone, Copy)]
 pub enum SlotAnswer {
     Slot(u8),
     Nothing,
 }
 
 // What a type asks for.
-#[derive(Drop)]
+#[derive(Clone, Copy)]
 pub struct SlotMarks {
     pub rack: SlotAnswer,
     pub hardpoint: SlotAnswer,
 }
 
 // The bases of a type, by their places.
-#[derive(Drop)]
+#[derive(Clone, Copy)]
 pub struct Span {
     pub from: usize,
     pub to: usize,
 }
 
 // A block: where it begins, and how many records it has.
-#[derive(Drop)]
+#[derive(Clone, Copy)]
 pub struct Block {
     pub at: usize,
     pub n: usize,

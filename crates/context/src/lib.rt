@@ -40,7 +40,7 @@ const HARDPOINTS: usize = 1801;
 pub const LIST_HINTS: usize = 64;
 
 // What is kept of a type that is there.
-#[derive(Drop)]
+#[derive(Clone, Copy)]
 struct TypeWords {
     group: u32,
     category: u32,

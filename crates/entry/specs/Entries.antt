@@ -1,5 +1,5 @@
 -- Document 01, "Entry": the numbers and the 24 bytes of an entry, and entries written to a buffer.
-use Rattle.std.specs.Prelude.{ℕ, ◌+◌, ◌*◌, ◌/◌, ◌%◌, ◌^◌, List, [], ◌∷◌, ◌++◌, length, drop, Float}
+use Rattle.std.specs.Prelude.{ℕ, ◌*◌, ◌/◌, ◌%◌, ◌^◌, List, [], ◌∷◌, ◌++◌, length, drop, Float}
 use Rattle.words.specs.Words.{each}
 use Rattle.image.specs.Bytes.{bits32, le}
 use Rattle.floats.specs.Floats.{f64_bits}

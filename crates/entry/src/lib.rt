@@ -1,4 +1,6 @@
 // Entries: a rule that the fit breaks and what breaks it, and their 24 bytes. Document 01, "Entry"; Rust's `Violation`.
+#![tactic(auto)]
+
 ghost use Rattle.std.specs.Prelude.{◌≡◌, [], ◌∷◌, ◌++◌, ◌+◌, ◌*◌, ◌/◌, ◌%◌, ◌<◌, ◌≤◌, ◌^◌, length};
 ghost use Rattle.words.specs.Words.{when};
 ghost use Rattle.image.specs.Bytes.{bits32, le, put};
@@ -7,7 +9,7 @@ ghost use Rattle.entry.specs.Packing.{fields_of};
 ghost use Rattle.entry.specs.Wrote.{Room, Wrote};
 
 // What an entry is about: the ship, or an item by its pair index.
-#[derive(Drop)]
+#[derive(Clone, Copy)]
 pub enum Target {
     Ship,
     Item(u32),
@@ -15,7 +17,7 @@ pub enum Target {
 
 // Rust's `Rule` from Resource to NotASkill, in its order and with its fields; then the rules of a league, and the type that is missing.
 // Resources, slots and limits are the numbers of their enums, from 0.
-#[derive(Drop)]
+#[derive(Clone, Copy)]
 pub enum Rule {
     // resource, used, available
     Resource(u8, f64, f64),
@@ -56,14 +58,14 @@ pub enum Rule {
 }
 
 // Rust's `Violation`.
-#[derive(Drop)]
+#[derive(Clone, Copy)]
 pub struct Entry {
     pub target: Target,
     pub rule: Rule,
 }
 
 // What stands in an entry beside its target: the rule's number, its sub, and the four words of its payload.
-#[derive(Drop)]
+#[derive(Clone, Copy)]
 struct Packed {
     code: u8,
     sub: u8,

@@ -15,7 +15,7 @@ use floats::Value;
 use keys::Found;
 
 // What is said of a fit: accepted, or refused by 4, 5 or 6.
-#[derive(Drop)]
+#[derive(Clone, Copy)]
 pub enum Verdict {
     Accepted,
     BadSize,
@@ -24,7 +24,7 @@ pub enum Verdict {
 }
 
 // The ship's mode, where one is chosen.
-#[derive(Drop)]
+#[derive(Clone, Copy)]
 pub enum ModeAnswer {
     Mode(i32),
     Nothing,

@@ -73,7 +73,7 @@ pub fn put_f64(out: &mut [u8], at: usize, x: f64)
 }
 
 // A value that a result or a type may lack: what `value` and `base_value` answer.
-#[derive(Drop)]
+#[derive(Clone, Copy)]
 pub enum Value {
     Given(f64),
     Missing,
@@ -160,7 +160,7 @@ fn abs(x: f64) -> f64
 }
 
 // What is used of a resource, and what there is of it.
-#[derive(Drop)]
+#[derive(Clone, Copy)]
 pub struct Load {
     pub used: f64,
     pub available: f64,

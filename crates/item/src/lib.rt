@@ -81,7 +81,7 @@ const STANDUP_FIGHTERS: [u32; 3] = [
 const NO_ID: u64 = 4294967296;
 
 // What an item lists: whether it lists anything, and whether the ship is among it.
-#[derive(Drop)]
+#[derive(Clone, Copy)]
 pub struct Listing {
     pub any: bool,
     pub has: bool,

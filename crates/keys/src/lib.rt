@@ -7,14 +7,14 @@ ghost use Rattle.image.specs.Bytes.{u32_at};
 ghost use Rattle.keys.specs.Keys.{key_at, rank_of, Sorted, Parts, place_of, found_of, sign, biased, stands};
 
 // A place in a slice, or none.
-#[derive(Drop)]
+#[derive(Clone, Copy)]
 pub enum Found {
     At(usize),
     Nothing,
 }
 
 // A place for each of four ids.
-#[derive(Drop)]
+#[derive(Clone, Copy)]
 pub struct Four {
     pub a: usize,
     pub b: usize,

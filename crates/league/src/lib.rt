@@ -66,7 +66,7 @@ fn cost_of(price: u32) -> u32
 }
 
 // How many entries there are, and the points so far.
-#[derive(Drop)]
+#[derive(Clone, Copy)]
 struct Spent {
     n: usize,
     points: u32,

@@ -17,7 +17,7 @@ use floats::Value;
 use numbers::{limits, names, states};
 
 // A group limit, the lowest state that it counts, and its attribute.
-#[derive(Drop)]
+#[derive(Clone, Copy)]
 struct Row {
     limit: u8,
     lowest: u8,
@@ -43,7 +43,7 @@ const GROUP_LIMITS: [Row; 3] = [
 ];
 
 // A row whose attribute was looked up.
-#[derive(Drop)]
+#[derive(Clone, Copy)]
 struct Limit {
     limit: u8,
     lowest: u8,

@@ -82,7 +82,7 @@ fn unknown_types(
 }
 
 // What a list call asks for: whose list it is, and the points that a league allows.
-#[derive(Drop)]
+#[derive(Clone, Copy)]
 pub struct Asked {
     pub reader: u32,
     pub allowance: u32,

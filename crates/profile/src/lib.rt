@@ -1,4 +1,6 @@
 // A league profile: groups that a tournament's host bans or prices. Document 02, P2.
+#![tactic(auto)]
+
 ghost use Rattle.std.specs.Prelude.{◌≡◌, ◌+◌, ◌*◌, ◌≤◌, ◌<◌, length};
 ghost use Rattle.words.specs.Words.{table, any_of};
 ghost use Rattle.image.specs.Bytes.{u32_at};

@@ -13,7 +13,7 @@ use entry::{Entry, Rule, Target};
 use numbers::{names, slots};
 
 // A slot, and the name of the ship attribute saying how many of them it has.
-#[derive(Drop)]
+#[derive(Clone, Copy)]
 struct Row {
     slot: u8,
     name: u32,
@@ -101,7 +101,7 @@ fn on_hardpoint(catalogue: &[u8], fit: &[u8], facts: &[u32; 2058], slot: u8) -> 
 }
 
 // A row, and how many items take one of what it names.
-#[derive(Drop)]
+#[derive(Clone, Copy)]
 struct Count {
     slot: u8,
     name: u32,

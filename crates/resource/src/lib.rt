@@ -21,7 +21,7 @@ use floats::Load;
 use numbers::{names, resources, slots, states};
 
 // A resource, the name of its load, the name of its output.
-#[derive(Drop)]
+#[derive(Clone, Copy)]
 struct Row {
     kind: u8,
     load: u32,

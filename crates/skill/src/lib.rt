@@ -25,7 +25,7 @@ use numbers::names;
 use numbers::sizes::MOST_WANTED;
 
 // The names of a skill and of the level it wants.
-#[derive(Drop)]
+#[derive(Clone, Copy)]
 struct Row {
     skill: u32,
     level: u32,
@@ -59,7 +59,7 @@ const REQUIRED: [Row; 6] = [
 ];
 
 // The attributes of a skill and of its level, for each row whose names both have one.
-#[derive(Drop)]
+#[derive(Clone, Copy)]
 struct Required {
     skills: [i32; 6],
     levels: [i32; 6],
@@ -67,7 +67,7 @@ struct Required {
 }
 
 // What one requirement asks for.
-#[derive(Drop)]
+#[derive(Clone, Copy)]
 enum Asked {
     Skill(i32, u8),
     Nothing,

@@ -24,7 +24,7 @@ use floats::Value;
 use numbers::{categories, names, slots};
 
 // The attributes that the checks look up by name.
-#[derive(Drop)]
+#[derive(Clone, Copy)]
 struct Ids {
     implantness: AttributeId,
     boosterness: AttributeId,
@@ -128,7 +128,7 @@ fn slot_number(catalogue: &[u8], fit: &[u8], ids: Ids, i: usize) -> AttributeId
 }
 
 // The index that an item should have, where it has another.
-#[derive(Drop)]
+#[derive(Clone, Copy)]
 enum Expected {
     Index(u16),
     Nothing,
@@ -246,7 +246,7 @@ fn is_module(answer: TypeAnswer) -> bool
 }
 
 // What the checks look at of a pair. A rack of 8 or above is none; `taken` is its slot, `covered` its part of the ship, by another.
-#[derive(Drop)]
+#[derive(Clone, Copy)]
 struct Item {
     position: u32,
     slot: u8,

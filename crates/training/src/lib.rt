@@ -26,14 +26,14 @@ const ROOM: usize = sizes::MOST_SKILLS + 2 * sizes::MOST_WANTED;
 const ROOM_BYTES: usize = 4 * ROOM;
 
 // Where skills stand in two arrays: from which place on, and how many.
-#[derive(Drop)]
+#[derive(Clone, Copy)]
 struct Span {
     from: usize,
     len: usize,
 }
 
 // After a turn: where the skills stand, and how many steps are left.
-#[derive(Drop)]
+#[derive(Clone, Copy)]
 struct Left {
     from: usize,
     len: usize,

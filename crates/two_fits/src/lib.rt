@@ -8,14 +8,14 @@ ghost use Rattle.promises.specs.Compare.{Bytes};
 ghost use Rattle.two_fits.specs.Kept.{left, ListsKept, SkillsKept, HeldOnce, ListsHauled, SkillsHauled};
 
 // The words of an old and of a new call.
-#[derive(Drop)]
+#[derive(Clone, Copy)]
 pub struct Words {
     pub old: u64,
     pub new: u64,
 }
 
 // What the page of one call takes.
-#[derive(Drop)]
+#[derive(Clone, Copy)]
 pub struct Page {
     pub pairs: u32,
     pub skills: u32,

@@ -8,20 +8,21 @@ use Rattle.profile.proofs.number.Statement.{statement}
 use Rattle.profile.proofs.number.Tie as tie
 
 -- past 11
-passed : (c : tie.Else1) → bad_profile c.before.before.before.args.profile.now ≡ false
-passed c = sym c.before.bad-profile.ensures ∙ c.if1.false
 
-returns : tie.Need-returns
-returns c = sym (number-11 _ (sym c.before.bad-profile.ensures ∙ c.if1.true))
+passed : (c : tie.Else-bad_profile) → bad_profile c.args.profile.now ≡ false
+passed c = sym c.bad_profile.ensures ∙ c.if-bad_profile.false
 
-bad-prices-requires : tie.Need-bad-prices-requires
+returns : tie.Need-returns-then-bad_profile
+returns c = sym (number-11 _ (sym c.bad_profile.ensures ∙ c.if-bad_profile.true))
+
+bad-prices-requires : tie.Need-bad_prices-requires
 bad-prices-requires c κs = sized _ (passed c)
 
-returns-2 : tie.Need-returns-2
-returns-2 c = sym (number-12 _ (passed c.before.before) (sym c.before.bad-prices.ensures ∙ c.if2.true))
+returns-2 : tie.Need-returns-then-bad_prices
+returns-2 c = sym (number-12 _ (passed c.before.before) (sym c.bad_prices.ensures ∙ c.if-bad_prices.true))
 
-returns-3 : tie.Need-returns-3
-returns-3 c = sym (number-0 _ (passed c.before.before) (sym c.before.bad-prices.ensures ∙ c.if2.false))
+returns-3 : tie.Need-returns
+returns-3 c = sym (number-0 _ (passed c.before.before) (sym c.bad_prices.ensures ∙ c.if-bad_prices.false))
 
-pub number-spec : {M : Type 1} → statement M
-number-spec = tie.close (tie.spec (λ c κs. search rules) returns bad-prices-requires returns-2 returns-3)
+pub number_spec : {M : Type 1} → statement M
+number_spec = tie.close (tie.spec (λ c κs. search rules) returns bad-prices-requires returns-2 returns-3)

@@ -17,100 +17,82 @@ use Rattle.profile.proofs.points_of.Statement.{statement}
 use Rattle.profile.proofs.points_of.Tie as tie
 
 -- it has groups, and the bytes for them
-whole : (c : tie.Else1) → let b = c.before.before.before.args.profile.now in length b ≡ size_of b
+
+whole : (c : tie.Else-n-eq0) → let b = c.args.profile.now in length b ≡ size_of b
 whole c =
-    let b = c.before.before.before.args.profile.now in
-    long b c.before.before.before.requires.sized (omega (arith, c.before.group-count.ensures, c.if1.false))
+    let b = c.args.profile.now in
+    long b c.requires.sized (omega (arith, c.group_count-n.ensures, c.if-n-eq0.false))
 
 -- what is searched are the groups
-searched : (c : tie.After-part) → let b = c.before.before.before.before.args.profile.now in c.part.result.now ≡ groups b
+searched : (c : tie.After-part-groups) → let b = c.args.profile.now in c.part-groups.result.now ≡ groups b
 searched c =
-    let b = c.before.before.before.before.args.profile.now in
-    c.part.ensures ∙ ap (λ (n : ℕ). take (4 * n) (drop 4 b)) c.before.before.group-count.ensures
+    let b = c.args.profile.now in
+    c.part-groups.ensures ∙ ap (λ (n : ℕ). take (4 * n) (drop 4 b)) c.group_count-n.ensures
 
 -- what the search says
-told : (c : tie.After-place-of) → let a = c.before.before.before.before.before.args in
-    found_of c.place_of.result ≡ place_of (groups a.profile.now) (group_count a.profile.now) a.group
+told : (c : tie.After-place_of-found) → let a = c.args in
+    found_of c.place_of-found.result ≡ place_of (groups a.profile.now) (group_count a.profile.now) a.group
 told c =
-    let s = c.before.before.before.before.before in
-    c.place_of.ensures
-    ∙ place-alike _ _ _ _ (searched c.before) c.before.before.before.group-count.ensures _ _
-    (to_z-of_z w32 s.args.group s.ranges.group)
+    c.place_of-found.ensures
+    ∙ place-alike _ _ _ _ (searched c.before) c.group_count-n.ensures _ _
+    (to_z-of_z w32 c.args.group c.ranges.group)
 
 -- the group stands at place i of the groups
-place : (c : tie.After-known-told) → let a = c.before.before.before.before.before.before.before.before.args in
-    place_of (groups a.profile.now) (group_count a.profile.now) a.group ≡ some c.before.found.given.0.0
-place c = sym (told c.before.before.before) ∙ ap found_of c.before.found.given.1
+place : (c : tie.In-At) → let a = c.args in
+    place_of (groups a.profile.now) (group_count a.profile.now) a.group ≡ some c.in-At.i
+place c = sym (told c.before) ∙ ap found_of c.in-At.is
 
 -- its points stand within the profile
-within : (c : tie.After-known-told) → let b = c.before.before.before.before.before.before.before.before.args.profile.now in
-    (c.before.before.before.before.before.before.group-count.result ≡ group_count b)
-    × (c.before.found.given.0.0 < group_count b)
+within : (c : tie.In-At) → let b = c.args.profile.now in
+    (c.group_count-n.result ≡ group_count b)
+    × (c.in-At.i < group_count b)
     × (length b ≡ size_of b)
     × (group_count b ≤ 4096)
 within c =
-    let s = c.before.before.before.before.before.before.before.before in
-    let b = s.args.profile.now in (
-      c.before.before.before.before.before.before.group-count.ensures,
-      place-below (groups b) (group_count b) s.args.group c.before.found.given.0.0 (place c),
-      whole c.before.before.before.before.before,
-      s.requires.sized.few,
+    let b = c.args.profile.now in (
+      c.group_count-n.ensures,
+      place-below (groups b) (group_count b) c.args.group c.in-At.i (place c),
+      whole c.before.before.before,
+      c.requires.sized.few,
     )
 
-returns : tie.Need-returns
+returns : tie.Need-returns-then-n-eq0
 returns c =
-    let a = c.before.before.before.args in
-    sym (points_none a.profile.now (omega (arith, c.before.group-count.ensures, c.if1.true)) a.group)
+    let a = c.args in
+    sym (points_none a.profile.now (omega (arith, c.group_count-n.ensures, c.if-n-eq0.true)) a.group)
 
-part-requires : tie.Need-part-requires
-part-requires c κs = omega (arith, whole c, c.before.group-count.ensures)
+part-requires : tie.Need-part-groups-requires
+part-requires c κs = omega (arith, whole c, c.group_count-n.ensures)
 
-place-of-requires : tie.Need-place-of-requires
+place-of-requires : tie.Need-place_of-found-requires
 place-of-requires c κs =
-    let s = c.before.before.before.before in
-    let b = s.args.profile.now in
-    let n = c.before.before.group-count in (
-      omega (arith, ap length c.part.ensures, part_length b 4 (4 * n.result) (omega (arith, whole c.before, n.ensures))),
-      sorted_alike _ _ _ _ (searched c) n.ensures (groups_sorted b s.requires),
+    let b = c.args.profile.now in
+    let n = c.group_count-n in (
+      omega (arith, ap length c.part-groups.ensures, part_length b 4 (4 * n.result) (omega (arith, whole c.before, n.ensures))),
+      sorted_alike _ _ _ _ (searched c) n.ensures (groups_sorted b c.requires),
     )
 
-mul-u32-at-2 : tie.Need-overflow-mul-u32-at-2
+mul-u32-at-2 : tie.Need-overflow_mul-i
 mul-u32-at-2 c = omega (arith, within c)
 
-add-u32-at-2 : tie.Need-overflow-add-u32-at-2
+add-u32-at-2 : tie.Need-overflow_add-n-in-At
 add-u32-at-2 c = omega (arith, within c)
 
-u32-at-requires : tie.Need-u32-at-requires
+u32-at-requires : tie.Need-u32_at-requires
 u32-at-requires c κs = omega (arith, within c)
 
-returns-2 : tie.Need-returns-2
+returns-2 : tie.Need-returns-in-At
 returns-2 c =
-    let a = c.before.before.before.before.before.before.before.before.before.args in
+    let a = c.args in
     let b = a.profile.now in
-    let i = c.before.before.found.given.0.0 in
-    c.u32-at.ensures ∙ ap (λ (n : ℕ). u32_at b (4 + 4 * n + 4 * i)) (within c.before).0
+    let i = c.in-At.i in
+    c.u32_at.ensures ∙ ap (λ (n : ℕ). u32_at b (4 + 4 * n + 4 * i)) (within c.before).0
     ∙ sym (points-given b a.group i (place c.before))
 
-returns-3 : tie.Need-returns-3
+returns-3 : tie.Need-returns-in-Nothing
 returns-3 c =
-    let a = c.before.before.before.before.before.before.before.args in
-    sym (points-missing a.profile.now a.group (sym (told c.before.before) ∙ ap found_of c.enum_told.given.1))
+    let a = c.args in
+    sym (points-missing a.profile.now a.group (sym (told c.before) ∙ ap found_of c.in-Nothing.is))
 
-pub points-of-spec : {M : Type 1} → statement M
-points-of-spec =
-    tie.close
-    (tie.spec
-    (λ c κs. search rules)
-    returns
-    (λ c. search rules)
-    part-requires
-    place-of-requires
-    (λ c. search rules)
-    (λ c. search rules)
-    (λ c. search rules)
-    mul-u32-at-2
-    add-u32-at-2
-    u32-at-requires
-    (λ c. search rules)
-    returns-2
-    returns-3)
+pub points_of_spec : {M : Type 1} → statement M
+points_of_spec = tie.close (tie.spec (λ c κs. search rules) returns (λ c. search rules) part-requires place-of-requires (λ c. search rules) (λ c. search rules) (λ c. search rules) mul-u32-at-2 add-u32-at-2 u32-at-requires (λ c. search rules) returns-2 returns-3)
