@@ -2,7 +2,7 @@
 use Prim.Native.Nat.{ℕ, ◌+◌, ◌-◌, ◌*◌, ◌≤◌, ◌<◌}
 use native.Mathlib.Omega.{arith}
 use mathlib.Core.Path.{◌≡◌, refl, sym, ap, ◌∙◌}
-use mathlib.Core.Bool.{Bool, true, false, and_false}
+use mathlib.Core.Bool.{Bool, true, false, and-false}
 use mathlib.Core.List.{List, [], ◌∷◌, ◌++◌, foldl, foldl-append, append-nil}
 use mathlib.Core.Option.{Option, none, some}
 use lib.ListN.{take, drop}
@@ -28,7 +28,7 @@ module _ (low high : ℕ) (found : Option ℕ) (m : ℕ) where
   marked-low h = rw (lt-leb low m h)
 
   pub marked-high : high < m → found ≡ marked low high found m
-  marked-high h = rw (lt-leb m high h, and_false (leb low m))
+  marked-high h = rw (lt-leb m high h, and-false (leb low m))
 
   pub marked-in : low ≤ m → m ≤ high → some (m - 1) ≡ marked low high found m
   marked-in g h = rw (le-leb low m g, le-leb m high h)

@@ -1,4 +1,6 @@
 // The catalogue: where its blocks are, and how it is read. Document 01, "Records".
+#![tactic(auto)]
+
 ghost use Rattle.std.specs.Prelude.{◌≡◌, cond, ◌+◌, ◌*◌, ◌<◌, ◌≤◌, length, take, drop, eqb};
 ghost use mathlib.Core.List.{foldl};
 ghost use Rattle.std.proofs.Math.Option.{none, some};

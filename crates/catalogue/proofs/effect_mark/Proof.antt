@@ -15,52 +15,37 @@ use borrow.Author.Rules.{rules}
 use Rattle.catalogue.proofs.effect_mark.Statement.{statement}
 use Rattle.catalogue.proofs.effect_mark.Tie as tie
 
-found : (c : tie.After-find-key) → let a = c.before.before.before.before.before.args in found_of c.find-key.result ≡ find
+found : (c : tie.After-find_key-found) → let a = c.args in found_of c.find_key-found.result ≡ find
     (λ j. same (effect_at a.catalogue.now j).id a.id) (from 0 (effect_count a.catalogue.now))
 found c =
-    let a = c.before.before.before.before.before in
-    let e = c.before.before.effects.ensures in
-    c.find-key.ensures ∙ simp (e.0, e.1, to_z-of_z w32 a.args.id a.ranges.id)
+    let e = c.effects.ensures in
+    c.find_key-found.ensures ∙ simp (e.0, e.1, to_z-of_z w32 c.args.id c.ranges.id)
 
-find-key-requires : tie.Need-find-key-requires
+find-key-requires : tie.Need-find_key-found-requires
 find-key-requires c κs =
-    let a = c.before.before.before.before in
-    let e = c.before.effects.ensures in
-    (search rules, rw (e.0, e.1) (effects-sorted a.args.catalogue.now a.requires))
+    let e = c.effects.ensures in
+    (search rules, rw (e.0, e.1) (effects-sorted c.args.catalogue.now c.requires))
 
-mark-at-requires : tie.Need-mark-at-requires
+mark-at-requires : tie.Need-mark_at-requires
 mark-at-requires c κs =
-    let f = c.before.before.before.before.before in
-    (f.before.before.before.before.before.requires, find-below _ _ _ (sym (found f) ∙ ap found_of c.before.found.given.1))
+    (c.requires, find-below _ _ _ (sym (found c.before.before.before) ∙ ap found_of c.in-At.is))
 
 -- what is made of the answer of the search
-answer : (c : tie.After-find-key) (o : Option ℕ) → found_of
-    c.find-key.result ≡ o → let a = c.before.before.before.before.before.args in given o none
+answer : (c : tie.After-find_key-found) (o : Option ℕ) → found_of
+    c.find_key-found.result ≡ o → let a = c.args in given o none
     (λ j. some (effect_at a.catalogue.now j).mark) ≡ effect_mark (catalogue_of a.catalogue.now) a.id
 answer c o e =
-    let a = c.before.before.before.before.before.args in
+    let a = c.args in
     sym (effect-search a.catalogue.now a.id ∙ ap (λ (x : Option ℕ). given x none (λ j. some (effect_at a.catalogue.now j).mark)) (sym (found c) ∙ e))
 
-returns : tie.Need-returns
+returns : tie.Need-returns-in-At
 unfolding given
 returns c =
-    let f = c.before.before.before.before.before.before in
-    ap some c.mark-at.ensures ∙ answer f _ (ap found_of c.before.before.found.given.1)
+    ap some c.mark_at.ensures ∙ answer c.before.before.before.before _ (ap found_of c.in-At.is)
 
-returns-2 : tie.Need-returns-2
+returns-2 : tie.Need-returns-in-Nothing
 unfolding given
-returns-2 c = answer c.before.before.before.before none (ap found_of c.enum_told.given.1)
+returns-2 c = answer c.before.before.before none (ap found_of c.in-Nothing.is)
 
-pub effect-mark-spec : {M : Type 1} → statement M
-effect-mark-spec =
-    tie.close
-    (tie.spec
-    (λ c κs. search rules)
-    find-key-requires
-    (λ c. search rules)
-    mark-at-requires
-    (λ c. search rules)
-    (λ c. search rules)
-    returns
-    (λ c. search rules)
-    returns-2)
+pub effect_mark_spec : {M : Type 1} → statement M
+effect_mark_spec = tie.close (tie.spec (λ c κs. search rules) find-key-requires (λ c. search rules) mark-at-requires (λ c. search rules) (λ c. search rules) returns (λ c. search rules) returns-2)

@@ -11,41 +11,26 @@ use Rattle.catalogue.proofs.first_key.Statement.{statement}
 use Rattle.catalogue.proofs.first_key.Tie as tie
 
 -- the keys are in order in their part
-sorted : (c : tie.After-keys-of) → Sorted c.keys_of.result.now c.before.before.before.args.b.n
-sorted c = let a = c.before.before.before in subst (λ (l : List ℕ). Sorted l a.args.b.n) (sym c.keys_of.ensures.0) a.requires.1
 
-first-from-requires : tie.Need-first-from-requires
-first-from-requires c κs = (omega (arith, c.before.before.keys_of.ensures.1), sorted c.before.before)
+sorted : (c : tie.After-keys_of-keys) → Sorted c.keys_of-keys.result.now c.args.b.n
+sorted c = subst (λ (l : List ℕ). Sorted l c.args.b.n) (sym c.keys_of-keys.ensures.0) c.requires.1
 
-returns : tie.Need-returns
+first-from-requires : tie.Need-first_from-requires
+first-from-requires c κs = (omega (arith, c.keys_of-keys.ensures.1), sorted c.before.before)
+
+returns : tie.Need-returns-then-hints-k
 returns c =
-    let a = c.before.before.before.before.before.before in
-    rw (c.before.before.before.keys_of.ensures.0, to_z-of_z w32 a.args.id a.ranges.id) at c.first-from.ensures
+    rw (c.keys_of-keys.ensures.0, to_z-of_z w32 c.args.id c.ranges.id) at c.first_from.ensures
 
-cast-first-near : tie.Need-overflow-cast-first-near
-cast-first-near c = search (rules, c.slice-known2.given c.before.before.hint-of.result)
+cast-first-near : tie.Need-overflow_cast-hints
+cast-first-near c = search (rules, c.slice_known-2-1.given c.hint_of-k.result)
 
-first-near-requires : tie.Need-first-near-requires
-first-near-requires c κs = (omega (arith, c.before.before.before.keys_of.ensures.1), sorted c.before.before.before)
+first-near-requires : tie.Need-first_near-r-requires
+first-near-requires c κs = (omega (arith, c.keys_of-keys.ensures.1), sorted c.before.before.before)
 
-returns-2 : tie.Need-returns-2
+returns-2 : tie.Need-returns
 returns-2 c =
-    let n = c.before.before.before.before in
-    let a = n.before.before.before.before.before.before.before in
-    rw (n.before.before.before.before.keys_of.ensures.0, to_z-of_z w32 a.args.id a.ranges.id) at n.first-near.ensures
+    rw (c.keys_of-keys.ensures.0, to_z-of_z w32 c.args.id c.ranges.id) at c.first_near-r.ensures
 
-pub first-key-spec : {M : Type 1} → statement M
-first-key-spec =
-    tie.close
-    (tie.spec
-    (λ c κs. search rules)
-    (λ c κs. search rules)
-    first-from-requires
-    returns
-    (λ c. search rules)
-    (λ c. search rules)
-    cast-first-near
-    first-near-requires
-    (λ c κs. search rules)
-    (λ c. search rules)
-    returns-2)
+pub first_key_spec : {M : Type 1} → statement M
+first_key_spec = tie.close (tie.spec (λ c κs. search rules) (λ c κs. search rules) first-from-requires returns (λ c. search rules) (λ c. search rules) cast-first-near first-near-requires (λ c κs. search rules) (λ c. search rules) returns-2)

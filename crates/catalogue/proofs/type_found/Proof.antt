@@ -16,45 +16,40 @@ use borrow.Author.Rules.{rules}
 use Rattle.catalogue.proofs.type_found.Statement.{statement}
 use Rattle.catalogue.proofs.type_found.Tie as tie
 
-found : (c : tie.After-found-at) → let a = c.before.before.before.args in found_of c.found_at.result ≡ find
+found : (c : tie.After-found_at-found) → let a = c.args in found_of c.found_at-found.result ≡ find
     (λ j. same (type_at a.catalogue.now j).id a.id) (from 0 (type_count a.catalogue.now))
 found c =
-    let a = c.before.before.before in
-    let e = c.before.types.ensures in
-    c.found_at.ensures ∙ simp (e.0, e.1, to_z-of_z w32 a.args.id a.ranges.id)
+    let e = c.types.ensures in
+    c.found_at-found.ensures ∙ simp (e.0, e.1, to_z-of_z w32 c.args.id c.ranges.id)
 
-found-at-requires : tie.Need-found-at-requires
+found-at-requires : tie.Need-found_at-found-requires
 found-at-requires c κs =
-    let a = c.before.before in
     let e = c.types.ensures in (
-      (search rules, rw (e.0, e.1) (types-sorted a.args.catalogue.now a.requires.0)),
-      rw (e.0, e.1, to_z-of_z w32 a.args.id a.ranges.id) a.requires.1,
+      (search rules, rw (e.0, e.1) (types-sorted c.args.catalogue.now c.requires.0)),
+      rw (e.0, e.1, to_z-of_z w32 c.args.id c.ranges.id) c.requires.1,
     )
 
-type-at-requires : tie.Need-type-at-requires
+type-at-requires : tie.Need-type_at-requires
 type-at-requires c κs =
-    let f = c.before.before.before in
-    (f.before.before.before.requires.0.size, find-below _ _ _ (sym (found f) ∙ ap found_of c.before.found.given.1))
+    (c.requires.0.size, find-below _ _ _ (sym (found c.before) ∙ ap found_of c.in-At.is))
 
 -- what is made of the answer of the search
-answer : (c : tie.After-found-at) (o : Option ℕ) → found_of
-    c.found_at.result ≡ o → let a = c.before.before.before.args in given o none
+answer : (c : tie.After-found_at-found) (o : Option ℕ) → found_of
+    c.found_at-found.result ≡ o → let a = c.args in given o none
     (λ j. some (info_of_type (type_at a.catalogue.now j))) ≡ given (type_of (catalogue_of a.catalogue.now) a.id) none (λ x. some (info_of_type x))
 answer c o e =
-    let a = c.before.before.before.args in
+    let a = c.args in
     sym (type-search a.catalogue.now a.id ∙ ap (λ (x : Option ℕ). given x none (λ j. some (info_of_type (type_at a.catalogue.now j))))
     (sym (found c) ∙ e))
 
-returns : tie.Need-returns
+returns : tie.Need-returns-in-At
 unfolding given
 returns c =
-    let f = c.before.before.before.before in
-    ap some c.type_at.ensures ∙ answer f _ (ap found_of c.before.before.found.given.1)
+    ap some c.type_at.ensures ∙ answer c.before.before _ (ap found_of c.in-At.is)
 
-returns-2 : tie.Need-returns-2
+returns-2 : tie.Need-returns-in-Nothing
 unfolding given
-returns-2 c = answer c.before.before none (ap found_of c.enum_told.given.1)
+returns-2 c = answer c.before none (ap found_of c.in-Nothing.is)
 
-pub type-found-spec : {M : Type 1} → statement M
-type-found-spec =
-    tie.close (tie.spec (λ c κs. search rules) found-at-requires (λ c. search rules) type-at-requires (λ c. search rules) returns returns-2)
+pub type_found_spec : {M : Type 1} → statement M
+type_found_spec = tie.close (tie.spec (λ c κs. search rules) found-at-requires (λ c. search rules) type-at-requires (λ c. search rules) returns returns-2)

@@ -12,44 +12,33 @@ use Rattle.catalogue.proofs.with_link.Statement.{statement}
 use Rattle.catalogue.proofs.with_link.Tie as tie
 
 -- what the lookup of the link's effect says
-told : (c : tie.After-effect-mark) → let a = c.before.before.before.before.before.before.args in mark_of c.effect-mark.result ≡ effect_mark
+
+told : (c : tie.After-effect_mark-mark) → let a = c.args in mark_of c.effect_mark-mark.result ≡ effect_mark
     (catalogue_of a.catalogue.now) (link_at a.catalogue.now a.i).effect
 told c =
-    let a = c.before.before.before.before.before.before.args in
-    let i = c.before.before.id-at in
-    let e = c.before.before.before.links.ensures in
-    c.effect-mark.ensures
-    ∙ ap (effect_mark (catalogue_of a.catalogue.now)) (to_z-of_z w32 i.result (record { sfits = i.type-inv }) ∙ i.ensures ∙ rw (e.0, e.1))
+    let a = c.args in
+    let i = c.id_at-effect in
+    let e = c.links.ensures in
+    c.effect_mark-mark.ensures
+    ∙ ap (effect_mark (catalogue_of a.catalogue.now)) (to_z-of_z w32 i.result (record { sfits = i.type_inv }) ∙ i.ensures ∙ rw (e.0, e.1))
 
-id-at-requires : tie.Need-id-at-requires
+id-at-requires : tie.Need-id_at-effect-requires
 id-at-requires c κs =
-    let p = c.before.before.before.requires in
+    let p = c.requires in
     let e = c.links.ensures in
     (omega (arith, e, p.0.size), omega (arith, e, p.1))
 
-returns : tie.Need-returns
+returns : tie.Need-returns-in-Known
 unfolding ◌>>=◌
 returns c =
-    let e = sym (told c.before.before.before.before.before.before) ∙ ap mark_of c.before.before.mark.given.1 in
-    rw e c.with-mark.ensures
+    let e = sym (told c.before.before.before.before) ∙ ap mark_of c.in-Known.is in
+    rw e c.with_mark.ensures
 
-returns-2 : tie.Need-returns-2
+returns-2 : tie.Need-returns-in-Unknown
 unfolding ◌>>=◌
 returns-2 c =
-    let e = sym (told c.before.before.before.before) ∙ ap mark_of c.enum_told.given.1 in
+    let e = sym (told c.before.before.before) ∙ ap mark_of c.in-Unknown.is in
     rw e (refl, refl)
 
-pub with-link-spec : {M : Type 1} → statement M
-with-link-spec =
-    tie.close
-    (tie.spec
-    (λ c κs. search rules)
-    id-at-requires
-    (λ c κs. search rules)
-    (λ c. search rules)
-    (λ c κs. search rules)
-    (λ c. search rules)
-    (λ c. search rules)
-    returns
-    (λ c. search rules)
-    returns-2)
+pub with_link_spec : {M : Type 1} → statement M
+with_link_spec = tie.close (tie.spec (λ c κs. search rules) id-at-requires (λ c κs. search rules) (λ c. search rules) (λ c κs. search rules) (λ c. search rules) (λ c. search rules) returns (λ c. search rules) returns-2)

@@ -1,0 +1,16 @@
+-- `catalogue::mark_at` meets its contract: the value stands behind all keys, and is at most 8.
+use native.Mathlib.Omega.{arith}
+use mathlib.Core.Path.{◌≡◌, ◌∙◌}
+use Rattle.catalogue.specs.Catalogue.{effect_at}
+use Rattle.catalogue.proofs.Reading.{mark-small}
+use Rattle.catalogue.proofs.mark_at.Goals as goal
+
+read : (c : goal.After-u32_at) → let a = c.args in c.u32_at.result ≡ (effect_at a.catalogue.now a.i).mark
+read c = let e = c.effects-b.ensures in c.u32_at.ensures ∙ rw (e.0, e.1)
+
+pub overflow_cast-result : goal.overflow_cast-result
+overflow_cast-result c =
+    omega (arith, read c, mark-small c.args.catalogue.now c.requires.0 c.args.i c.requires.1)
+
+pub returns : goal.returns
+returns c = read c
