@@ -1,4 +1,6 @@
 // Refusals 1 to 3 of document 01: each is one pass over the whole catalogue.
+#![tactic(auto)]
+
 ghost use Rattle.std.specs.Prelude.{◌≡◌, ℕ, ◌+◌, ◌*◌, ◌^◌, ◌<◌, ◌≤◌, length, ltb};
 ghost use Rattle.std.specs.Int.Signed.{lt_z, le_z};
 ghost use Rattle.words.specs.Words.{table, any_of, in_order};

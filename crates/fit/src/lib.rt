@@ -1,4 +1,6 @@
 // The fit's image: its fields, and what each result reached. Document 01, "Records".
+#![tactic(auto)]
+
 pub mod layout;
 
 ghost use Rattle.std.specs.Prelude.{◌≡◌, ◌+◌, ◌*◌, ◌<◌, ◌≤◌, min, length, get_or, take, drop};

@@ -5,44 +5,25 @@ use Rattle.catalogue.proofs.Blocks.{name_over, mark-over, flag_over, bad-field}
 use Rattle.catalogue_refusals.proofs.bad_field.Statement.{statement}
 use Rattle.catalogue_refusals.proofs.bad_field.Tie as tie
 
-names : (c : tie.After-any-above) → c.any-above.result ≡ name_over c.before.before.before.args.catalogue.now
-names c = c.any-above.ensures ∙ simp (c.before.names.ensures.0, c.before.names.ensures.1)
+names : (c : tie.After-any_above) → c.any_above.result ≡ name_over c.args.catalogue.now
+names c = c.any_above.ensures ∙ simp (c.names-n.ensures.0, c.names-n.ensures.1)
 
-marks : (c : tie.After-any-above2) → c.any-above2.result ≡ mark-over c.before.before.before.before.before.before.before.before.args.catalogue.now
-marks c = let e = c.before.before.before.effects.ensures in c.any-above2.ensures ∙ simp (e.0, e.1)
+marks : (c : tie.After-any_above-2) → c.any_above-2.result ≡ mark-over c.args.catalogue.now
+marks c = let e = c.effects-e.ensures in c.any_above-2.ensures ∙ simp (e.0, e.1)
 
-flags : (c : tie.After-any-above3) → c.any-above3.result ≡ flag_over c.before.before.before.before.before.before.before.before.before.before.before.before.before.args.catalogue.now
-flags c = let e = c.before.before.before.types.ensures in c.any-above3.ensures ∙ simp (e.0, e.1)
+flags : (c : tie.After-any_above-3) → c.any_above-3.result ≡ flag_over c.args.catalogue.now
+flags c = let e = c.types-t.ensures in c.any_above-3.ensures ∙ simp (e.0, e.1)
 
-returns : tie.Need-returns
-returns c = rw (bad-field _, ← names c.before, c.if1.true)
+returns : tie.Need-returns-then-any_above
+returns c = rw (bad-field _, ← names c.before, c.if-any_above.true)
 
-returns-2 : tie.Need-returns-2
+returns-2 : tie.Need-returns-then-any_above-2
 returns-2 c =
-    let one = c.before.before.before.before.before in
-    rw (bad-field _, ← names one.before, one.if1.false, ← marks c.before, c.if2.true)
+    rw (bad-field _, ← names c.before.before.before.before.before.before, c.if-any_above.false, ← marks c.before, c.if-any_above-2.true)
 
-returns-3 : tie.Need-returns-3
+returns-3 : tie.Need-returns
 returns-3 c =
-    let two = c.before.before.before.before in
-    let one = two.before.before.before.before.before in
-    rw (bad-field _, ← names one.before, one.if1.false, ← marks two.before, two.if2.false, ← flags c)
+    rw (bad-field _, ← names c.before.before.before.before.before.before.before.before.before.before, c.if-any_above.false, ← marks c.before.before.before.before.before, c.if-any_above-2.false, ← flags c)
 
-pub bad-field-spec : {M : Type 1} → statement M
-bad-field-spec =
-    tie.close
-    (tie.spec
-    (λ c κs. search rules)
-    (λ c κs. search rules)
-    returns
-    (λ c κs. search rules)
-    (λ c. search rules)
-    (λ c. search rules)
-    (λ c κs. search rules)
-    returns-2
-    (λ c κs. search rules)
-    (λ c. search rules)
-    (λ c. search rules)
-    (λ c. search rules)
-    (λ c κs. search rules)
-    returns-3)
+pub bad_field_spec : {M : Type 1} → statement M
+bad_field_spec = tie.close (tie.spec (λ c κs. search rules) (λ c κs. search rules) returns (λ c κs. search rules) (λ c. search rules) (λ c. search rules) (λ c κs. search rules) returns-2 (λ c κs. search rules) (λ c. search rules) (λ c. search rules) (λ c. search rules) (λ c κs. search rules) returns-3)

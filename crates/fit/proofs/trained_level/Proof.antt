@@ -15,58 +15,45 @@ use Rattle.fit.proofs.trained_level.Statement.{statement}
 use Rattle.fit.proofs.trained_level.Tie as tie
 
 -- the part holds the skill ids
-ids : (c : tie.After-part) → c.part.result.now ≡ skill_ids c.before.before.before.args.fit.now
-ids c = c.part.ensures ∙ ap (λ (k : ℕ). take (4 * k) (drop 28 c.before.before.before.args.fit.now)) c.before.skills.ensures
+
+ids : (c : tie.After-part-ids) → c.part-ids.result.now ≡ skill_ids c.args.fit.now
+ids c = c.part-ids.ensures ∙ ap (λ (k : ℕ). take (4 * k) (drop 28 c.args.fit.now)) c.skills-n.ensures
 
 -- what the search says, of the skill ids themselves
-told : (c : tie.After-place-of) → let a = c.before.before.before.before.args in found_of c.place_of.result ≡ place_of (skill_ids a.fit.now) (skill_count a.fit.now) a.id
+told : (c : tie.After-place_of-found) → let a = c.args in found_of c.place_of-found.result ≡ place_of (skill_ids a.fit.now) (skill_count a.fit.now) a.id
 told c =
-    let s = c.before.before.before.before in
-    c.place_of.ensures ∙ place-alike _ _ _ _ (ids c.before) c.before.before.skills.ensures _ _ (to_z-of_z w32 s.args.id s.ranges.id)
+    c.place_of-found.ensures ∙ place-alike _ _ _ _ (ids c.before) c.skills-n.ensures _ _ (to_z-of_z w32 c.args.id c.ranges.id)
 
 -- the place is that of a skill
-place_in : (c : tie.After-known-told) → c.before.found.given.0.0 < skill_count c.before.before.before.before.before.before.before.args.fit.now
+place_in : (c : tie.In-At) → c.in-At.i < skill_count c.args.fit.now
 place_in c =
-    let a = c.before.before.before.before.before.before.before.args in
-    place-below (skill_ids a.fit.now) (skill_count a.fit.now) a.id c.before.found.given.0.0 (sym (told c.before.before.before) ∙ ap found_of c.before.found.given.1)
+    let a = c.args in
+    place-below (skill_ids a.fit.now) (skill_count a.fit.now) a.id c.in-At.i (sym (told c.before) ∙ ap found_of c.in-At.is)
 
-place-of-requires : tie.Need-place-of-requires
+place-of-requires : tie.Need-place_of-found-requires
 place-of-requires c κs =
-    let b = c.before.before.before.args.fit.now in
-    let l = part_length b 28 (4 * c.before.skills.result) (omega arith) in
-    (omega (arith, l, ap length c.part.ensures), sorted_alike _ _ _ _ (ids c) c.before.skills.ensures (skills-sorted b c.before.before.before.requires))
+    let b = c.args.fit.now in
+    let l = part_length b 28 (4 * c.skills-n.result) (omega arith) in
+    (omega (arith, l, ap length c.part-ids.ensures), sorted_alike _ _ _ _ (ids c) c.skills-n.ensures (skills-sorted b c.requires))
 
-add-u8-at : tie.Need-overflow-add-u8-at
+add-u8-at : tie.Need-overflow_add-levels_at
 add-u8-at c = omega (arith, place_in c.before)
 
-u8-at-requires : tie.Need-u8-at-requires
+u8-at-requires : tie.Need-u8_at-requires
 u8-at-requires c κs = omega (arith, place_in c.before)
 
-returns : tie.Need-returns
+returns : tie.Need-returns-in-At
 returns c =
-    let a = c.before.before.before.before.before.before.before.before.before.args in
-    let i = c.before.before.before.found.given.0.0 in
-    c.u8-at.ensures
-    ∙ ap (λ (k : ℕ). u8_at a.fit.now (k + i)) c.before.levels-at.ensures
-    ∙ sym (level-given a.fit.now a.id i (sym (told c.before.before.before.before.before) ∙ ap found_of c.before.before.before.found.given.1))
+    let a = c.args in
+    let i = c.in-At.i in
+    c.u8_at.ensures
+    ∙ ap (λ (k : ℕ). u8_at a.fit.now (k + i)) c.levels_at.ensures
+    ∙ sym (level-given a.fit.now a.id i (sym (told c.before.before.before) ∙ ap found_of c.in-At.is))
 
-returns-2 : tie.Need-returns-2
+returns-2 : tie.Need-returns-in-Nothing
 returns-2 c =
-    let a = c.before.before.before.before.before.before.args in
-    sym (level-missing a.fit.now a.id (sym (told c.before.before) ∙ ap found_of c.enum_told.given.1))
+    let a = c.args in
+    sym (level-missing a.fit.now a.id (sym (told c.before) ∙ ap found_of c.in-Nothing.is))
 
-pub trained-level-spec : {M : Type 1} → statement M
-trained-level-spec =
-    tie.close
-    (tie.spec
-    (λ c κs. search rules)
-    (λ c. search rules)
-    (λ c κs. search rules)
-    place-of-requires
-    (λ c. search rules)
-    (λ c κs. search rules)
-    add-u8-at
-    u8-at-requires
-    (λ c. search rules)
-    returns
-    returns-2)
+pub trained_level_spec : {M : Type 1} → statement M
+trained_level_spec = tie.close (tie.spec (λ c κs. search rules) (λ c. search rules) (λ c κs. search rules) place-of-requires (λ c. search rules) (λ c κs. search rules) add-u8-at u8-at-requires (λ c. search rules) returns returns-2)

@@ -19,73 +19,59 @@ use Rattle.fit.proofs.value.Statement.{statement}
 use Rattle.fit.proofs.value.Tie as tie
 
 -- the part is as long as the ids
-long : (c : tie.After-ids-of) → let a = c.before.before.before.args in length c.ids-of.result.now ≡ 4 * count_at a.fit.now a.j
+
+long : (c : tie.After-ids_of-ids) → let a = c.args in length c.ids_of-ids.result.now ≡ 4 * count_at a.fit.now a.j
 long c =
-    let a = c.before.before.before.args in
+    let a = c.args in
     let b = a.fit.now in
-    let w = start-within b c.before.before.before.requires.0.sized a.j c.before.before.before.requires.2 in
-    ap length c.ids-of.ensures ∙ ids_length b (start_at b a.j) (count_at b a.j) (omega (arith, w))
+    let w = start-within b c.requires.0.sized a.j c.requires.2 in
+    ap length c.ids_of-ids.ensures ∙ ids_length b (start_at b a.j) (count_at b a.j) (omega (arith, w))
 
 -- how many there are
-many : (c : tie.After-ids-of) → let a = c.before.before.before.args in length c.ids-of.result.now / 4 ≡ count_at a.fit.now a.j
+many : (c : tie.After-ids_of-ids) → let a = c.args in length c.ids_of-ids.result.now / 4 ≡ count_at a.fit.now a.j
 many c = omega (arith, long c)
 
 -- what the search says, of the result's own ids
-told : (c : tie.After-place-of) → let a = c.before.before.before.before.args in let b = a.fit.now in found_of c.place_of.result ≡ place_of (ids_part b (start_at b a.j) (count_at b a.j)) (count_at b a.j) a.id
+told : (c : tie.After-place_of-found) → let a = c.args in let b = a.fit.now in found_of c.place_of-found.result ≡ place_of (ids_part b (start_at b a.j) (count_at b a.j)) (count_at b a.j) a.id
 told c =
-    let s = c.before.before.before.before in
-    c.place_of.ensures ∙ place-alike _ _ _ _ c.before.ids-of.ensures (many c.before) _ _ (to_z-of_z w32 s.args.id s.ranges.id)
+    c.place_of-found.ensures ∙ place-alike _ _ _ _ c.ids_of-ids.ensures (many c.before) _ _ (to_z-of_z w32 c.args.id c.ranges.id)
 
 -- where the value stands: at the id's place, in a part that is as long as the values
-place_in : (c : tie.After-values-of) → let a = c.before.before.before.before.before.before.before.before.args in let b = a.fit.now in
-    let i = c.before.before.found.given.0.0 in (i < count_at b a.j) × (length c.values_of.result.now ≡ 8 * count_at b a.j)
+place_in : (c : tie.After-values_of) → let a = c.args in let b = a.fit.now in
+    let i = c.in-At.i in (i < count_at b a.j) × (length c.values_of.result.now ≡ 8 * count_at b a.j)
 place_in c =
-    let s = c.before.before.before.before.before.before.before.before in
-    let a = s.args in
+    let a = c.args in
     let b = a.fit.now in
-    let i = c.before.before.found.given.0.0 in
-    let w = start-within b s.requires.0.sized a.j s.requires.2 in (
-      place-below (ids_part b (start_at b a.j) (count_at b a.j)) (count_at b a.j) a.id i (sym (told c.before.before.before.before) ∙ ap found_of c.before.before.found.given.1),
-      ap length c.values_of.ensures ∙ values_length b (start_at b a.j) (count_at b a.j) (omega (arith, w, s.requires.0.sized.size)),
+    let i = c.in-At.i in
+    let w = start-within b c.requires.0.sized a.j c.requires.2 in (
+      place-below (ids_part b (start_at b a.j) (count_at b a.j)) (count_at b a.j) a.id i (sym (told c.before.before) ∙ ap found_of c.in-At.is),
+      ap length c.values_of.ensures ∙ values_length b (start_at b a.j) (count_at b a.j) (omega (arith, w, c.requires.0.sized.size)),
     )
 
-place-of-requires : tie.Need-place-of-requires
+place-of-requires : tie.Need-place_of-found-requires
 place-of-requires c κs =
-    let s = c.before.before.before in
-    (omega arith, sorted_alike _ _ _ _ c.ids-of.ensures (many c) (ids-sorted s.args.fit.now s.requires.0 s.args.j s.requires.2))
+    (omega arith, sorted_alike _ _ _ _ c.ids_of-ids.ensures (many c) (ids-sorted c.args.fit.now c.requires.0 c.args.j c.requires.2))
 
-mul-f64-at : tie.Need-overflow-mul-f64-at
+mul-f64-at : tie.Need-overflow_mul-i
 mul-f64-at c = omega (arith, place_in c)
 
-f64-at-requires : tie.Need-f64-at-requires
+f64-at-requires : tie.Need-f64_at-requires
 f64-at-requires c κs = omega (arith, place_in c)
 
-returns : tie.Need-returns
+returns : tie.Need-returns-in-At
 returns c =
-    let v = c.before in
-    let a = v.before.before.before.before.before.before.before.before.args in
+    let a = c.args in
     let b = a.fit.now in
-    let i = v.before.before.found.given.0.0 in
-    let e = sym (told v.before.before.before.before) ∙ ap found_of v.before.before.found.given.1 in
+    let i = c.in-At.i in
+    let e = sym (told c.before.before.before) ∙ ap found_of c.in-At.is in
     sym (value-given b a.j a.id i e
-    ∙ ap some (sym (c.f64-at.ensures ∙ ap (λ (l : List ℕ). f64_at l (8 * i)) v.values_of.ensures
-    ∙ value-at b (start_at b a.j) (count_at b a.j) i (place_in v).0)))
+    ∙ ap some (sym (c.f64_at.ensures ∙ ap (λ (l : List ℕ). f64_at l (8 * i)) c.values_of.ensures
+    ∙ value-at b (start_at b a.j) (count_at b a.j) i (place_in c.before).0)))
 
-returns-2 : tie.Need-returns-2
+returns-2 : tie.Need-returns-in-Nothing
 returns-2 c =
-    let a = c.before.before.before.before.before.before.args in
-    sym (value-missing a.fit.now a.j a.id (sym (told c.before.before) ∙ ap found_of c.enum_told.given.1))
+    let a = c.args in
+    sym (value-missing a.fit.now a.j a.id (sym (told c.before) ∙ ap found_of c.in-Nothing.is))
 
 pub value_spec : {M : Type 1} → statement M
-value_spec =
-    tie.close
-    (tie.spec
-    (λ c κs. search rules)
-    place-of-requires
-    (λ c. search rules)
-    (λ c κs. search rules)
-    mul-f64-at
-    f64-at-requires
-    (λ c. search rules)
-    returns
-    returns-2)
+value_spec = tie.close (tie.spec (λ c κs. search rules) place-of-requires (λ c. search rules) (λ c κs. search rules) mul-f64-at f64-at-requires (λ c. search rules) returns returns-2)

@@ -23,7 +23,7 @@ returns-2 c =
 
 returns-3 : tie.Need-returns-3
 unfolding old_bad_length
-returns-3 c = rw (le-ltb 16777216 _ c.before.before.if1.false, c.type_size.ensures)
+returns-3 c = rw (le-ltb 16777216 _ c.before.before.if1.false, c.size_of.ensures)
 
 pub bad-length-spec : {M : Type 1} → statement M
 bad-length-spec = tie.close (tie.spec returns returns-2 (λ c κs. search rules) returns-3)

@@ -1,0 +1,19 @@
+-- `fit::mode` meets its contract: the flag says whether the mode is given.
+use mathlib.Core.Path.{◌≡◌, ◌∙◌, sym}
+use mir.Val.{to_z, of_z}
+use mir.ValLaws.{to_z-of_z}
+use mir.Syntax.{w32}
+use borrow.Author.Tests.{eq-eqb, ne_eqb}
+use Rattle.image.specs.Bytes.{i32_at}
+use Rattle.fit.specs.Fit.{fit_of, mode_of}
+use Rattle.fit.proofs.mode.Goals as goal
+
+pub returns-then-flag-eq0 : goal.returns-then-flag-eq0
+unfolding fit_of mode_of
+returns-then-flag-eq0 c = simp (sym c.u32_at-flag.ensures, eq-eqb _ 0 c.if-flag-eq0.true)
+
+pub returns : goal.returns
+unfolding fit_of mode_of
+returns c =
+    let e : to_z w32 (of_z w32 c.i32_at.result) ≡ i32_at c.args.fit.now 24 = to_z-of_z w32 c.i32_at.result (record { sfits = c.i32_at.type_inv }) ∙ c.i32_at.ensures in
+    simp (sym c.u32_at-flag.ensures, ne_eqb _ 0 c.if-flag-eq0.false, e)

@@ -1,0 +1,18 @@
+-- `fit::values_of` meets its contract: of all values, the result's.
+use Prim.Native.Nat.{ℕ, ◌+◌, ◌*◌}
+use native.Mathlib.Omega.{arith}
+use mathlib.Core.Path.{◌∙◌, ap}
+use lib.ListN.{take, drop}
+use Rattle.fit.specs.Fit.{count_at, start_at}
+use Rattle.fit.specs.Sound.{values_part}
+use Rattle.fit.proofs.values_of.Goals as goal
+
+pub part_of-requires : goal.part_of-requires
+part_of-requires c = let p = c.requires in (p.0, p.1, p.2, omega (arith, c.values_at.ensures, p.0.sized.size))
+
+pub returns : goal.returns
+unfolding values_part
+returns c =
+    let a = c.args in
+    let b = a.fit.now in
+    c.part_of.ensures ∙ ap (λ (first : ℕ). take (8 * count_at b a.j) (drop (first + 8 * start_at b a.j) b)) c.values_at.ensures
