@@ -3,16 +3,14 @@ use Prim.Native.Nat.{ℕ, zero, suc, ◌+◌, ◌*◌, ◌<◌}
 use native.Mathlib.Nat.{eq-or-lt_of_le, le_of_suc-le-suc}
 use native.Mathlib.Omega.{arith}
 use mathlib.Core.Path.{◌≡◌, refl, sym, ap, subst, ◌∙◌}
-use mathlib.Core.Bool.{false}
 use mathlib.Core.List.{List, [], ◌∷◌}
 use mathlib.Core.Logic.{⊎_elim}
 use mathlib.Core.Option.{none, some}
 use lib.ListN.{length, get_or, set, length-set}
 use lib.Seq.{get_or-set_same, get_or-set_other}
 use Rattle.catalogue.specs.Catalogue.{Id, Catalogue, catalogue_of}
-use Rattle.catalogue.specs.declared.TypeInfo.{TypeInfo}
 use Rattle.context.specs.Gathered.{pair_at, slot_in, info_of_words, type_in, place_count, fact_count}
-use Rattle.context.specs.Gathered.{groups_at, knowns_at, racks_at, hardpoints_at, Kept, Pairs, Before, fill, Only}
+use Rattle.context.specs.Gathered.{groups_at, knowns_at, racks_at, hardpoints_at, Kept, Pairs, fill, Only}
 
 -- ---- any words
 pub fill-length : (l : List ℕ) (i at : ℕ) (ws : List ℕ) → length (fill l i at ws) ≡ length l

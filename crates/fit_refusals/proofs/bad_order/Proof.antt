@@ -17,33 +17,24 @@ use Rattle.fit_refusals.proofs.bad_order.Tie as tie
 
 ascend-requires : tie.Need-ascend-requires
 ascend-requires c κs =
-    let b = c.before.before.before.args.fit.now in
-    let n = c.before.skills.result in
-    omega (arith, ap length c.part.ensures, part_length b 28 (4 * n) (omega arith))
+    let b = c.args.fit.now in
+    let n = c.skills-n.result in
+    omega (arith, ap length c.part-ids.ensures, part_length b 28 (4 * n) (omega arith))
 
 -- what `ascend` says, of the skill ids themselves
-skills-told : (c : tie.After-ascend) → let b = c.before.before.before.before.args.fit.now in c.ascend.result ≡ in_order lt_z (table (skill_count b) (λ i. i32_at b (skills_at b + 4 * i)))
+skills-told : (c : tie.After-ascend) → let b = c.args.fit.now in c.ascend.result ≡ in_order lt_z (table (skill_count b) (λ i. i32_at b (skills_at b + 4 * i)))
 skills-told c =
-    let b = c.before.before.before.before.args.fit.now in
-    let n = c.before.before.skills.result in
+    let b = c.args.fit.now in
+    let n = c.skills-n.result in
     c.ascend.ensures
-    ∙ ap (in_order lt_z) (ap (λ (l : List ℕ). table n (key_at l)) c.before.part.ensures ∙ part-keys b 28 n)
-    ∙ ap (λ (k : ℕ). in_order lt_z (table k (λ i. i32_at b (28 + 4 * i)))) c.before.before.skills.ensures
+    ∙ ap (in_order lt_z) (ap (λ (l : List ℕ). table n (key_at l)) c.part-ids.ensures ∙ part-keys b 28 n)
+    ∙ ap (λ (k : ℕ). in_order lt_z (table k (λ i. i32_at b (28 + 4 * i)))) c.skills-n.ensures
 
-returns : tie.Need-returns
-returns c = sym (order-parts _ ∙ rw (sym (skills-told c.before.before), c.before.if1.true, sym c.any-disordered.ensures))
+returns : tie.Need-returns-then-ascend
+returns c = sym (order-parts _ ∙ rw (sym (skills-told c.before.before), c.if-ascend.true, sym c.any_disordered.ensures))
 
-returns-2 : tie.Need-returns-2
-returns-2 c = sym (order-parts _ ∙ rw (sym (skills-told c.before), c.if1.false))
+returns-2 : tie.Need-returns
+returns-2 c = sym (order-parts _ ∙ rw (sym (skills-told c.before), c.if-ascend.false))
 
-pub bad-order-spec : {M : Type 1} → statement M
-bad-order-spec =
-    tie.close
-    (tie.spec
-    (λ c κs. search rules)
-    (λ c. search rules)
-    (λ c κs. search rules)
-    ascend-requires
-    (λ c κs. search rules)
-    returns
-    returns-2)
+pub bad_order_spec : {M : Type 1} → statement M
+bad_order_spec = tie.close (tie.spec (λ c κs. search rules) (λ c. search rules) (λ c κs. search rules) ascend-requires (λ c κs. search rules) returns returns-2)
