@@ -1,4 +1,6 @@
 // The rules of a league: groups that its profile bans or prices. Document 02, P2.
+#![tactic(auto)]
+
 ghost use Rattle.std.specs.Prelude.{◌≡◌, cond, List, ℕ, ◌+◌, ◌≤◌, ◌<◌, pos};
 ghost use Rattle.words.specs.Words.{when, given};
 ghost use Rattle.numbers.specs.Sizes as Sizes;

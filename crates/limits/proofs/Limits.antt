@@ -25,7 +25,6 @@ use Rattle.entry.specs.declared.Rule.TheVariants.{MaxGroup, MaxType}
 use Rattle.entry.specs.Wrote.{Wrote}
 use Rattle.entry.proofs.Wrote.{wrote-unless, wrote-bind, wrote-bind_none}
 use Rattle.context.specs.Context.{Pair, Context, is_fitted, on}
-use Rattle.context.specs.Gathered.{pair_at}
 use Rattle.limits.specs.declared.Row.{Row}
 use Rattle.limits.specs.Limits.{group_limit_rows, row_at, in_group, group_limit_at, group_limit, group_limits, of_type, type_limit_at, type_limit}
 

@@ -1,4 +1,6 @@
 // How many items of a group or a type a fit may have: the limits of Rust's `validate/item.rs`.
+#![tactic(auto)]
+
 ghost use Rattle.std.specs.Prelude.{◌≡◌, List, ℕ, ◌+◌, ◌*◌, ◌<◌, ◌≤◌, pos};
 ghost use Rattle.words.specs.Words.{count_of, given};
 ghost use Rattle.numbers.specs.Sizes.{most_pairs};

@@ -1,4 +1,6 @@
 // The racks and the hardpoints of a ship, and how many items take them: validate/slot.rs, `RACKS`, `HARDPOINTS` and `report`.
+#![tactic(auto)]
+
 ghost use Rattle.std.specs.Prelude.{◌≡◌, List, ℕ, ◌+◌, ◌<◌, ◌≤◌};
 ghost use Rattle.words.specs.Words.{count_of};
 ghost use Rattle.fit.specs.Sound as Fit;

@@ -1,5 +1,5 @@
 -- What takes up no room takes up none in any quantity.
-use Rattle.std.proofs.Common.{◌≡◌, ℕ, ◌*◌, ◌^◌, ◌<◌, ◌≤◌, Bool, false, T, pos, sym, refl, ap, ◌∙◌, le_trans, le_of_lt, mul-pos, zero-mul, lit≤}
+use Rattle.std.proofs.Common.{◌≡◌, ℕ, ◌*◌, ◌^◌, ◌<◌, Bool, false, T, pos, sym, refl, ap, ◌∙◌, le_trans, le_of_lt, mul-pos, zero-mul, lit≤}
 use lib.Ieee.{Float, nan, inf, fin, binary64, up, down, round, mul, of_int, fits, unlike}
 use lib.Ieee.Exact.{HasValue}
 use lib.Ieee.Fits.{down_pos, round-fits}

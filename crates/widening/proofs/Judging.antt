@@ -1,12 +1,10 @@
 -- The old form's refusals: both forms have the same keys and fields, and an old catalogue that is not refused is as long as its sizes say.
 use Prim.Native.Nat.{ℕ, ◌≤◌}
-use mathlib.Core.Path.{◌≡◌, refl, sym, ap, ◌∙◌}
-use mathlib.Core.Bool.{Bool, true, false, not, ◌||◌}
+use mathlib.Core.Path.{◌≡◌, refl, sym, ◌∙◌}
+use mathlib.Core.Bool.{true, false}
 use mathlib.Core.List.{List, map}
-use lib.IntN.{ℤ}
-use lib.Signed.{le_z}
 use lib.ListN.{length}
-use Rattle.words.specs.Words.{table, in_order}
+use Rattle.words.specs.Words.{table}
 use Rattle.words.proofs.Tables.{map-table}
 use Rattle.catalogue.specs.Catalogue.{Base, catalogue_of, base_count, base_at}
 use Rattle.catalogue.specs.Refusals.{bad_order, bad_field}

@@ -1,5 +1,5 @@
 -- Document 02, P10: an old catalogue turned into a new one, each base value widened exactly, all else as it stands.
-use Rattle.std.specs.Prelude.{ℕ, ◌+◌, ◌*◌, List, ◌++◌, take, drop}
+use Rattle.std.specs.Prelude.{ℕ, ◌+◌, List, ◌++◌, take, drop}
 use Rattle.words.specs.Words.{from, each}
 use Rattle.image.specs.Bytes.{le}
 use Rattle.floats.specs.Floats.{f32_at, f64_bits}

@@ -1,4 +1,6 @@
 // Old catalogues, whose base values are f32, and what makes new ones of them: document 02, P10. No other crate reads the old form.
+#![tactic(auto)]
+
 ghost use Rattle.std.specs.Prelude.{◌≡◌, ◌+◌, ◌*◌, ◌≤◌, length};
 ghost use Rattle.image.specs.Bytes.{put};
 ghost use Rattle.catalogue.specs.Catalogue.{base_count, base_values_at, size_of};

@@ -20,69 +20,47 @@ use Rattle.limits.proofs.Limits.{type-few, type-no_name, type-each}
 use Rattle.limits.proofs.type_limit.Statement.{statement}
 use Rattle.limits.proofs.type_limit.Tie as tie
 
-abbrev invariant-loop : tie.invariant-loop
+abbrev invariant-loop : tie.invariant-loop-i
 invariant-loop catalogue fit facts out₀ n id count m₀ i₀ out m i =
     Passed catalogue fit (type_limit_at (to_z w32 id) (pairs_of catalogue fit)) out₀ n out m i
 
-abbrev decreases-loop : tie.decreases-loop
+abbrev decreases-loop : tie.decreases-loop-i
 decreases-loop catalogue fit facts out₀ n id count m₀ i₀ out m i = count - i
 
 -- the id that was looked up, as the calls after it read it
-named : (h : tie.After-pair-count invariant-loop decreases-loop) → let a = h.before.before.before.before.before.before.before.before.args in
-    name_id (catalogue_of a.catalogue.now).names Names.max_type_fitted ≡ some (to_z w32 (of_z w32 h.before.before.answer.given.0.0))
+named : (h : tie.After-pair_count-count invariant-loop decreases-loop) → let a = h.args in
+    name_id (catalogue_of a.catalogue.now).names Names.max_type_fitted ≡ some (to_z w32 (of_z w32 h.in-Known.id))
 named h =
-    let m = h.before.before in
-    sym m.before.before.attribute-id.ensures ∙ ap id_of m.answer.given.1
-    ∙ ap some (sym (to_z-of_z w32 m.answer.given.0.0 (record { sfits = h.before.known-told.given.0.1 })))
+    sym h.attribute_id-answer.ensures ∙ ap id_of h.in-Known.is
+    ∙ ap some (sym (to_z-of_z w32 h.in-Known.id (record { sfits = h.in-Known.known_told-1-own.given.0.1 })))
 
-returns : tie.Need-returns invariant-loop decreases-loop
+returns : tie.Need-returns-in_default invariant-loop decreases-loop
 unfolding context_of context
 returns c =
-    let f = c.before.before in
-    let a = f.before.before.before.before.args in (
+    let a = c.args in (
       type-no_name (context_of a.catalogue.now a.fit.now) (pairs_of a.catalogue.now a.fit.now)
-          (sym f.attribute-id.ensures ∙ ap id_of c.enum_told.given.1),
+          (sym c.attribute_id-answer.ensures ∙ ap id_of c.in_default.is),
       omega arith,
     )
 
-loop-holds : tie.Need-loop-init invariant-loop decreases-loop
+loop-holds : tie.Need-loop-i-init invariant-loop decreases-loop
 loop-holds c = passed_none _ _ _ _ _
 
-loop-again : tie.Need-loop-preserved invariant-loop decreases-loop
+loop-again : tie.Need-loop-i-preserved invariant-loop decreases-loop
 loop-again c =
-    let l = c.before.before.before.before.before in
-    passed_more _ _ _ (type-few _ _) (omega arith) l.loop.invariant (c.before.before.type-limit-at.ensures _)
+    passed_more _ _ _ (type-few _ _) (omega arith) c.loop-i.invariant (c.type_limit_at-m.ensures _)
 
-same_length : tie.Need-same-length invariant-loop decreases-loop
-same_length c = wrote-length c.before.loop.invariant.wrote
+same_length : tie.Need-shape_of-out invariant-loop decreases-loop
+same_length c = wrote-length c.loop-i.invariant.wrote
 
-returns-2 : tie.Need-returns-2 invariant-loop decreases-loop
+returns-2 : tie.Need-returns invariant-loop decreases-loop
 unfolding context_of context
 returns-2 c =
-    let l = c.before in
-    let h = l.before in
-    let s = h.before.before.before.before.before.before.before.before in
-    let w = passed_all s.args.catalogue.now s.args.fit.now _ s.requires.0.fit_sound (omega arith) l.loop.invariant in (
-      type-each (context_of s.args.catalogue.now s.args.fit.now) (pairs_of s.args.catalogue.now s.args.fit.now) _ (named h)
+    let w = passed_all c.args.catalogue.now c.args.fit.now _ c.requires.0.fit_sound (omega arith) c.loop-i.invariant in (
+      type-each (context_of c.args.catalogue.now c.args.fit.now) (pairs_of c.args.catalogue.now c.args.fit.now) _ (named c.before.before)
           w.0,
       w.1,
     )
 
-pub type-limit-spec : {M : Type 1} → statement M
-type-limit-spec =
-    tie.close
-    (tie.spec
-    invariant-loop
-    decreases-loop
-    (λ c κs. search rules)
-    (λ c. search rules)
-    (λ c. search rules)
-    returns
-    (λ c κs. search rules)
-    loop-holds
-    (λ c κs. search rules)
-    (λ c. search rules)
-    (λ c. search rules)
-    loop-again
-    same_length
-    returns-2)
+pub type_limit_spec : {M : Type 1} → statement M
+type_limit_spec = tie.close (tie.spec invariant-loop decreases-loop (λ c κs. search rules) (λ c. search rules) (λ c. search rules) returns (λ c κs. search rules) loop-holds (λ c κs. search rules) (λ c. search rules) (λ c. search rules) loop-again same_length returns-2)

@@ -5,7 +5,6 @@ use lib.IntN.{ℤ}
 use mir.Syntax.{w32}
 use mir.Val.{to_z, of_z}
 use mir.ValLaws.{to_z-of_z}
-use borrow.Author.Tests.{not-true, not-false}
 use Rattle.words.specs.Words.{count_of}
 use Rattle.floats.specs.Values.{value_of}
 use Rattle.fit.specs.Fit.{result_of}
@@ -18,61 +17,34 @@ use Rattle.limits.proofs.type_limit_at.Statement.{statement}
 use Rattle.limits.proofs.type_limit_at.Tie as tie
 
 -- the value that was looked up, under the id itself
-told : (c : tie.After-value) → let a = c.before.before.before.before.args in
-    value_of c.value.result ≡ value (result_of a.fit.now (a.i + 2)) a.id
+
+told : (c : tie.After-value-answer) → let a = c.args in
+    value_of c.value-answer.result ≡ value (result_of a.fit.now (a.i + 2)) a.id
 told c =
-    let s = c.before.before.before.before in
-    c.value.ensures ∙ ap (value (result_of s.args.fit.now (s.args.i + 2))) (to_z-of_z w32 s.args.id s.ranges.id)
+    c.value-answer.ensures ∙ ap (value (result_of c.args.fit.now (c.args.i + 2))) (to_z-of_z w32 c.args.id c.ranges.id)
 
-returns : tie.Need-returns
+returns : tie.Need-returns-in_default
 returns c = λ catalogue.
-    let v = c.before.before in
-    let a = v.before.before.before.before.args in
+    let a = c.args in
     type-missing a.id (pairs_of catalogue a.fit.now) (pair_at catalogue a.fit.now a.i)
-    (sym (told v) ∙ ap value_of c.enum_told.given.1)
+    (sym (told c.before) ∙ ap value_of c.in_default.is)
 
-returns-2 : tie.Need-returns-2
+returns-2 : tie.Need-returns-then-not-is_fitted_at
 returns-2 c = λ catalogue.
-    let f = c.before in
-    let m = f.before.before in
-    let v = m.before.before in
-    let a = v.before.before.before.before.args in
-    type-unfitted a.id (pairs_of catalogue a.fit.now) (pair_at catalogue a.fit.now a.i) (sym (told v) ∙ ap value_of m.answer.given.1)
-    (sym (f.is-fitted-at.ensures catalogue) ∙ not-true _ c.if1.true)
+    let a = c.args in
+    type-unfitted a.id (pairs_of catalogue a.fit.now) (pair_at catalogue a.fit.now a.i) (sym (told c.before.before.before) ∙ ap value_of c.in-Given.is)
+    (sym (c.is_fitted_at.ensures catalogue) ∙ c.if-not-is_fitted_at.true)
 
-returns-3 : tie.Need-returns-3
+returns-3 : tie.Need-returns
 returns-3 c = λ catalogue.
-    let w = c.before.before in
-    let u = w.before.before in
-    let t = u.before.before in
-    let f = t.before.before in
-    let m = f.before.before in
-    let v = m.before.before in
-    let s = v.before.before.before.before in
-    let a = s.args in
+    let a = c.args in
     let ps = pairs_of catalogue a.fit.now in
     let p = pair_at catalogue a.fit.now a.i in
-    let z : to_z w32 (of_z w32 t.item-type.result) ≡ p.type =
-    to_z-of_z w32 t.item-type.result (record { sfits = t.item-type.type-inv }) ∙ t.item-type.ensures in
-    type-fitted a.id ps p (sym (told v) ∙ ap value_of m.answer.given.1)
-    (sym (f.is-fitted-at.ensures catalogue) ∙ not-false _ t.before.if1.false)
-    z (u.before.count-of-type.ensures catalogue ∙ ap (λ (y : ℤ). count_of (of_type y) ps) z) u.to-u32.ensures w.emit-when.ensures
+    let z : to_z w32 (of_z w32 c.item_type-type_id.result) ≡ p.type =
+    to_z-of_z w32 c.item_type-type_id.result (record { sfits = c.item_type-type_id.type_inv }) ∙ c.item_type-type_id.ensures in
+    type-fitted a.id ps p (sym (told c.before.before.before.before.before.before.before.before.before.before) ∙ ap value_of c.in-Given.is)
+    (sym (c.is_fitted_at.ensures catalogue) ∙ c.if-not-is_fitted_at.false)
+    z (c.count_of_type-used.ensures catalogue ∙ ap (λ (y : ℤ). count_of (of_type y) ps) z) c.to_u32-allowed.ensures c.emit_when.ensures
 
-pub type-limit-at-spec : {M : Type 1} → statement M
-type-limit-at-spec =
-    tie.close
-    (tie.spec
-    (λ c. search rules)
-    (λ c κs. search rules)
-    (λ c. search rules)
-    (λ c. search rules)
-    returns
-    (λ c κs. search rules)
-    returns-2
-    (λ c κs. search rules)
-    (λ c κs. search rules)
-    (λ c κs. search rules)
-    (λ c. search rules)
-    (λ c κs. search rules)
-    (λ c. search rules)
-    returns-3)
+pub type_limit_at_spec : {M : Type 1} → statement M
+type_limit_at_spec = tie.close (tie.spec (λ c. search rules) (λ c κs. search rules) (λ c. search rules) (λ c. search rules) returns (λ c κs. search rules) returns-2 (λ c κs. search rules) (λ c κs. search rules) (λ c κs. search rules) (λ c. search rules) (λ c κs. search rules) (λ c. search rules) returns-3)
