@@ -1,4 +1,6 @@
 // Which items go on which ship: Rust's `validate/item.rs`, all but its limits, which `limits` has.
+#![tactic(auto)]
+
 ghost use Rattle.std.specs.Prelude.{◌≡◌, false, not, ◌&&◌, ◌||◌, List, ℕ, ◌+◌, ◌*◌, ◌/◌, ◌<◌, ◌≤◌, length, pos};
 ghost use Rattle.std.specs.Float.Ieee.{ne};
 ghost use Rattle.words.specs.Words.{any_of, table, given, same};

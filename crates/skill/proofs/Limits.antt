@@ -15,7 +15,7 @@ use Rattle.catalogue.specs.Catalogue.{Catalogue, catalogue_of}
 use Rattle.fit.specs.Fit.{Result, fit_of, result_at, result_of, result_count}
 use Rattle.fit.proofs.Decoded.{result-some}
 use Rattle.skill.specs.Skill.{Demand, noted, met, walk_within, wants_too_many}
-use Rattle.skill.specs.Held.{zip_to, held_at, walk_of, HoldsWanted}
+use Rattle.skill.specs.Held.{zip_to, held_at, HoldsWanted}
 use Rattle.skill.specs.declared.Walk.{Walk}
 use Rattle.skill.proofs.Walks.{met-stays, met-longer}
 

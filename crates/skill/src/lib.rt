@@ -1,4 +1,6 @@
 // The skills that one result demands: validate/skill.rs.
+#![tactic(auto)]
+
 ghost use Rattle.std.specs.Prelude.{◌≡◌, [], ◌∷◌, ◌++◌, ◌+◌, ◌<◌, ◌≤◌, length, get_or, set, pos};
 ghost use Rattle.words.specs.Words.{each, table, any_of, same};
 ghost use Rattle.numbers.specs.Sizes as Sizes;

@@ -1,4 +1,6 @@
 // What sits in the slots of a ship, and whether it may: validate/slot.rs, the checks of an item. How many there are is counted in `racks`.
+#![tactic(auto)]
+
 ghost use Rattle.std.specs.Prelude.{◌≡◌, false, not, ◌&&◌, List, ◌++◌, ℕ, ◌+◌, ◌*◌, ◌<◌, ◌≤◌};
 ghost use Rattle.std.proofs.Math.Option.{none};
 ghost use Rattle.std.specs.Float.Ieee.{eq};

@@ -20,105 +20,72 @@ use Rattle.item.proofs.Rules.{capital_few, capital_no_volume, capital_no_capital
 use Rattle.item.proofs.capital_item.Statement.{statement}
 use Rattle.item.proofs.capital_item.Tie as tie
 
-abbrev invariant-loop : tie.invariant-loop
+abbrev invariant-loop : tie.invariant-loop-i
 invariant-loop catalogue fit facts out₀ n volume capital count m₀ i₀ out m i =
     Passed catalogue fit (capital_item_at (to_z w32 volume)) out₀ n out m i
 
-abbrev decreases-loop : tie.decreases-loop
+abbrev decreases-loop : tie.decreases-loop-i
 decreases-loop catalogue fit facts out₀ n volume capital count m₀ i₀ out m i = count - i
 
 -- the two ids that were looked up, as the calls after them read them
-volume-id : (d : tie.After-attribute-id2 invariant-loop decreases-loop) → let a = d.before.before.before.before.before.before.before.before.args in
-    name_id (catalogue_of a.catalogue.now).names Names.volume ≡ some (to_z w32 (of_z w32 d.before.before.of-volume.given.0.0))
+volume-id : (d : tie.After-attribute_id-of_capital invariant-loop decreases-loop) → let a = d.args in
+    name_id (catalogue_of a.catalogue.now).names Names.volume ≡ some (to_z w32 (of_z w32 d.in-Known.volume))
 volume-id d =
-    let m = d.before.before in
-    sym m.before.before.attribute-id.ensures ∙ ap id_of m.of-volume.given.1
-    ∙ ap some (sym (to_z-of_z w32 m.of-volume.given.0.0 (record { sfits = d.before.known-told.given.0.1 })))
+    sym d.attribute_id-of_volume.ensures ∙ ap id_of d.in-Known.is
+    ∙ ap some (sym (to_z-of_z w32 d.in-Known.volume (record { sfits = d.in-Known.known_told-1-own.given.0.1 })))
 
-capital-id : (t : tie.After-takes-capitals invariant-loop decreases-loop) → let a =
-    t.before.before.before.before.before.before.before.before.before.before.before.before.args in
-    name_id (catalogue_of a.catalogue.now).names Names.is_capital_size ≡ some (to_z w32 (of_z w32 t.before.before.of-capital.given.0.0))
+capital-id : (t : tie.After-takes_capitals invariant-loop decreases-loop) → let a =
+    t.args in
+    name_id (catalogue_of a.catalogue.now).names Names.is_capital_size ≡ some (to_z w32 (of_z w32 t.in-Known-of_capital.capital))
 capital-id t =
-    let m = t.before.before in
-    sym m.before.before.attribute-id2.ensures ∙ ap id_of m.of-capital.given.1
-    ∙ ap some (sym (to_z-of_z w32 m.of-capital.given.0.0 (record { sfits = t.before.known-told2.given.0.1 })))
+    sym t.attribute_id-of_capital.ensures ∙ ap id_of t.in-Known-of_capital.is
+    ∙ ap some (sym (to_z-of_z w32 t.in-Known-of_capital.capital (record { sfits = t.in-Known-of_capital.known_told-in-Known-of_capital-1-own.given.0.1 })))
 
-returns : tie.Need-returns invariant-loop decreases-loop
+returns : tie.Need-returns-in_default invariant-loop decreases-loop
 unfolding context_of context
 returns c =
-    let f = c.before.before in
-    let a = f.before.before.before.before.args in (
+    let a = c.args in (
       capital_no_volume (context_of a.catalogue.now a.fit.now) (pairs_of a.catalogue.now a.fit.now)
-          (sym f.attribute-id.ensures ∙ ap id_of c.enum_told.given.1),
+          (sym c.attribute_id-of_volume.ensures ∙ ap id_of c.in_default.is),
       omega arith,
     )
 
-returns-2 : tie.Need-returns-2 invariant-loop decreases-loop
+returns-2 : tie.Need-returns-in_default-of_capital invariant-loop decreases-loop
 unfolding context_of context
 returns-2 c =
-    let d = c.before.before in
-    let a = d.before.before.before.before.before.before.before.before.args in (
-      capital_no_capital (context_of a.catalogue.now a.fit.now) (pairs_of a.catalogue.now a.fit.now) _ (volume-id d)
-          (sym d.attribute-id2.ensures ∙ ap id_of c.enum-told2.given.1),
+    let a = c.args in (
+      capital_no_capital (context_of a.catalogue.now a.fit.now) (pairs_of a.catalogue.now a.fit.now) _ (volume-id c.before)
+          (sym c.attribute_id-of_capital.ensures ∙ ap id_of c.in_default-of_capital.is),
       omega arith,
     )
 
-returns-3 : tie.Need-returns-3 invariant-loop decreases-loop
+returns-3 : tie.Need-returns-then-takes_capitals invariant-loop decreases-loop
 unfolding context_of context
 returns-3 c =
-    let t = c.before in
-    let d = t.before.before.before.before in
-    let a = d.before.before.before.before.before.before.before.before.args in (
-      capital_taken (context_of a.catalogue.now a.fit.now) (pairs_of a.catalogue.now a.fit.now) _ _ (volume-id d)
-          (capital-id t) (sym t.takes-capitals.ensures ∙ c.if1.true),
+    let a = c.args in (
+      capital_taken (context_of a.catalogue.now a.fit.now) (pairs_of a.catalogue.now a.fit.now) _ _ (volume-id c.before.before.before)
+          (capital-id c.before) (sym c.takes_capitals.ensures ∙ c.if-takes_capitals.true),
       omega arith,
     )
 
-loop-holds : tie.Need-loop-init invariant-loop decreases-loop
+loop-holds : tie.Need-loop-i-init invariant-loop decreases-loop
 loop-holds c = passed_none _ _ _ _ _
 
-loop-again : tie.Need-loop-preserved invariant-loop decreases-loop
+loop-again : tie.Need-loop-i-preserved invariant-loop decreases-loop
 loop-again c =
-    let l = c.before.before.before.before.before in
-    passed_more _ _ _ (capital_few _) (omega arith) l.loop.invariant (c.before.before.capital-item-at.ensures _)
+    passed_more _ _ _ (capital_few _) (omega arith) c.loop-i.invariant (c.capital_item_at-m.ensures _)
 
-same_length : tie.Need-same-length invariant-loop decreases-loop
-same_length c = wrote-length c.before.loop.invariant.wrote
+same_length : tie.Need-shape_of-out invariant-loop decreases-loop
+same_length c = wrote-length c.loop-i.invariant.wrote
 
-returns-4 : tie.Need-returns-4 invariant-loop decreases-loop
+returns-4 : tie.Need-returns invariant-loop decreases-loop
 unfolding context_of context
 returns-4 c =
-    let l = c.before in
-    let t = l.before.before.before in
-    let d = t.before.before.before.before in
-    let s = d.before.before.before.before.before.before.before.before in
-    let w = passed_all s.args.catalogue.now s.args.fit.now _ s.requires.0.fit_sound (omega arith) l.loop.invariant in (
-      capital_each (context_of s.args.catalogue.now s.args.fit.now) (pairs_of s.args.catalogue.now s.args.fit.now) _ _
-          (volume-id d) (capital-id t) (sym t.takes-capitals.ensures ∙ l.before.before.if1.false) w.0,
+    let w = passed_all c.args.catalogue.now c.args.fit.now _ c.requires.0.fit_sound (omega arith) c.loop-i.invariant in (
+      capital_each (context_of c.args.catalogue.now c.args.fit.now) (pairs_of c.args.catalogue.now c.args.fit.now) _ _
+          (volume-id c.before.before.before.before.before.before) (capital-id c.before.before.before.before) (sym c.takes_capitals.ensures ∙ c.if-takes_capitals.false) w.0,
       w.1,
     )
 
-pub capital-item-spec : {M : Type 1} → statement M
-capital-item-spec =
-    tie.close
-    (tie.spec
-    invariant-loop
-    decreases-loop
-    (λ c κs. search rules)
-    (λ c. search rules)
-    (λ c. search rules)
-    returns
-    (λ c κs. search rules)
-    (λ c. search rules)
-    (λ c. search rules)
-    returns-2
-    (λ c κs. search rules)
-    returns-3
-    (λ c κs. search rules)
-    loop-holds
-    (λ c κs. search rules)
-    (λ c. search rules)
-    (λ c. search rules)
-    loop-again
-    same_length
-    returns-4)
+pub capital_item_spec : {M : Type 1} → statement M
+capital_item_spec = tie.close (tie.spec invariant-loop decreases-loop (λ c κs. search rules) (λ c. search rules) (λ c. search rules) returns (λ c κs. search rules) (λ c. search rules) (λ c. search rules) returns-2 (λ c κs. search rules) returns-3 (λ c κs. search rules) loop-holds (λ c κs. search rules) (λ c. search rules) (λ c. search rules) loop-again same_length returns-4)

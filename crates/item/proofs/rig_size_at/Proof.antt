@@ -15,44 +15,24 @@ use Rattle.item.proofs.rig_size_at.Statement.{statement}
 use Rattle.item.proofs.rig_size_at.Tie as tie
 
 -- the value that was looked up, under the id itself
-told : (c : tie.After-value) → let a = c.before.before.before.before.args in
-    value_of c.value.result ≡ value (result_of a.fit.now (a.i + 2)) a.id
+
+told : (c : tie.After-value-answer) → let a = c.args in
+    value_of c.value-answer.result ≡ value (result_of a.fit.now (a.i + 2)) a.id
 told c =
-    let s = c.before.before.before.before in
-    c.value.ensures ∙ ap (value (result_of s.args.fit.now (s.args.i + 2))) (to_z-of_z w32 s.args.id s.ranges.id)
+    c.value-answer.ensures ∙ ap (value (result_of c.args.fit.now (c.args.i + 2))) (to_z-of_z w32 c.args.id c.ranges.id)
 
-returns : tie.Need-returns
+returns : tie.Need-returns-in_default
 returns c = λ catalogue.
-    let v = c.before.before in
-    let a = v.before.before.before.before.args in
-    rig-none a.id a.ship (pair_at catalogue a.fit.now a.i) (sym (told v) ∙ ap value_of c.enum_told.given.1)
+    let a = c.args in
+    rig-none a.id a.ship (pair_at catalogue a.fit.now a.i) (sym (told c.before) ∙ ap value_of c.in_default.is)
 
-returns-2 : tie.Need-returns-2
+returns-2 : tie.Need-returns
 returns-2 c = λ catalogue.
-    let w = c.before.before in
-    let t = w.before.before.before in
-    let m = t.before.before.before.before in
-    let v = m.before.before in
-    let a = v.before.before.before.before.args in
+    let a = c.args in
     rig-some a.id a.ship (pair_at catalogue a.fit.now a.i)
-    (sym (told v) ∙ ap value_of m.answer.given.1)
-    (t.both.ensures ∙ ap (λ (b : Bool). b && ne m.answer.given.0.0 a.ship) (t.before.is-in.ensures catalogue))
-    w.before.before.to-u8.ensures w.before.to-u82.ensures w.emit-when.ensures
+    (sym (told c.before.before.before.before.before.before.before.before.before) ∙ ap value_of c.in-Given.is)
+    (c.both.ensures ∙ ap (λ (b : Bool). b && ne c.in-Given.size a.ship) (c.is_in.ensures catalogue))
+    c.to_u8.ensures c.to_u8-2.ensures c.emit_when.ensures
 
-pub rig-size-at-spec : {M : Type 1} → statement M
-rig-size-at-spec =
-    tie.close
-    (tie.spec
-    (λ c. search rules)
-    (λ c κs. search rules)
-    (λ c. search rules)
-    (λ c. search rules)
-    returns
-    (λ c κs. search rules)
-    (λ c κs. search rules)
-    (λ c. search rules)
-    (λ c κs. search rules)
-    (λ c κs. search rules)
-    (λ c κs. search rules)
-    (λ c. search rules)
-    returns-2)
+pub rig_size_at_spec : {M : Type 1} → statement M
+rig_size_at_spec = tie.close (tie.spec (λ c. search rules) (λ c κs. search rules) (λ c. search rules) (λ c. search rules) returns (λ c κs. search rules) (λ c κs. search rules) (λ c. search rules) (λ c κs. search rules) (λ c κs. search rules) (λ c κs. search rules) (λ c. search rules) returns-2)

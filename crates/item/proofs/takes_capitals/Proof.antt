@@ -14,20 +14,19 @@ use Rattle.item.proofs.takes_capitals.Statement.{statement}
 use Rattle.item.proofs.takes_capitals.Tie as tie
 
 -- the test on the ship's own value
-told : (c : tie.After-amount) → let s = c.before.before.before.before in
-    ne c.amount.result zero_f ≡ ne (amount (result_of s.args.fit.now 0) s.args.capital) zero_f
+
+told : (c : tie.After-amount) → ne c.amount.result zero_f ≡ ne (amount (result_of c.args.fit.now 0) c.args.capital) zero_f
 told c =
-    let s = c.before.before.before.before in
     ap (λ (v : Float). ne v zero_f)
-    (c.amount.ensures ∙ ap (amount (result_of s.args.fit.now 0)) (to_z-of_z w32 s.args.capital s.ranges.capital))
+    (c.amount.ensures ∙ ap (amount (result_of c.args.fit.now 0)) (to_z-of_z w32 c.args.capital c.ranges.capital))
 
-returns : tie.Need-returns
+returns : tie.Need-returns-then-amount
 unfolding of_bits context_of context fit_of
-returns c = let capital : ne c.before.amount.result zero_f ≡ true = c.if1.true in rw (sym (told c.before) ∙ capital)
+returns c = let capital : ne c.amount.result zero_f ≡ true = c.if-amount.true in rw (sym (told c.before) ∙ capital)
 
-returns-2 : tie.Need-returns-2
+returns-2 : tie.Need-returns
 unfolding of_bits context_of context fit_of
-returns-2 c = rw (sym (told c.before.before) ∙ c.before.if1.false) c.is-structure.ensures
+returns-2 c = rw (sym (told c.before.before) ∙ c.if-amount.false) c.is_structure.ensures
 
-pub takes-capitals-spec : {M : Type 1} → statement M
-takes-capitals-spec = tie.close (tie.spec (λ c κs. search rules) returns (λ c κs. search rules) returns-2)
+pub takes_capitals_spec : {M : Type 1} → statement M
+takes_capitals_spec = tie.close (tie.spec (λ c κs. search rules) returns (λ c κs. search rules) returns-2)

@@ -14,33 +14,31 @@ use Rattle.slot.proofs.slot_number.Statement.{statement}
 use Rattle.slot.proofs.slot_number.Tie as tie
 
 -- the id of a name
+
 abbrev id-by : Option ℕ → List Name → Option Id
 id-by name names = given name none (name_id names)
 
 abbrev pair : tie.Start → Pair
 pair s = pair_at s.args.catalogue.now s.args.fit.now s.args.i
 
-returns : tie.Need-returns
+returns : tie.Need-returns-then-slot-eq-IMPLANT
 unfolding given
 returns c =
-    let s = c.before.before.before.before in
-    let name = number-implant (pair s) c.before.item-slot.ensures c.if1.true in
-    s.requires.1.implantness ∙ ap₂ id-by (sym name) (context-names s.args.catalogue.now s.args.fit.now)
+    let name = number-implant (pair c.before.before.before.before) c.item_slot-slot.ensures c.if-slot-eq-IMPLANT.true in
+    c.requires.1.implantness ∙ ap₂ id-by (sym name) (context-names c.args.catalogue.now c.args.fit.now)
 
-returns-2 : tie.Need-returns-2
+returns-2 : tie.Need-returns-then-slot-eq-BOOSTER
 unfolding given
 returns-2 c =
-    let s = c.before.before.before.before.before in
-    let name = number-booster (pair s) c.before.before.item-slot.ensures c.if2.true in
-    s.requires.1.boosterness ∙ ap₂ id-by (sym name) (context-names s.args.catalogue.now s.args.fit.now)
+    let name = number-booster (pair c.before.before.before.before.before) c.item_slot-slot.ensures c.if-slot-eq-BOOSTER.true in
+    c.requires.1.boosterness ∙ ap₂ id-by (sym name) (context-names c.args.catalogue.now c.args.fit.now)
 
-returns-3 : tie.Need-returns-3
+returns-3 : tie.Need-returns
 unfolding given
 returns-3 c =
-    let s = c.before.before.before.before.before in
-    let x = context_of s.args.catalogue.now s.args.fit.now in
-    let name = number-none (pair s) c.before.before.item-slot.ensures c.before.if1.false c.if2.false in
+    let x = context_of c.args.catalogue.now c.args.fit.now in
+    let name = number-none (pair c.before.before.before.before.before) c.item_slot-slot.ensures c.if-slot-eq-IMPLANT.false c.if-slot-eq-BOOSTER.false in
     ap (λ (o : Option ℕ). id-by o x.names) (sym name)
 
-pub slot-number-spec : {M : Type 1} → statement M
-slot-number-spec = tie.close (tie.spec (λ c κs. search rules) returns returns-2 returns-3)
+pub slot_number_spec : {M : Type 1} → statement M
+slot_number_spec = tie.close (tie.spec (λ c κs. search rules) returns returns-2 returns-3)

@@ -11,21 +11,20 @@ use Rattle.slot.proofs.slot_taken.Statement.{statement}
 use Rattle.slot.proofs.slot_taken.Tie as tie
 
 -- whether the slot is taken, by whether it holds one
+
 abbrev by : (s : tie.Start) → List ℕ → Bool → Bool
 by s catalogue one =
     let fit = s.args.fit.now in
     one && any_of (shares_slot (pair_at catalogue fit s.args.i)) (pairs_of catalogue fit)
 
-returns : tie.Need-returns
+returns : tie.Need-returns-then-holds_one
 returns c =
-    let h = c.before.before in
     λ catalogue.
-    c.shares-slot.ensures catalogue ∙ ap (by h.before.before catalogue) (sym c.before.if1.true ∙ h.holds-one.ensures catalogue)
+    c.shares_slot.ensures catalogue ∙ ap (by c.before.before.before.before catalogue) (sym c.if-holds_one.true ∙ c.holds_one.ensures catalogue)
 
-returns-2 : tie.Need-returns-2
+returns-2 : tie.Need-returns
 returns-2 c =
-    let h = c.before in
-    λ catalogue. ap (by h.before.before catalogue) (sym c.if1.false ∙ h.holds-one.ensures catalogue)
+    λ catalogue. ap (by c.before.before.before catalogue) (sym c.if-holds_one.false ∙ c.holds_one.ensures catalogue)
 
-pub slot-taken-spec : {M : Type 1} → statement M
-slot-taken-spec = tie.close (tie.spec (λ c κs. search rules) (λ c κs. search rules) returns returns-2)
+pub slot_taken_spec : {M : Type 1} → statement M
+slot_taken_spec = tie.close (tie.spec (λ c κs. search rules) (λ c κs. search rules) returns returns-2)

@@ -3,7 +3,6 @@ use mathlib.Core.Path.{◌≡◌, sym, ap, ◌∙◌}
 use mathlib.Core.List.{List}
 use mathlib.Core.Option.{some}
 use lib.IntN.{ℤ}
-use borrow.Author.Tests.{not-true, not-false}
 use mir.Syntax.{w32}
 use mir.Val.{of_z, to_z}
 use mir.ValLaws.{to_z-of_z}
@@ -23,6 +22,7 @@ use Rattle.slot.proofs.subsystem_taken.Statement.{statement}
 use Rattle.slot.proofs.subsystem_taken.Tie as tie
 
 -- the context and the pair
+
 abbrev context : tie.Start → Context
 context c = context_of c.args.catalogue.now c.args.fit.now
 
@@ -35,64 +35,44 @@ name c =
     let names = context-names c.args.catalogue.now c.args.fit.now in
     c.requires.1.part ∙ ap (λ (ns : List Name). name_id ns Names.sub_system_slot) names
 
-returns : tie.Need-returns
+returns : tie.Need-returns-then-not-is_in
 returns c =
-    let s = c.before.before.before.before in
-    no_subsystem (context s) _ (pair s) (sym (c.before.is-in.ensures s.args.catalogue.now) ∙ not-true _ c.if1.true)
+    no_subsystem (context c.before.before.before.before) _ (pair c.before.before.before.before) (sym (c.is_in.ensures c.args.catalogue.now) ∙ c.if-not-is_in.true)
 
-returns-2 : tie.Need-returns-2
+returns-2 : tie.Need-returns-in_default
 returns-2 c =
-    let s = c.before.before.before.before.before.before in
-    part-unnamed (context s) _ (pair s) (sym (name s) ∙ ap id_of c.enum_told.given.1)
+    part-unnamed (context c.before.before.before.before.before) _ (pair c.before.before.before.before.before) (sym (name c.before.before.before.before.before) ∙ ap id_of c.in_default.is)
 
 -- it is known
-abbrev start : tie.After-value → tie.Start
-start c = c.before.before.before.before.before.before.before.before.before
+abbrev start : tie.After-value-value → tie.Start
+start c = c.before.before.before.before.before.before.before
 
-abbrev id-of : tie.After-value → ℤ
-id-of c = c.before.before.before.part.given.0.0
+abbrev id-of : tie.After-value-value → ℤ
+id-of c = c.in-Known.id
 
-wide : (c : tie.After-value) → to_z w32 (of_z w32 (id-of c)) ≡ id-of c
-wide c = to_z-of_z w32 (id-of c) (record { sfits = c.before.before.known-told.given.0.1 })
+wide : (c : tie.After-value-value) → to_z w32 (of_z w32 (id-of c)) ≡ id-of c
+wide c = to_z-of_z w32 (id-of c) (record { sfits = c.in-Known.known_told-1-own.given.0.1 })
 
-known : (c : tie.After-value) → name_id (context (start c)).names Names.sub_system_slot ≡ some (id-of c)
-known c = sym (name (start c)) ∙ ap id_of c.before.before.before.part.given.1
+known : (c : tie.After-value-value) → name_id (context (start c)).names Names.sub_system_slot ≡ some (id-of c)
+known c = sym (name (start c)) ∙ ap id_of c.in-Known.is
 
 -- its value
-read : (c : tie.After-value) → value (pair (start c)).result (id-of c) ≡ value_of c.value.result
-read c = sym (c.value.ensures ∙ ap (value (pair (start c)).result) (wide c))
+read : (c : tie.After-value-value) → value (pair (start c)).result (id-of c) ≡ value_of c.value-value.result
+read c = sym (c.value-value.ensures ∙ ap (value (pair (start c)).result) (wide c))
 
-returns-3 : tie.Need-returns-3
+returns-3 : tie.Need-returns-in_default-value
 returns-3 c =
-    let v = c.before.before in
-    let s = start v in
-    part-missing (context s) _ (pair s) (id-of v) (known v) (read v ∙ ap value_of c.enum-told2.given.1)
+    let s = start c.before in
+    part-missing (context s) _ (pair s) (id-of c.before) (known c.before) (read c.before ∙ ap value_of c.in_default-value.is)
 
-returns-4 : tie.Need-returns-4
+returns-4 : tie.Need-returns
 returns-4 c =
-    let v = c.before.before.before.before in
-    let g = c.before.before.value2.given in
-    let s = start v in
+    let s = start c.before.before in
     let catalogue = s.args.catalogue.now in
     let ps = pairs_of catalogue s.args.fit.now in
-    let i = v.before.before.before.before.before.before in
-    part-given (context s) ps (pair s) (id-of v) (known v) g.0.0 (read v ∙ ap value_of g.1)
-    (sym (i.is-in.ensures catalogue) ∙ not-false _ v.before.before.before.before.before.if1.false)
-    (c.shares-part.ensures catalogue ∙ ap (λ (z : ℤ). any_of (shares_part z g.0.0 (pair s)) ps) (wide v))
+    part-given (context s) ps (pair s) (id-of c.before.before) (known c.before.before) c.in-Given.part (read c.before.before ∙ ap value_of c.in-Given.is)
+    (sym (c.is_in.ensures catalogue) ∙ c.if-not-is_in.false)
+    (c.shares_part.ensures catalogue ∙ ap (λ (z : ℤ). any_of (shares_part z c.in-Given.part (pair s)) ps) (wide c.before.before))
 
-pub subsystem-taken-spec : {M : Type 1} → statement M
-subsystem-taken-spec =
-    tie.close
-    (tie.spec
-    (λ c κs. search rules)
-    returns
-    (λ c. search rules)
-    (λ c. search rules)
-    returns-2
-    (λ c. search rules)
-    (λ c κs. search rules)
-    (λ c. search rules)
-    (λ c. search rules)
-    returns-3
-    (λ c κs. search rules)
-    returns-4)
+pub subsystem_taken_spec : {M : Type 1} → statement M
+subsystem_taken_spec = tie.close (tie.spec (λ c κs. search rules) returns (λ c. search rules) (λ c. search rules) returns-2 (λ c. search rules) (λ c κs. search rules) (λ c. search rules) (λ c. search rules) returns-3 (λ c κs. search rules) returns-4)

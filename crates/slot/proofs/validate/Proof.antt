@@ -14,87 +14,64 @@ use borrow.Author.Rules.{rules}
 use Rattle.slot.proofs.validate.Statement.{statement}
 use Rattle.slot.proofs.validate.Tie as tie
 
-abbrev invariant-loop : tie.invariant-loop
+abbrev invariant-loop : tie.invariant-loop-i
 invariant-loop catalogue fit facts out₀ n ids places count k₀ i₀ out k i =
     (i ≤ count) × (k ≤ n + 8 * i)
     × Wrote out₀ n out k (each (table i (pair_at catalogue fit)) (slot_checks (context_of catalogue fit) (pairs_of catalogue fit)))
 
-abbrev decreases-loop : tie.decreases-loop
+abbrev decreases-loop : tie.decreases-loop-i
 decreases-loop catalogue fit facts out₀ n ids places count k₀ i₀ out k i = count - i
 
-loop-holds : tie.Need-loop-init invariant-loop decreases-loop
+loop-holds : tie.Need-loop-i-init invariant-loop decreases-loop
 loop-holds c = (omega arith, omega arith, wrote-table_none _ _ _ _)
 
 -- pairs are no more than items, of which there are 256 at most
-few : (c : tie.At-loop invariant-loop decreases-loop) → c.before.pair-count.result ≤ 256
+few : (c : tie.At-loop-i invariant-loop decreases-loop) → c.pair_count-count.result ≤ 256
 few c =
-    let s = c.before.before.before.before.before.before.before in
-    omega (arith, c.before.pair-count.ensures, s.requires.0.fit_sound.sized.items)
+    omega (arith, c.pair_count-count.ensures, c.requires.0.fit_sound.sized.items)
 
-item-at-requires : tie.Need-item-at-requires invariant-loop decreases-loop
-item-at-requires c κs =
-    let p = c.before.before.before in
-    let s = p.before.before.before.before.before.before in (
-      s.requires.0,
-      p.before.places.ensures,
-      p.before.before.ids-of.ensures,
-      omega (arith, p.pair-count.ensures, c.before.loop-test.true),
-    )
+item-at-requires : tie.Need-item_at-item-requires invariant-loop decreases-loop
+item-at-requires c κs = (
+  c.requires.0,
+  c.places-places.ensures,
+  c.ids_of-ids.ensures,
+  omega (arith, c.pair_count-count.ensures, c.loop-i-test.true),
+)
 
-slot-checks-requires : tie.Need-slot-checks-requires invariant-loop decreases-loop
+slot-checks-requires : tie.Need-slot_checks-k-requires invariant-loop decreases-loop
 slot-checks-requires c κs =
-    let l = c.before.before.before.before in
-    let s = l.before.before.before.before.before.before.before in
-    omega (arith, few l, c.before.before.before.loop-test.true, l.loop.invariant.1, s.requires.1)
+    omega (arith, few c.before.before.before.before, c.loop-i-test.true, c.loop-i.invariant.1, c.requires.1)
 
-add-i : tie.Need-overflow-add-i invariant-loop decreases-loop
+add-i : tie.Need-overflow_add-i invariant-loop decreases-loop
 add-i c = omega arith
 
-loop-less : tie.Need-loop-smaller invariant-loop decreases-loop
+loop-less : tie.Need-loop-i-smaller invariant-loop decreases-loop
 loop-less c = omega arith
 
-loop-again : tie.Need-loop-preserved invariant-loop decreases-loop
+loop-again : tie.Need-loop-i-preserved invariant-loop decreases-loop
 loop-again c =
-    let w = c.before.before.slot-checks.ensures in
-    let m = c.before.before.before.before in
-    let l = m.before.before.before in (
-      omega (arith, m.before.before.loop-test.true),
-      omega (arith, w.few, l.loop.invariant.1),
-      wrote-table_next _ _ l.loop.i l.loop.invariant.2 (w.wrote _ _ _ m.item-at.ensures),
+    let w = c.slot_checks-k.ensures in (
+      omega (arith, c.loop-i-test.true),
+      omega (arith, w.few, c.loop-i.invariant.1),
+      wrote-table_next _ _ c.loop-i.i c.loop-i.invariant.2 (w.wrote _ _ _ c.item_at-item.ensures),
     )
 
-same_length : tie.Need-same-length invariant-loop decreases-loop
-same_length c = wrote-length c.before.loop.invariant.2
+same_length : tie.Need-shape_of-out invariant-loop decreases-loop
+same_length c = wrote-length c.loop-i.invariant.2
 
 returns : tie.Need-returns invariant-loop decreases-loop
 returns c =
-    let l = c.before in
-    let a = l.before.before.before.before.before.before.before.args in
+    let a = c.args in
     let catalogue = a.catalogue.now in
     let fit = a.fit.now in
     let checks = slot_checks (context_of catalogue fit) (pairs_of catalogue fit) in
-    let e : l.loop.i ≡ pair_count fit = omega arith in (
+    let e : c.loop-i.i ≡ pair_count fit = omega arith in (
       wrote-same
           (ap (λ (m : ℕ). each (table m (pair_at catalogue fit)) checks) e
           ∙ ap (λ (ps : List Pair). each ps checks) (sym (pairs-table catalogue fit)))
-          l.loop.invariant.2,
-      omega (arith, few l, l.loop.invariant.0, l.loop.invariant.1),
+          c.loop-i.invariant.2,
+      omega (arith, few c.before, c.loop-i.invariant.0, c.loop-i.invariant.1),
     )
 
-pub validate-spec : {M : Type 1} → statement M
-validate-spec =
-    tie.close
-    (tie.spec
-    invariant-loop
-    decreases-loop
-    (λ c κs. search rules)
-    (λ c κs. search rules)
-    (λ c κs. search rules)
-    loop-holds
-    item-at-requires
-    slot-checks-requires
-    add-i
-    loop-less
-    loop-again
-    same_length
-    returns)
+pub validate_spec : {M : Type 1} → statement M
+validate_spec = tie.close (tie.spec invariant-loop decreases-loop (λ c κs. search rules) (λ c κs. search rules) (λ c κs. search rules) loop-holds item-at-requires slot-checks-requires add-i loop-less loop-again same_length returns)

@@ -19,72 +19,49 @@ use Rattle.slot.proofs.wrong_slot_index.Statement.{statement}
 use Rattle.slot.proofs.wrong_slot_index.Tie as tie
 
 -- the context and the pair
+
 abbrev context : tie.Start → Context
 context s = context_of s.args.catalogue.now s.args.fit.now
 
 abbrev pair : tie.Start → Pair
 pair s = pair_at s.args.catalogue.now s.args.fit.now s.args.i
 
-returns : tie.Need-returns
+returns : tie.Need-returns-in_default
 returns c =
-    let n = c.before.before in
-    let s = n.before.before.before in
-    unnumbered (context s) (pair s) (sym n.slot-number.ensures ∙ ap id_of c.enum_told.given.1)
+    unnumbered (context c.before.before.before.before) (pair c.before.before.before.before) (sym c.slot_number-number.ensures ∙ ap id_of c.in_default.is)
 
 -- the attribute is known
-abbrev start : tie.After-value → tie.Start
-start c = c.before.before.before.before.before.before.before.before
+abbrev start : tie.After-value-value → tie.Start
+start c = c.before.before.before.before.before.before
 
-abbrev id-of : tie.After-value → ℤ
-id-of c = c.before.before.before.number.given.0.0
+abbrev id-of : tie.After-value-value → ℤ
+id-of c = c.in-Known.id
 
-known : (c : tie.After-value) → given (slot_number_name (pair (start c))) none (name_id (context (start c)).names) ≡ some (id-of c)
-known c = let m = c.before.before.before in sym m.before.before.slot-number.ensures ∙ ap id_of m.number.given.1
+known : (c : tie.After-value-value) → given (slot_number_name (pair (start c))) none (name_id (context (start c)).names) ≡ some (id-of c)
+known c = sym c.slot_number-number.ensures ∙ ap id_of c.in-Known.is
 
 -- its value
-read : (c : tie.After-value) → value (pair (start c)).result (id-of c) ≡ value_of c.value.result
+read : (c : tie.After-value-value) → value (pair (start c)).result (id-of c) ≡ value_of c.value-value.result
 read c =
-    let e = to_z-of_z w32 (id-of c) (record { sfits = c.before.before.known-told.given.0.1 }) in
-    sym (c.value.ensures ∙ ap (value (pair (start c)).result) e)
+    let e = to_z-of_z w32 (id-of c) (record { sfits = c.in-Known.known_told-1-own.given.0.1 }) in
+    sym (c.value-value.ensures ∙ ap (value (pair (start c)).result) e)
 
-returns-2 : tie.Need-returns-2
+returns-2 : tie.Need-returns-in_default-value
 returns-2 c =
-    let v = c.before.before in
-    let s = start v in
-    unnamed (context s) (pair s) (id-of v) (known v) (read v ∙ ap value_of c.enum-told2.given.1)
+    let s = start c.before in
+    unnamed (context s) (pair s) (id-of c.before) (known c.before) (read c.before ∙ ap value_of c.in_default-value.is)
 
-returns-3 : tie.Need-returns-3
+returns-3 : tie.Need-returns-then-expected-item_index
 returns-3 c =
-    let t = c.before.before in
-    let g = t.before.before.value2.given in
-    let v = t.before.before.before.before in
-    let s = start v in
-    let agrees : t.to-u16.result ≡ (pair s).index = omega (arith, c.before.item-index.ensures) in
-    right_index (context s) (pair s) (id-of v) (known v) g.0.0 (read v ∙ ap value_of g.1) t.to-u16.ensures agrees
+    let s = start c.before.before.before.before in
+    let agrees : c.to_u16-expected.result ≡ (pair s).index = omega (arith, c.item_index.ensures) in
+    right_index (context s) (pair s) (id-of c.before.before.before.before) (known c.before.before.before.before) c.in-Given.v (read c.before.before.before.before ∙ ap value_of c.in-Given.is) c.to_u16-expected.ensures agrees
 
-returns-4 : tie.Need-returns-4
+returns-4 : tie.Need-returns
 returns-4 c =
-    let t = c.before.before in
-    let g = t.before.before.value2.given in
-    let v = t.before.before.before.before in
-    let s = start v in
-    wrong_index (context s) (pair s) (id-of v) (known v) g.0.0 (read v ∙ ap value_of g.1) t.to-u16.ensures
-    (λ e. c.if1.false (e ∙ sym c.before.item-index.ensures))
+    let s = start c.before.before.before.before in
+    wrong_index (context s) (pair s) (id-of c.before.before.before.before) (known c.before.before.before.before) c.in-Given.v (read c.before.before.before.before ∙ ap value_of c.in-Given.is) c.to_u16-expected.ensures
+    (λ e. c.if-expected-item_index.false (e ∙ sym c.item_index.ensures))
 
-pub wrong-slot-index-spec : {M : Type 1} → statement M
-wrong-slot-index-spec =
-    tie.close
-    (tie.spec
-    (λ c κs. search rules)
-    (λ c. search rules)
-    (λ c. search rules)
-    returns
-    (λ c. search rules)
-    (λ c κs. search rules)
-    (λ c. search rules)
-    (λ c. search rules)
-    returns-2
-    (λ c κs. search rules)
-    (λ c κs. search rules)
-    returns-3
-    returns-4)
+pub wrong_slot_index_spec : {M : Type 1} → statement M
+wrong_slot_index_spec = tie.close (tie.spec (λ c κs. search rules) (λ c. search rules) (λ c. search rules) returns (λ c. search rules) (λ c κs. search rules) (λ c. search rules) (λ c. search rules) returns-2 (λ c κs. search rules) (λ c κs. search rules) returns-3 returns-4)

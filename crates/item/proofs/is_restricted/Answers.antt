@@ -1,0 +1,50 @@
+-- `item::is_restricted` meets its contract: an item that may list ships, by its two tests of what it lists.
+use mathlib.Core.Path.{◌≡◌, sym, ◌∙◌}
+use mathlib.Core.Bool.{false}
+use mir.Syntax.{w32}
+use mir.ValLaws.{to_z-of_z}
+use Rattle.catalogue.specs.Catalogue.{catalogue_of}
+use Rattle.fit.specs.Fit.{fit_of}
+use Rattle.context.specs.Context.{context}
+use Rattle.context.specs.Gathered.{context_of, pair_at}
+use Rattle.context.proofs.Types.{told-group}
+use Rattle.item.specs.Item.{ship_types, ship_groups}
+use Rattle.item.specs.Flags.{any_flagged}
+use Rattle.item.proofs.Listings.{listing-of, listed-codes}
+use Rattle.item.proofs.Flags.{nothing-listed}
+use Rattle.item.proofs.Rules.{restricted_unfitted, restricted_unlisted, restricted_fitted}
+use Rattle.item.proofs.is_restricted.Goals as goal
+
+pub returns-then-not-is_fitted_at : goal.returns-then-not-is_fitted_at
+returns-then-not-is_fitted_at c =
+    let a = c.args in
+    restricted_unfitted (context_of a.catalogue.now a.fit.now) (pair_at a.catalogue.now a.fit.now a.i)
+    (sym (c.is_fitted_at.ensures a.catalogue.now) ∙ c.if-not-is_fitted_at.true)
+
+pub returns-then-not-may_list : goal.returns-then-not-may_list
+unfolding context_of context
+returns-then-not-may_list c =
+    let a = c.args in
+    let x = context_of a.catalogue.now a.fit.now in
+    let p = pair_at a.catalogue.now a.fit.now a.i in
+    let none : any_flagged a.flags.now p.result ≡ false = sym c.may_list.ensures ∙ c.if-not-may_list.true in
+    restricted_unlisted x p
+    (sym (listed-codes x p ship_types a.types.now c.requires.ship_ids.types_known) ∙ nothing-listed a.flags.now p.result none
+    a.types.now c.requires.ship_ids.types_flagged)
+    (sym (listed-codes x p ship_groups a.groups.now c.requires.ship_ids.groups_known) ∙ nothing-listed a.flags.now p.result none
+    a.groups.now c.requires.ship_ids.groups_flagged)
+
+pub returns : goal.returns
+unfolding context_of context fit_of
+returns c =
+    let a = c.args in
+    let x = context_of a.catalogue.now a.fit.now in
+    let p = pair_at a.catalogue.now a.fit.now a.i in
+    let ship = to_z-of_z w32 c.ship-ship.result (record { sfits = c.ship-ship.type_inv }) ∙ c.ship-ship.ensures in
+    let group = to_z-of_z w32 c.group_named-group.result (record { sfits = c.group_named-group.type_inv }) ∙ c.group_named-group.ensures
+    ∙ told-group (catalogue_of a.catalogue.now) (fit_of a.fit.now).frame.ship c.ship_type.ensures in
+    restricted_fitted x p c.listed-of_types.result c.listed-of_groups.result c.lists_others.result
+    (sym (c.is_fitted_at.ensures a.catalogue.now) ∙ c.if-not-is_fitted_at.false)
+    (listing-of x p ship_types a.types.now _ _ c.listed-of_types.result c.requires.ship_ids.types_known ship c.listed-of_types.ensures)
+    (listing-of x p ship_groups a.groups.now _ _ c.listed-of_groups.result c.requires.ship_ids.groups_known group c.listed-of_groups.ensures)
+    c.lists_others.ensures

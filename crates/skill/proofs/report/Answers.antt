@@ -1,0 +1,48 @@
+-- `skill::report` meets its contract. The invariant: the entries of the first i skills are written, at most one each.
+use lib.IntN.{pos}
+use lib.ListN.{get_or}
+use mir.Syntax.{w32}
+use mir.ValLaws.{to_z-of_z}
+use native.Mathlib.Omega.{arith}
+use mathlib.Core.Path.{refl, ap}
+use Rattle.fit.specs.Fit.{fit_of}
+use Rattle.entry.proofs.Wrote.{wrote-length, wrote-same, wrote-table_none, wrote-table_next, wrote-table_all}
+use Rattle.skill.specs.Skill.{entry_of}
+use Rattle.skill.specs.Held.{zip_to, held_at}
+use Rattle.skill.proofs.Zips.{pair_eq}
+use Rattle.skill.proofs.Reports.{few-entry}
+use Rattle.skill.proofs.report.Goals as goal
+
+pub loop-i-init : goal.loop-i-init
+unfolding zip_to
+loop-i-init c =
+    let a = c.args in
+    let w = a.walk in
+    (omega arith, omega arith, wrote-table_none (entry_of (fit_of a.fit.now) a.res) (held_at w.ids w.levels) _ _, omega arith)
+
+pub loop-i-preserved : goal.loop-i-preserved
+unfolding zip_to
+loop-i-preserved c =
+    let l = c.loop-i in
+    let a = c.args in
+    let w = a.walk in
+    let f = entry_of (fit_of a.fit.now) a.res in
+    let skill = get_or w.ids l.i (pos 0) in
+    let e = pair_eq (to_z-of_z w32 skill (record { sfits = c.id-1.given })) (refl {a = get_or w.levels l.i 0}) in
+    let r = wrote-same (ap f e) c.report_skill-k.ensures in
+    let few = few-entry (fit_of a.fit.now) a.res (held_at w.ids w.levels l.i) in
+    (omega arith, refl, wrote-table_next f (held_at w.ids w.levels) l.i l.invariant.2 r, omega (arith, r.count, few, l.invariant.3))
+
+pub shape_of-out : goal.shape_of-out
+shape_of-out c = wrote-length c.loop-i.invariant.2
+
+pub returns : goal.returns
+unfolding zip_to
+returns c =
+    let l = c.loop-i in
+    let a = c.args in
+    let w = a.walk in
+    let f = entry_of (fit_of a.fit.now) a.res in (
+      wrote-table_all f (held_at w.ids w.levels) l.invariant.0 c.loop-i-test.false l.invariant.2,
+      omega (arith, l.invariant.0, l.invariant.3, c.requires.2),
+    )

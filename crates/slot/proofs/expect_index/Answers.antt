@@ -1,0 +1,17 @@
+-- `slot::expect_index` meets its contract, by the two cases of an expected index.
+use native.Mathlib.Omega.{arith}
+use Rattle.entry.proofs.Wrote.{wrote_none}
+use Rattle.slot.specs.Slot.{wrong_slot_index}
+use Rattle.slot.proofs.Checks.{checked, index_is, index-none}
+use Rattle.slot.proofs.expect_index.Goals as goal
+
+pub returns-in-Index : goal.returns-in-Index
+returns-in-Index c =
+    let a = c.args in
+    checked (λ x ps p. wrong_slot_index x p) c.push_when.ensures
+    (λ x ps p h. index_is a.item x h c.in-Index.is)
+
+pub returns-in-Nothing : goal.returns-in-Nothing
+returns-in-Nothing c =
+    let a = c.args in
+    checked (λ x ps p. wrong_slot_index x p) (wrote_none _ _, omega arith) (λ x ps p h. index-none a.item x h c.in-Nothing.is)

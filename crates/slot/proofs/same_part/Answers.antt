@@ -1,0 +1,44 @@
+-- `slot::same_part` meets its contract: another pair, a subsystem, its value.
+use Prim.Native.Nat.{◌+◌}
+use native.Mathlib.Omega.{arith}
+use mathlib.Core.Path.{◌≡◌, sym, ap, ◌∙◌}
+use mathlib.Core.Bool.{false}
+use mathlib.Core.Option.{Option}
+use lib.Ieee.{Float, eq}
+use mir.Syntax.{w32}
+use mir.ValLaws.{to_z-of_z}
+use Rattle.words.specs.Words.{given}
+use Rattle.floats.specs.Values.{value_of}
+use Rattle.fit.specs.Fit.{result_of}
+use Rattle.fit.specs.Lookups.{value}
+use Rattle.context.specs.Gathered.{pair_at}
+use Rattle.slot.proofs.Numbers.{part-own, part-elsewhere, part-is}
+use Rattle.slot.proofs.same_part.Goals as goal
+
+pub returns-then-j-i : goal.returns-then-j-i
+returns-then-j-i c =
+    let a = c.args in
+    let own : a.j ≡ a.i = omega arith in
+    λ catalogue.
+    let pair = pair_at catalogue a.fit.now in
+    part-own a.id a.part (pair a.i) (pair a.j) own
+
+pub returns-then-not-is_in : goal.returns-then-not-is_in
+returns-then-not-is_in c =
+    let a = c.args in
+    λ catalogue.
+    let pair = pair_at catalogue a.fit.now in
+    part-elsewhere a.id a.part (pair a.i) (pair a.j) c.if-j-i.false
+    (sym (c.is_in.ensures catalogue) ∙ c.if-not-is_in.true)
+
+pub returns : goal.returns
+returns c =
+    let a = c.args in
+    let read = value (result_of a.fit.now (a.j + 2)) in
+    let v : value_of c.value.result ≡ read a.id = c.value.ensures ∙ ap read (to_z-of_z w32 a.id c.ranges.id) in
+    let e : c.is_part.result ≡ given (read a.id) false (λ v. eq v a.part) =
+    c.is_part.ensures ∙ ap (λ (o : Option Float). given o false (λ v. eq v a.part)) v in
+    λ catalogue.
+    let pair = pair_at catalogue a.fit.now in
+    part-is a.id a.part (pair a.i) (pair a.j) c.if-j-i.false
+    (sym (c.is_in.ensures catalogue) ∙ c.if-not-is_in.false) e
