@@ -1,9 +1,9 @@
 -- Whether the whole list is empty: the Rust's is, and no type is missing.
-use Prim.Native.Nat.{ℕ, ◌+◌, ◌≤◌}
+use Prim.Native.Nat.{ℕ, ◌≤◌}
 use native.Mathlib.Omega.{arith}
 use mathlib.Core.Path.{◌≡◌, refl, sym, ap, ◌∙◌, subst}
 use mathlib.Core.Bool.{Bool, true, false, cond}
-use mathlib.Core.List.{List, [], ◌++◌}
+use mathlib.Core.List.{List, ◌++◌}
 use lib.ListN.{length, length-append}
 use Rattle.words.specs.Words.{is_empty}
 use Rattle.catalogue.specs.Catalogue.{Catalogue, catalogue_of}

@@ -3,14 +3,13 @@ use Prim.Native.Nat.{ℕ}
 use native.Mathlib.Omega.{arith}
 use mathlib.Core.Path.{◌≡◌, refl, sym, ap, ap₂, ◌∙◌}
 use mathlib.Core.Bool.{Bool, true, false, cond}
-use mathlib.Core.List.{List, [], ◌∷◌, ◌++◌, append-nil}
+use mathlib.Core.List.{List, [], ◌∷◌, ◌++◌}
 use mathlib.Core.Option.{Option}
 use lib.Dec.{eqb}
 use Rattle.words.specs.Words.{each, when_above, only}
 use Rattle.words.proofs.Steps.{only-append}
-use Rattle.words.proofs.All.{All, nil, cons, all_join, all-when, all-cond, all-bind, all-each}
+use Rattle.words.proofs.All.{All, nil, all_join, all-when, all-cond, all-bind, all-each}
 use Rattle.numbers.specs.Readers as Readers
-use Rattle.profile.specs.Profile.{prices_of}
 use Rattle.catalogue.specs.Catalogue.{Id, Catalogue, catalogue_of}
 use Rattle.fit.specs.Fit.{Frame, fit_of, mode_of}
 use Rattle.entry.specs.declared.Entry.{Entry}
@@ -24,7 +23,7 @@ use Rattle.validate.specs.Validate.{hull_rules, list_with, list_of}
 use Rattle.lists.specs.Terms.{Terms}
 use Rattle.lists.specs.Unknown.{unknown_type_at, unknown_types}
 use Rattle.lists.specs.Lists.{on_hull, league_of, league_with, whole_with, for_guests, for_reader}
-use Rattle.lists.proofs.Numbers.{Low, only-all, only_no, low-rules, raise, all-below}
+use Rattle.lists.proofs.Numbers.{only-all, only_no, low-rules, raise, all-below}
 
 abbrev AllTold : List Entry → Type 0
 AllTold = All (λ e. for_guests e ≡ true)

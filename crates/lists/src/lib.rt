@@ -1,4 +1,6 @@
 // The whole list of a fit: the Rust's, then the rules that document 02 adds behind a hull's.
+#![tactic(auto)]
+
 ghost use Rattle.std.specs.Prelude.{◌≡◌, ◌+◌, ◌≤◌, ◌<◌, length};
 ghost use Rattle.words.specs.Words.{is_empty};
 ghost use Rattle.numbers.specs.Sizes.{most_pairs};

@@ -1,5 +1,5 @@
 -- Whether a list is empty, by how many entries each of its parts has.
-use Prim.Native.Nat.{ℕ, ◌+◌, ◌≤◌, ◌<◌}
+use Prim.Native.Nat.{ℕ, ◌+◌, ◌<◌}
 use native.Mathlib.Omega.{arith}
 use mathlib.Core.Path.{◌≡◌, refl, sym, ap, ◌∙◌, subst}
 use mathlib.Core.Bool.{Bool, true, false, cond}
@@ -18,7 +18,7 @@ use Rattle.slot.specs.Slot.{slot_rules}
 use Rattle.item.specs.Item.{item_rules}
 use Rattle.limits.specs.Limits.{limit_rules}
 use Rattle.validate.specs.Kind.{is_hull, not_a_mode, not_a_skill}
-use Rattle.validate.specs.Validate.{hull_rules, list_with, list_of}
+use Rattle.validate.specs.Validate.{hull_rules, list_of}
 use Rattle.validate.proofs.Hull.{on-hull, no_hull, of_fit_lem}
 
 module _ {A : Type 0} where

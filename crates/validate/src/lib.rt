@@ -1,4 +1,6 @@
 // The list of a fit: validate/mod.rs, and what it asks of calculate/mod.rs, `is_hull` to `is_skill`.
+#![tactic(auto)]
+
 ghost use Rattle.std.specs.Prelude.{◌≡◌, false, not, List, [], ◌∷◌, ◌++◌, ℕ, ◌+◌, ◌-◌, ◌*◌, ◌/◌, ◌≤◌};
 ghost use Rattle.words.specs.Words.{contains, given, is_empty, same, when};
 ghost use Rattle.numbers.specs.Categories as Categories;

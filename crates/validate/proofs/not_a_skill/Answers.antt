@@ -1,0 +1,21 @@
+-- `validate::not_a_skill` meets its contract: four at a time, then those that are left.
+use Prim.Native.Nat.{◌*◌, ◌/◌}
+use native.Mathlib.Omega.{arith}
+use Rattle.catalogue.specs.Catalogue.{catalogue_of}
+use Rattle.fit.specs.Fit.{skill_count, fit_of}
+use Rattle.validate.specs.Kind.{not_a_skill}
+use Rattle.validate.proofs.Tests.{skills-few}
+use Rattle.validate.proofs.not_a_skill.Goals as goal
+
+pub one_by_one-requires : goal.one_by_one-requires
+one_by_one-requires c =
+    let few = skills-few (catalogue_of c.args.catalogue.now) c.args.fit.now (4 * (c.searched-count.result / 4)) c.by_fours-m.ensures in
+    let count = c.searched-count.ensures in
+    (c.requires.0, c.requires.1, omega (arith, count), omega (arith, few, count, c.requires.2, c.requires.1.sized.skills))
+
+pub returns : goal.returns
+unfolding not_a_skill fit_of
+returns c =
+    let fit = c.args.fit.now in
+    let all = c.one_by_one.ensures _ _ c.by_fours-m.ensures in
+    (all, omega (arith, skills-few (catalogue_of c.args.catalogue.now) fit (skill_count fit) all, c.requires.1.sized.skills))

@@ -1,0 +1,48 @@
+-- `validate::one_by_one` meets its contract. The invariant: whatever was written before, the skills up to i are looked at.
+use native.Mathlib.Omega.{arith}
+use mathlib.Core.Path.{◌≡◌, refl, ap, ◌∙◌}
+use mir.Syntax.{w32}
+use mir.ValLaws.{to_z-of_z}
+use Rattle.catalogue.specs.Catalogue.{catalogue_of}
+use Rattle.fit.specs.Fit.{skill_count}
+use Rattle.entry.proofs.Wrote.{wrote-table_next, wrote-same, wrote-length}
+use Rattle.validate.specs.Kind.{not_a_skill_at}
+use Rattle.validate.specs.Skills.{skill_at}
+use Rattle.validate.proofs.Tests.{skill-few, skills-at}
+use Rattle.validate.proofs.one_by_one.Goals as goal
+
+pub loop-i-init : goal.loop-i-init
+loop-i-init c = (omega arith, c.requires.2, omega arith, refl, refl, λ b k v. v)
+
+pub not_a_skill_at-m-requires : goal.not_a_skill_at-m-requires
+not_a_skill_at-m-requires c =
+    let more = c.loop-i-test.true in
+    (c.requires.0, omega (arith, more, c.skill_count-count.ensures, c.loop-i.invariant.0, c.loop-i.invariant.2, c.requires.3))
+
+pub loop-i-preserved : goal.loop-i-preserved
+loop-i-preserved c =
+    let a = c.args in
+    let x = catalogue_of a.catalogue.now in
+    let f = not_a_skill_at x in
+    let k = c.skill_id in
+    let e = wrote-same (ap f (to_z-of_z w32 k.result (record { sfits = k.type_inv }) ∙ k.ensures)) c.not_a_skill_at-m.ensures in
+    let few = skill-few x (skill_at a.fit.now c.loop-i.i) in (
+      omega (arith, c.loop-i.invariant.0),
+      omega (arith, c.loop-i-test.true, c.skill_count-count.ensures),
+      omega (arith, c.loop-i.invariant.0, c.loop-i.invariant.2, e.count, few),
+      c.hints-1.given ∙ c.loop-i.invariant.3,
+      wrote-length e ∙ c.loop-i.invariant.4,
+      λ b n v. wrote-table_next f (skill_at a.fit.now) c.loop-i.i (c.loop-i.invariant.5 b n v) e,
+    )
+
+pub shape_of-hints : goal.shape_of-hints
+shape_of-hints c = c.loop-i.invariant.3
+
+pub shape_of-out : goal.shape_of-out
+shape_of-out c = c.loop-i.invariant.4
+
+pub returns : goal.returns
+returns c = λ b k v.
+    let a = c.args in
+    let end : c.loop-i.i ≡ skill_count a.fit.now = omega (arith, c.loop-i.invariant.1, c.loop-i-test.false, c.skill_count-count.ensures) in
+    skills-at (catalogue_of a.catalogue.now) a.fit.now end (c.loop-i.invariant.5 b k v)
