@@ -1,5 +1,5 @@
 -- Pages: how many pairs a fit has beside a limit, and that no list reads a limit.
-use Prim.Native.Nat.{ℕ, ◌≤◌, ◌<◌, min}
+use Prim.Native.Nat.{ℕ, ◌≤◌, ◌<◌}
 use native.Mathlib.Omega.{arith}
 use mathlib.Core.Path.{◌≡◌, refl, ap, ◌∙◌}
 use mathlib.Core.Bool.{true, false}
@@ -7,9 +7,8 @@ use mathlib.Core.List.{List}
 use lib.ListN.{length}
 use borrow.Author.Tests.{lt-ltb, le-ltb}
 use Rattle.words.proofs.Tables.{length-table}
-use Rattle.numbers.specs.Sizes as Sizes
 use Rattle.catalogue.specs.Catalogue.{Catalogue, catalogue_of}
-use Rattle.fit.specs.Fit.{Fit, fit_of, item_count, result_count}
+use Rattle.fit.specs.Fit.{Fit, fit_of}
 use Rattle.fit.specs.Sound as Fit
 use Rattle.context.specs.Context.{Pair, pairs}
 use Rattle.context.specs.Gathered.{pair_count, pair_at, pairs_of}

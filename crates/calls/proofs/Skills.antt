@@ -8,7 +8,6 @@ use lib.ListN.{length}
 use borrow.Author.Tests.{lt-ltb, le-ltb}
 use Rattle.words.specs.Words.{first_of}
 use Rattle.numbers.specs.Sizes as Sizes
-use Rattle.numbers.specs.Refusals as Refusals
 use Rattle.catalogue.specs.Catalogue.{catalogue_of}
 use Rattle.fit.specs.Fit.{fit_of, result_count}
 use Rattle.fit.proofs.Decoded.{results-length}
@@ -22,7 +21,7 @@ use Rattle.lists.specs.Terms.{Terms, skill_limit}
 use Rattle.calls.specs.Answers.{Refused, answer, no_result, too_many_skills, over_skills}
 use Rattle.calls.specs.Answers.{page_refusals, skill_refusals}
 use Rattle.calls.proofs.First.{numbered-page}
-use Rattle.calls.proofs.Giving.{answer_kept, answer_past, answer_true, answer_false}
+use Rattle.calls.proofs.Giving.{answer_kept, answer_past}
 
 -- ---- refusal 8
 module _ (fit : List ℕ) (result : ℕ) where

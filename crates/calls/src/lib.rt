@@ -1,5 +1,7 @@
 // What the calls stand on: the refusals of what a call brings, the list of a reader and the skill list of a result, each with the word
 // and the buffer that an exported call gives. Document 01, "Refusals in their order"; document 02.
+#![tactic(auto)]
+
 ghost use Rattle.std.specs.Prelude.{◌≡◌, List, ◌++◌, ℕ, ◌+◌, ◌*◌, ◌<◌, ◌≤◌, length};
 ghost use Rattle.words.specs.Words.{first_of};
 ghost use Rattle.numbers.specs.Sizes as Sizes;

@@ -76,7 +76,7 @@ enum Asked {
 }
 
 // The skills noted so far, in the order met, each with the highest level asked of it.
-#[derive(Drop)]
+#[derive(Clone, Copy)]
 pub struct Walk {
     pub ids: [i32; MOST_WANTED],
     pub levels: [u8; MOST_WANTED],
