@@ -2,23 +2,22 @@
 use Prim.Native.Nat.{ℕ, ◌+◌, ◌*◌, ◌-◌, ◌≤◌, ◌<◌}
 use native.Mathlib.Omega.{arith}
 use mathlib.Core.Path.{◌≡◌, sym, ap, ap₂, ◌∙◌}
-use mathlib.Core.Bool.{Bool, true, false}
 use mathlib.Core.List.{List}
 use lib.Dec.{ltb}
 use lib.ListN.{length}
-use Rattle.words.specs.Words.{table, count_of}
+use Rattle.words.specs.Words.{count_of}
 use Rattle.words.proofs.Tables.{length-table}
 use Rattle.numbers.specs.Sizes as Sizes
 use Rattle.catalogue.specs.Catalogue.{catalogue_of}
-use Rattle.fit.specs.Fit.{fit_of, skill_count, result_count, result_of, items_at}
+use Rattle.fit.specs.Fit.{fit_of, skill_count, result_count, result_of}
 use Rattle.fit.specs.Sound as Fit
 use Rattle.fit.proofs.Decoded.{levels_length, result-some}
 use Rattle.fit.proofs.Soundness.{skill-order}
-use Rattle.skill.specs.Skill.{Demand, wanted_skills}
+use Rattle.skill.specs.Skill.{Demand}
 use Rattle.skill.specs.Held.{walk_of, HoldsWanted}
 use Rattle.skill.specs.declared.Walk.{Walk}
-use Rattle.training.specs.Training.{Training, training_of, trained_by, too_many_listed, trained_image}
-use Rattle.training.specs.Turns.{turns, is_new, Listed, held_in}
+use Rattle.training.specs.Training.{training_of, trained_by, too_many_listed, trained_image}
+use Rattle.training.specs.Turns.{turns, is_new, Listed}
 use Rattle.training.proofs.Stepping.{trained-turns}
 use Rattle.training.proofs.Turning.{turns-listed}
 use Rattle.training.proofs.Writing.{image_length}

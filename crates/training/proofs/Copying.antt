@@ -1,5 +1,5 @@
 -- What the image with other skills has of the old one, byte for byte; and that with its own skills it is the old one.
-use Prim.Native.Nat.{ℕ, ◌+◌, ◌*◌, ◌≤◌, ◌<◌}
+use Prim.Native.Nat.{ℕ, ◌+◌, ◌*◌, ◌≤◌}
 use native.Mathlib.Omega.{arith}
 use mathlib.Core.Path.{◌≡◌, refl, sym, ap, ap₂, ◌∙◌}
 use mathlib.Core.List.{List, ◌++◌}
@@ -8,9 +8,9 @@ use lib.ListN.{length, get_or, take, drop, take-append-drop}
 use lib.Seq.{drop-append-add, drop_at, drop-drop, take_at}
 use mir.Syntax.{w8}
 use mir.Val.{Fits}
-use Rattle.words.specs.Words.{table, each}
+use Rattle.words.specs.Words.{each}
 use Rattle.words.proofs.Tables.{length-table, table_same}
-use Rattle.image.specs.Bytes.{u8_at, i32_at, bits32, le}
+use Rattle.image.specs.Bytes.{i32_at, bits32, le}
 use Rattle.image.proofs.Stores.{length-le}
 use Rattle.image.proofs.Parts.{part_length}
 use Rattle.keys.specs.Keys.{key_at}

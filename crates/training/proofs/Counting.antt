@@ -6,10 +6,10 @@ use mathlib.Core.Bool.{Bool, true, false, not, ◌&&◌, ◌||◌, cond, true≢
 use mathlib.Core.List.{List, [], ◌∷◌, ◌++◌}
 use mathlib.Core.Option.{Option, none, some}
 use lib.Dec.{ltb}
-use lib.IntN.{ℤ, pos}
+use lib.IntN.{pos}
 use lib.ListN.{length}
 use borrow.Author.Tests.{lt-ltb, le-ltb}
-use Rattle.words.specs.Words.{◌>>=◌, table_from, table, from, each, when, only, count_of, any_of, find, given, same, contains}
+use Rattle.words.specs.Words.{◌>>=◌, table_from, each, when, only, count_of, any_of, find, given, same, contains}
 use Rattle.image.specs.Bytes.{i32_at}
 use Rattle.keys.specs.Keys.{key_at, place_of}
 use Rattle.keys.proofs.Parts.{part-key}

@@ -3,22 +3,22 @@ use Prim.Native.Nat.{ℕ, zero, suc, ◌+◌, ◌*◌, ◌-◌, ◌^◌, ◌≤�
 use native.Mathlib.Omega.{arith}
 use mathlib.Core.Path.{◌≡◌, refl, sym, ap, ap₂, ◌∙◌}
 use mathlib.Core.Bool.{Bool, true, false, not, ◌||◌, cond}
-use mathlib.Core.List.{List, [], ◌∷◌, ◌++◌, map}
+use mathlib.Core.List.{List, [], ◌∷◌, ◌++◌}
 use lib.IntN.{ℤ, pos}
 use lib.Signed.{lt_z}
 use lib.Ieee.{Float, binary64, of_bits}
 use lib.ListN.{length, get_or, take, drop, get_or-append}
 use lib.Seq.{get_or-append-add, get_or-take, get_or-drop, ext_get_or}
-use Rattle.words.specs.Words.{table_from, table, each, any_of, in_order}
-use Rattle.words.proofs.All.{All, nil, cons}
+use Rattle.words.specs.Words.{table, each, any_of, in_order}
+use Rattle.words.proofs.All.{All, cons}
 use Rattle.words.proofs.Tables.{length-table, get_or-table, table_same}
 use Rattle.words.proofs.Elements.{or_right}
-use Rattle.image.specs.Bytes.{u8_at, u16_at, u32_at, u64_at, i32_at, bits32, le}
+use Rattle.image.specs.Bytes.{u8_at, u32_at, u64_at, i32_at, bits32, le}
 use Rattle.image.proofs.Stores.{length-le}
 use Rattle.image.proofs.Parts.{part_length}
 use Rattle.floats.specs.Floats.{f64_at}
 use Rattle.catalogue.specs.Catalogue.{Id}
-use Rattle.fit.specs.Fit.{Attribute, Item, Result, Frame, Fit, fit_of, all_results, skill_count, item_count, result_count, attribute_count, items_at}
+use Rattle.fit.specs.Fit.{Attribute, Item, Result, Frame, fit_of, all_results, skill_count, item_count, result_count, attribute_count, items_at}
 use Rattle.fit.specs.Fit.{results_at, ids_at, values_at, item_at, count_at, start_at, attribute_at, result_of}
 use Rattle.fit.specs.Refusals.{bad_order, bad_field, fit_refusal}
 use Rattle.fit.specs.Sound as Fit

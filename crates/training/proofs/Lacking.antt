@@ -2,13 +2,13 @@
 -- induction on the wanted skills, no two of which are alike.
 use Prim.Native.Nat.{ℕ, zero, suc, ◌+◌, ◌-◌, ◌≤◌, ◌<◌}
 use native.Mathlib.Omega.{arith}
-use mathlib.Core.Path.{◌≡◌, refl, sym, ap, ap₂, ◌∙◌, subst}
-use mathlib.Core.Bool.{Bool, true, false, not, ◌||◌, cond, true≢false}
+use mathlib.Core.Path.{◌≡◌, refl, sym, ap, ap₂, ◌∙◌}
+use mathlib.Core.Bool.{Bool, true, false, not, cond}
 use mathlib.Core.List.{List, [], ◌∷◌, ◌++◌, map}
 use mathlib.Core.Logic.{◌⊎◌, inl, inr}
 use lib.Dec.{T, ltb, leb}
-use borrow.Author.Tests.{lt-ltb, le-ltb, le-leb, lt-leb, ltb-true, ltb-false, not-true}
-use Rattle.words.specs.Words.{each, when, only, sum_of, is_empty, any_of, same, contains}
+use borrow.Author.Tests.{lt-leb, ltb-true, ltb-false}
+use Rattle.words.specs.Words.{each, when, sum_of, is_empty, any_of, same, contains}
 use Rattle.words.proofs.Elements.{or_left, or_right}
 use Rattle.catalogue.specs.Catalogue.{Id}
 use Rattle.fit.specs.Fit.{Fit}
@@ -18,10 +18,10 @@ use Rattle.entry.specs.declared.Rule.TheVariants.{Skill}
 use Rattle.entry.specs.Entries.{fields}
 use Rattle.skill.specs.Skill.{Demand, target_of, entry_of, reported}
 use Rattle.skill.specs.Wanted.{Once}
-use Rattle.training.specs.Training.{Training, training_of, trained_as, lacking}
+use Rattle.training.specs.Training.{Training, training_of, lacking}
 use Rattle.training.specs.Turns.{level_of, gain, Listed}
-use Rattle.training.proofs.Raising.{gain-own, gain-other, gain-more_or_same}
-use Rattle.training.proofs.Stepping.{lacks, first_up, stepped, steps, split_lt, past, own, stepped_listed, stepped_higher}
+use Rattle.training.proofs.Raising.{gain-own, gain-other}
+use Rattle.training.proofs.Stepping.{stepped, steps, split_lt, past, own, stepped_listed, stepped_higher}
 
 -- what is missing in all
 unfoldable pub missing_of : List Demand → Training → ℕ

@@ -1,12 +1,11 @@
 -- Skills held in arrays, and one raised at its place: what comes before the place is passed, there it is stored or put in.
-use Prim.Native.Nat.{ℕ, zero, suc, ◌+◌, ◌*◌, ◌-◌, ◌≤◌, ◌<◌}
+use Prim.Native.Nat.{ℕ, zero, suc, ◌+◌, ◌≤◌, ◌<◌}
 use native.Mathlib.Nat.{suc-add, zero-add, add-zero, add-suc}
 use native.Mathlib.Omega.{arith}
 use mathlib.Core.Path.{◌≡◌, refl, sym, ap, ap₂, ◌∙◌}
-use mathlib.Core.Bool.{Bool, true, false, cond}
-use mathlib.Core.List.{List, [], ◌∷◌, ◌++◌}
+use mathlib.Core.Bool.{true, false}
+use mathlib.Core.List.{List, ◌∷◌, ◌++◌}
 use lib.Signed.{lt_z}
-use lib.ListN.{length, get_or}
 use Rattle.words.specs.Words.{table_from, table, same}
 use Rattle.catalogue.specs.Catalogue.{Id}
 use Rattle.fit.specs.Lookups.{trained}

@@ -1,17 +1,16 @@
 -- A level raised: its own skill has that many more, every other what it had, and the listed skills stay in order. By induction on them.
-use Prim.Native.Nat.{ℕ, zero, suc, ◌+◌, ◌-◌, ◌≤◌, ◌<◌}
+use Prim.Native.Nat.{ℕ, zero, suc, ◌+◌, ◌≤◌, ◌<◌}
 use native.Mathlib.Nat.{lt_trans}
 use native.Mathlib.Omega.{arith}
 use mathlib.Core.Path.{◌≡◌, refl, sym, ap, ◌∙◌, subst}
 use mathlib.Core.Bool.{Bool, true, false, ◌&&◌, ◌||◌, cond, true≢false}
-use mathlib.Core.List.{List, [], ◌∷◌, ◌++◌}
-use lib.Dec.{T}
+use mathlib.Core.List.{List, [], ◌∷◌}
 use lib.Signed.{lt_z}
 use lib.IntN.{ℤ, pos, negsuc}
 use lib.ListN.{length}
-use borrow.Author.Tests.{lt-ltb, le-ltb, ltb-true, ltb-false, eqb-true, eqb-false, ne_eqb}
+use borrow.Author.Tests.{lt-ltb, ltb-true, ltb-false, eqb-false, ne_eqb}
 use Rattle.words.specs.Words.{in_order, same, contains, any_of}
-use Rattle.words.proofs.Sames.{same_refl, same-eq, same_not}
+use Rattle.words.proofs.Sames.{same_refl, same-eq}
 use Rattle.catalogue.specs.Catalogue.{Id}
 use Rattle.fit.specs.Lookups.{trained}
 use Rattle.training.specs.Training.{Training, behind, raised}

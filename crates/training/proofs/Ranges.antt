@@ -1,14 +1,13 @@
 -- Ids stay within 32 bits: those of an image, those that a walk wants, and those listed after all turns.
 use Prim.Native.Nat.{ℕ, zero, suc, ◌+◌, ◌*◌, ◌-◌, ◌<◌, max}
-use mathlib.Core.Path.{◌≡◌, refl}
 use mathlib.Core.Bool.{Bool, true, false, cond}
-use mathlib.Core.List.{List, [], ◌∷◌, ◌++◌, foldl}
+use mathlib.Core.List.{List, [], ◌∷◌, foldl}
 use mathlib.Core.Option.{Option, none, some}
 use lib.IntN.{ℤ}
 use lib.Signed.{lt_z, mag}
 use lib.Ieee.{Float}
 use lib.Ieee.Casts.{to_signed_in}
-use Rattle.words.specs.Words.{◌>>=◌, given, same, table}
+use Rattle.words.specs.Words.{given, same}
 use Rattle.words.proofs.All.{All, nil, cons, all_join, all-table, all-bind, all-each}
 use Rattle.image.specs.Bytes.{i32_at, u32_at}
 use Rattle.keys.proofs.Ranks.{signed_range}
@@ -16,9 +15,9 @@ use Rattle.catalogue.specs.Catalogue.{Id, Catalogue}
 use Rattle.catalogue.specs.Lookups.{base_value}
 use Rattle.fit.specs.Lookups.{value}
 use Rattle.fit.specs.Fit.{Result, fit_of, skill_count, skills_at}
-use Rattle.skill.specs.Skill.{Requirement, Demand, demand, demand_of, demands, required, of_result, of_skill, note, noted, skill_at, met, walk_within}
+use Rattle.skill.specs.Skill.{Requirement, Demand, demand_of, demands, required, of_result, of_skill, note, noted, skill_at, met, walk_within}
 use Rattle.training.specs.Training.{Training, behind, raised}
-use Rattle.training.specs.Turns.{gain, portion, turn, turns}
+use Rattle.training.specs.Turns.{gain, portion, turns}
 
 abbrev pub InRange : ℤ → Type 0
 InRange z = mag z < 2147483648

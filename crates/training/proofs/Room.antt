@@ -13,7 +13,7 @@ use Rattle.words.proofs.Elements.{or_left, or_right}
 use Rattle.catalogue.specs.Catalogue.{Id}
 use Rattle.skill.specs.Skill.{Demand}
 use Rattle.training.specs.Training.{Training, behind, raised}
-use Rattle.training.specs.Turns.{level_of, gain, portion, turn, turns, is_new, Listed}
+use Rattle.training.specs.Turns.{level_of, gain, portion, turns, is_new, Listed}
 use Rattle.training.proofs.Raising.{same-sym, order-tail, under-unlisted, gain-listed, gain-more_or_same}
 
 -- a raised skill that was listed makes none more, another one more

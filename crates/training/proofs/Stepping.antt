@@ -1,25 +1,23 @@
 -- Steps, one after the other, are what each wanted skill in its turn is given. While the first skill lacks, a step raises it; after that it
 -- never lacks again. By induction on the skills and on the steps.
-use Prim.Native.Nat.{ℕ, zero, suc, ◌+◌, ◌-◌, ◌≤◌, ◌<◌, min}
+use Prim.Native.Nat.{ℕ, zero, suc, ◌-◌, ◌≤◌, ◌<◌}
 use native.Mathlib.Nat.{le_trans}
 use native.Mathlib.Omega.{arith}
-use mathlib.Core.Path.{◌≡◌, refl, sym, ap, ap₂, ◌∙◌, subst}
-use mathlib.Core.Bool.{Bool, true, false, not, ◌&&◌, cond}
-use mathlib.Core.List.{List, [], ◌∷◌, ◌++◌, foldl}
-use mathlib.Core.Option.{Option, some}
+use mathlib.Core.Path.{◌≡◌, refl, sym, ap, ap₂, ◌∙◌}
+use mathlib.Core.Bool.{Bool, true, false, cond}
+use mathlib.Core.List.{List, [], ◌∷◌, ◌++◌}
+use mathlib.Core.Option.{some}
 use mathlib.Core.Logic.{◌⊎◌, inl, inr}
 use lib.Dec.{ltb}
-use lib.ListN.{length}
 use borrow.Author.Tests.{lt-ltb, le-ltb, ltb-true, ltb-false}
-use Rattle.words.specs.Words.{◌>>=◌, each, when, only, count_of, contains}
+use Rattle.words.specs.Words.{◌>>=◌, each, when, only}
 use Rattle.catalogue.specs.Catalogue.{Id, Catalogue}
 use Rattle.fit.specs.Fit.{Fit, Result, result_at}
 use Rattle.fit.specs.Lookups.{trained}
-use Rattle.entry.specs.declared.Entry.{Entry}
 use Rattle.entry.specs.declared.Rule.TheVariants.{Skill}
 use Rattle.skill.specs.Skill.{Demand, wanted_skills, target_of, entry_of, reported, skill_list}
-use Rattle.training.specs.Training.{Training, training_of, trained_as, raised, skill_of, step_by, step, trained_by}
-use Rattle.training.specs.Turns.{level_of, gain, portion, turn, turns, is_new, Listed}
+use Rattle.training.specs.Training.{Training, training_of, trained_as, skill_of, step_by, step, trained_by}
+use Rattle.training.specs.Turns.{level_of, gain, portion, turns, Listed}
 use Rattle.training.proofs.Raising.{gain-more, gain-listed, gain-own, gain-more_or_same}
 
 -- ---- steps by wanted skills

@@ -1,11 +1,11 @@
 -- A wanted skill's turn in the arrays, and turns one after the other.
-use Prim.Native.Nat.{ℕ, zero, suc, ◌+◌, ◌*◌, ◌-◌, ◌≤◌, ◌<◌, min}
+use Prim.Native.Nat.{ℕ, zero, suc, ◌+◌, ◌-◌, ◌<◌, min}
 use native.Mathlib.Omega.{arith}
-use mathlib.Core.Path.{◌≡◌, refl, sym, ap, ap₂, ◌∙◌}
-use mathlib.Core.Bool.{Bool, true, false, ◌&&◌}
-use mathlib.Core.List.{List, [], ◌∷◌, foldl}
+use mathlib.Core.Path.{◌≡◌, refl, sym, ap, ◌∙◌}
+use mathlib.Core.Bool.{true, false, ◌&&◌}
+use mathlib.Core.List.{List, [], ◌∷◌}
 use lib.Dec.{ltb}
-use lib.IntN.{ℤ, pos}
+use lib.IntN.{ℤ}
 use lib.Signed.{mag}
 use lib.ListN.{length, set}
 use Rattle.words.specs.Words.{table_from, same}
@@ -17,7 +17,7 @@ use Rattle.skill.specs.Skill.{Demand}
 use Rattle.skill.specs.Held.{zip_to, held_at, held_of}
 use Rattle.skill.proofs.Zips.{pair_eq}
 use Rattle.training.specs.Training.{Training, raised}
-use Rattle.training.specs.Turns.{level_of, gain, portion, turn, turns, Listed, held_in, Parted}
+use Rattle.training.specs.Turns.{gain, portion, turn, turns, Listed, held_in, Parted}
 use Rattle.training.proofs.Raising.{gain-listed}
 use Rattle.training.proofs.Arrays.{found-level, found-gain, missing-level}
 

@@ -1,7 +1,5 @@
 -- The image with other skills: ids and levels in arrays are their bytes, and the stores one after the other make it.
 use Prim.Native.Nat.{ℕ, zero, suc, ◌+◌, ◌*◌, ◌-◌, ◌^◌, ◌≤◌, ◌<◌}
-use native.Mathlib.Nat.{add_assoc}
-use native.Mathlib.Numerals.{add-one}
 use native.Mathlib.Omega.{arith}
 use mathlib.Core.Path.{◌≡◌, refl, sym, ap, ap₂, ◌∙◌}
 use mathlib.Core.Bool.{Bool, true, false, cond}
@@ -12,7 +10,6 @@ use lib.ListN.{length, get_or, take, drop, length-append, length-drop}
 use lib.Seq.{drop-cons, drop-drop, take-add, take-suc, get_or-take, get_or-drop}
 use mir.Syntax.{w8}
 use mir.Val.{Fits}
-use borrow.Author.Tests.{ltb-true, ltb-false}
 use Rattle.words.specs.Words.{table_from, table, each}
 use Rattle.words.proofs.Tables.{length-table, table_same, table_more, each_more}
 use Rattle.image.specs.Bytes.{u8_at, u32_at, i32_at, signed32, bits32, le, put}

@@ -1,5 +1,7 @@
 // Training, level by level: document 02, P11. The steps are not made one by one: each wanted skill in turn is given what it lacks, as far
 // as the steps reach.
+#![tactic(auto)]
+
 ghost use Rattle.std.specs.Prelude.{◌≡◌, false, ◌&&◌, cond, ◌++◌, ◌+◌, ◌-◌, ◌*◌, ◌<◌, ◌≤◌, min, ltb, length, take, drop};
 ghost use Rattle.words.specs.Words.{count_of, contains, same};
 ghost use Rattle.numbers.specs.Sizes as Sizes;

@@ -15,48 +15,37 @@ use Rattle.training.proofs.is_listed.Statement.{statement}
 use Rattle.training.proofs.is_listed.Tie as tie
 
 -- the part holds the skill ids
-ids : (c : tie.After-part) → c.part.result.now ≡ skill_ids c.before.before.before.args.fit.now
-ids c = c.part.ensures ∙ ap (λ (k : ℕ). take (4 * k) (drop 28 c.before.before.before.args.fit.now)) c.before.skill-count.ensures
+
+ids : (c : tie.After-part) → c.part.result.now ≡ skill_ids c.args.fit.now
+ids c = c.part.ensures ∙ ap (λ (k : ℕ). take (4 * k) (drop 28 c.args.fit.now)) c.skill_count-n.ensures
 
 -- what the search says, of the skill ids themselves
-told : (c : tie.After-place-of) →
-    let a = c.before.before.before.before.args in
-    found_of c.place_of.result ≡ place_of (skill_ids a.fit.now) (skill_count a.fit.now) a.id
+told : (c : tie.After-place_of-found) →
+    let a = c.args in
+    found_of c.place_of-found.result ≡ place_of (skill_ids a.fit.now) (skill_count a.fit.now) a.id
 told c =
-    let s = c.before.before.before.before in
-    c.place_of.ensures
-    ∙ place-alike _ _ _ _ (ids c.before) c.before.before.skill-count.ensures _ _ (to_z-of_z w32 s.args.id s.ranges.id)
+    c.place_of-found.ensures
+    ∙ place-alike _ _ _ _ (ids c.before) c.skill_count-n.ensures _ _ (to_z-of_z w32 c.args.id c.ranges.id)
 
 part-requires : tie.Need-part-requires
-part-requires c κs = let s = c.before.before in omega (arith, c.skill-count.ensures, s.requires.sized.size)
+part-requires c κs = omega (arith, c.skill_count-n.ensures, c.requires.sized.size)
 
-place-of-requires : tie.Need-place-of-requires
+place-of-requires : tie.Need-place_of-found-requires
 place-of-requires c κs =
-    let s = c.before.before.before in
-    let b = s.args.fit.now in
-    let n = c.before.skill-count in
-    let l = part_length b 28 (4 * n.result) (omega (arith, n.ensures, s.requires.sized.size)) in
-    (omega (arith, l, ap length c.part.ensures), sorted_alike _ _ _ _ (ids c) n.ensures (skills-sorted b s.requires))
+    let b = c.args.fit.now in
+    let n = c.skill_count-n in
+    let l = part_length b 28 (4 * n.result) (omega (arith, n.ensures, c.requires.sized.size)) in
+    (omega (arith, l, ap length c.part.ensures), sorted_alike _ _ _ _ (ids c) n.ensures (skills-sorted b c.requires))
 
-returns : tie.Need-returns
+returns : tie.Need-returns-in-At
 returns c =
-    let a = c.before.before.before.before.before.before.args in
-    listed_found a.fit.now a.id c.enum_told.given.0.0 (sym (told c.before.before) ∙ ap found_of c.enum_told.given.1)
+    let a = c.args in
+    listed_found a.fit.now a.id c.in-At.field-0 (sym (told c.before) ∙ ap found_of c.in-At.is)
 
-returns-2 : tie.Need-returns-2
+returns-2 : tie.Need-returns-in-Nothing
 returns-2 c =
-    let a = c.before.before.before.before.before.before.args in
-    listed-nowhere a.fit.now a.id (sym (told c.before.before) ∙ ap found_of c.enum-told2.given.1)
+    let a = c.args in
+    listed-nowhere a.fit.now a.id (sym (told c.before) ∙ ap found_of c.in-Nothing.is)
 
-pub is-listed-spec : {M : Type 1} → statement M
-is-listed-spec =
-    tie.close
-    (tie.spec
-    (λ c κs. search rules)
-    (λ c. search rules)
-    part-requires
-    place-of-requires
-    (λ c. search rules)
-    (λ c. search rules)
-    returns
-    returns-2)
+pub is_listed_spec : {M : Type 1} → statement M
+is_listed_spec = tie.close (tie.spec (λ c κs. search rules) (λ c. search rules) part-requires place-of-requires (λ c. search rules) (λ c. search rules) returns returns-2)

@@ -1,7 +1,6 @@
 -- `training::new_skill` meets its contract: a skill that is wanted at no level lacks nothing, and one that is not listed has level 0.
 use native.Mathlib.Omega.{arith}
 use mathlib.Core.Path.{◌≡◌, ◌∙◌, ap, sym}
-use mathlib.Core.Bool.{Bool}
 use lib.IntN.{ℤ}
 use mir.ValLaws.{to_z-of_z}
 use mir.Syntax.{w32}
@@ -12,27 +11,26 @@ use Rattle.training.proofs.Counting.{new-unwanted, new-listed, new-lacking}
 use Rattle.training.proofs.new_skill.Statement.{statement}
 use Rattle.training.proofs.new_skill.Tie as tie
 
-told : (c : tie.After-is-listed) →
-    let a = c.before.before.before.args in
-    contains a.id (fit_of a.fit.now).skills ≡ c.is-listed.result
+told : (c : tie.After-is_listed) →
+    let a = c.args in
+    contains a.id (fit_of a.fit.now).skills ≡ c.is_listed.result
 told c =
-    let s = c.before.before.before in
-    sym (c.is-listed.ensures ∙ ap (λ (z : ℤ). contains z (fit_of s.args.fit.now).skills) (to_z-of_z w32 s.args.id s.ranges.id))
+    sym (c.is_listed.ensures ∙ ap (λ (z : ℤ). contains z (fit_of c.args.fit.now).skills) (to_z-of_z w32 c.args.id c.ranges.id))
 
-returns : tie.Need-returns
+returns : tie.Need-returns-then-wanted-eq0
 returns c =
-    let a = c.before.before.args in
-    (new-unwanted (fit_of a.fit.now) a.id a.wanted (omega (arith, c.if1.true)), omega arith)
+    let a = c.args in
+    (new-unwanted (fit_of a.fit.now) a.id a.wanted (omega (arith, c.if-wanted-eq0.true)), omega arith)
 
-returns-2 : tie.Need-returns-2
+returns-2 : tie.Need-returns-then-is_listed
 returns-2 c =
-    let a = c.before.before.before.before.args in
-    (new-listed (fit_of a.fit.now) a.id a.wanted (told c.before ∙ c.if2.true), omega arith)
+    let a = c.args in
+    (new-listed (fit_of a.fit.now) a.id a.wanted (told c.before ∙ c.if-is_listed.true), omega arith)
 
-returns-3 : tie.Need-returns-3
+returns-3 : tie.Need-returns
 returns-3 c =
-    let a = c.before.before.before.before.args in
-    (new-lacking (fit_of a.fit.now) a.id a.wanted (λ e. omega (arith, e, c.before.before.if1.false)) (told c.before ∙ c.if2.false), omega arith)
+    let a = c.args in
+    (new-lacking (fit_of a.fit.now) a.id a.wanted (λ e. omega (arith, e, c.if-wanted-eq0.false)) (told c.before ∙ c.if-is_listed.false), omega arith)
 
-pub new-skill-spec : {M : Type 1} → statement M
-new-skill-spec = tie.close (tie.spec returns (λ c κs. search rules) returns-2 returns-3)
+pub new_skill_spec : {M : Type 1} → statement M
+new_skill_spec = tie.close (tie.spec returns (λ c κs. search rules) returns-2 returns-3)

@@ -1,0 +1,12 @@
+-- `training::move_down` meets its contract. The invariant: the bytes before i are moved.
+use Prim.Native.Nat.{◌-◌, ◌≤◌}
+use mathlib.Core.Path.{◌≡◌}
+use lib.ListN.{length}
+use Rattle.training.proofs.Opening.{lowered}
+use Rattle.training.proofs.move_down.Given as goal
+
+abbrev pub invariant-loop-i : goal.invariant-loop-i
+invariant-loop-i l = (l.b ≡ lowered l.initial.b l.at l.by l.i) × (l.at ≤ l.i) × (l.i ≤ l.end) × (length l.b ≡ length l.initial.b)
+
+abbrev pub decreases-loop-i : goal.decreases-loop-i
+decreases-loop-i l = l.end - l.i
