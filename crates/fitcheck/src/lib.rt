@@ -1,4 +1,4 @@
-// The calls, exported on numbers and byte slices: document 01, "Refusals in their order" and "Hall number"; document 02.
+// The calls, on numbers and byte slices; `fitcheck_c` exports them. Document 01, "Refusals in their order" and "Hall number"; document 02.
 mod hall;
 
 ghost use Rattle.std.specs.Prelude.{◌≡◌};
@@ -21,8 +21,7 @@ pub const MAIN_SKILLS: u32 = sizes::MOST_WANTED as u32;
 
 // The list call: every rule that a fit breaks, those of a league with it; a guest is not told of skills. A list wants none, and the limit
 // of skills is not read.
-#[unsafe(no_mangle)]
-pub extern "C" fn fit_list(
+pub fn fit_list(
     reader: u32,
     catalogue: &[u8],
     fit: &[u8],
@@ -44,8 +43,7 @@ pub extern "C" fn fit_list(
 }
 
 // The skill call: the skills that a result wants and that are trained lower. They are not for guests.
-#[unsafe(no_mangle)]
-pub extern "C" fn fit_skill(
+pub fn fit_skill(
     reader: u32,
     catalogue: &[u8],
     fit: &[u8],
@@ -68,8 +66,7 @@ pub extern "C" fn fit_skill(
 }
 
 // The hall call: how many of up to 64 fits are clear, faulted and refused. The catalogue is checked once for all of them.
-#[unsafe(no_mangle)]
-pub extern "C" fn fit_hall(catalogue: &[u8], input: &[u8]) -> u64
+pub fn fit_hall(catalogue: &[u8], input: &[u8]) -> u64
     ensures { result ≡ hall_returned (hall_call catalogue.now input.now) }
 {
     let refusal = catalogue_refusals::number(catalogue);
@@ -83,8 +80,7 @@ pub extern "C" fn fit_hall(catalogue: &[u8], input: &[u8]) -> u64
 }
 
 // The widening: an old catalogue, whose base values are f32, in the new form.
-#[unsafe(no_mangle)]
-pub extern "C" fn fit_widen(old: &[u8], out: &mut [u8]) -> u64
+pub fn fit_widen(old: &[u8], out: &mut [u8]) -> u64
     ensures { let call = widen_call old.now out.old in
         (result ≡ output_word call) × (out.new ≡ filled out.old call) }
 {
@@ -101,14 +97,7 @@ pub extern "C" fn fit_widen(old: &[u8], out: &mut [u8]) -> u64
 }
 
 // The training: the fit that so many steps lead to, for one of its results.
-#[unsafe(no_mangle)]
-pub extern "C" fn fit_train(
-    catalogue: &[u8],
-    fit: &[u8],
-    res: u32,
-    steps: u32,
-    out: &mut [u8],
-) -> u64
+pub fn fit_train(catalogue: &[u8], fit: &[u8], res: u32, steps: u32, out: &mut [u8]) -> u64
     ensures { let call = train_call catalogue.now fit.now res steps out.old in
         (result ≡ output_word call) × (out.new ≡ filled out.old call) }
 {
@@ -120,8 +109,7 @@ pub extern "C" fn fit_train(
 }
 
 // The number of this set of calls and images, in the symbol's name: a caller written for another set does not link.
-#[unsafe(no_mangle)]
-pub extern "C" fn fit_interface_7() -> u64
+pub fn fit_interface_7() -> u64
     ensures { result ≡ 7 }
 {
     7
