@@ -1,6 +1,6 @@
-//! Finds `libfitcheck.a`, the proved library, or has `rt` build it; without
-//! one that belongs to the calls and sources here this crate is not built, and
-//! the message says what to do.
+//! Finds `libfitcheck.a`, the proved library, or has `tools/staticlib` build
+//! it; without one that belongs to the calls and sources here this crate is not
+//! built, and the message says what to do.
 
 #![forbid(unsafe_code)]
 
@@ -71,7 +71,7 @@ fn directory(named: Option<PathBuf>) -> Result<PathBuf, String> {
     ))
 }
 
-/// Has `rt` prove and build the library, which takes minutes from nothing.
+/// Has the library proved and built, which takes minutes from nothing.
 fn build() -> Result<(), String> {
     let root = library::root();
     let missing = format!(
@@ -85,10 +85,15 @@ fn build() -> Result<(), String> {
              `{BUILD}` in the repository and set FITCHECK_LIB_DIR to the directory that has it."
         ));
     }
-    let run = Command::new("rt")
-        .args(["staticlib", "fitcheck"])
-        .current_dir(&root)
-        .output();
+    let kit = Command::new("rt").arg("version").output();
+    if kit.is_err_and(|error| error.kind() == ErrorKind::NotFound) {
+        return Err(format!(
+            "{missing}\n\
+             Install the Rattle kit, which puts `rt` on the PATH, and build again (this build then \
+             runs `{BUILD}` itself); or set FITCHECK_LIB_DIR to a directory that has {LIBRARY}."
+        ));
+    }
+    let run = Command::new(root.join(BUILD)).current_dir(&root).output();
     match run {
         Ok(run) if run.status.success() => Ok(()),
         Ok(run) => {
@@ -103,11 +108,6 @@ fn build() -> Result<(), String> {
                 last.join("\n")
             ))
         }
-        Err(error) if error.kind() == ErrorKind::NotFound => Err(format!(
-            "{missing}\n\
-             Install the Rattle kit, which puts `rt` on the PATH, and build again (this build then \
-             runs `{BUILD}` itself); or set FITCHECK_LIB_DIR to a directory that has {LIBRARY}."
-        )),
         Err(error) => Err(format!(
             "{missing}\n`{BUILD}` could not be run to build it: {error}."
         )),

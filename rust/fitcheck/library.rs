@@ -9,7 +9,7 @@ use std::{env, fs};
 pub const LIBRARY: &str = "libfitcheck.a";
 
 /// What builds the library, at the repository's root.
-pub const BUILD: &str = "rt staticlib fitcheck";
+pub const BUILD: &str = "tools/staticlib";
 
 /// The declarations that the library has to have been built for.
 const CALLS: &str = include_str!("src/exported.rs");
@@ -30,7 +30,7 @@ pub fn named() -> Option<PathBuf> {
     env::var_os("FITCHECK_LIB_DIR").map(PathBuf::from)
 }
 
-/// Where `rt staticlib` puts a library.
+/// Where `tools/staticlib` puts the library.
 pub fn built() -> PathBuf {
     root().join("target/staticlib")
 }
@@ -154,7 +154,7 @@ fn interfaces(archive: &[u8]) -> Vec<String> {
 }
 
 /// The newest source that is newer than the library, if one is: `crates.txt`,
-/// and what the crate `fitcheck` and those it names are made and proved of.
+/// and what the crate `fitcheck_c` and those it names are made and proved of.
 /// None where there are no sources here.
 pub fn newer_source(root: &Path, library: &Path) -> Option<PathBuf> {
     let built = changed(library)?;
@@ -177,11 +177,12 @@ fn sources(root: &Path) -> Vec<PathBuf> {
     let names_of = |crate_name: &str| {
         let line = text.lines().find_map(|line| {
             let (name, names) = line.split_once(':')?;
-            (name.trim() == crate_name).then_some(names)
+            // A static library's line has a word behind its name.
+            (name.split_whitespace().next() == Some(crate_name)).then_some(names)
         });
         line.unwrap_or("").split_whitespace()
     };
-    let mut reached = vec!["fitcheck"];
+    let mut reached = vec!["fitcheck_c"];
     let mut next = 0;
     while next < reached.len() {
         for name in names_of(reached[next]) {

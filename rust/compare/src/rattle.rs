@@ -4,7 +4,7 @@ use crate::checker::Checker;
 
 /// What to do where the library is missing.
 pub const MISSING: &str = "This `compare` was built without the Rattle library.\n\
-    Run `rt staticlib fitcheck` at the repository root, which puts libfitcheck.a into\n\
+    Run `tools/staticlib` at the repository root, which puts libfitcheck.a into\n\
     target/staticlib (or name another directory in FITCHECK_LIB_DIR), and build again.\n\
     Until then `--against plain` compares the plain port.";
 

@@ -9,8 +9,9 @@ unsafe extern "C" {
     // The number of this set of calls, images and rules. Nothing else tells a
     // library of another set apart, so whoever makes a call needs this symbol
     // too.
-    // It is raised here, in include/fitcheck.h for C, and in the Rattle source,
-    // crates/fitcheck/src/lib.rt, at the same time.
+    // It is raised here, in include/fitcheck.h for C, and in the Rattle sources,
+    // crates/fitcheck_c/src/lib.rt and crates/fitcheck/src/lib.rt, at the same
+    // time.
     #[link_name = "fit_interface_7"]
     fn fit_interface() -> u64;
 

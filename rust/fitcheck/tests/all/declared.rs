@@ -46,7 +46,7 @@ fn words(text: &str) -> Vec<String> {
 fn rattle(source: &str) -> Calls {
     let source = without_comments(source);
     let mut calls = Calls::new();
-    for item in source.split("#[no_mangle]").skip(1) {
+    for item in source.split("#[unsafe(no_mangle)]").skip(1) {
         let item = item.trim_start();
         let item = item
             .strip_prefix("pub extern \"C\" fn ")
@@ -58,6 +58,8 @@ fn rattle(source: &str) -> Calls {
         let mut flat = Vec::new();
         for parameter in words(parameters) {
             let (name, kind) = parameter.split_once(": ").expect("a type");
+            // `result` is a word of Rattle's clauses.
+            let name = if name == "res" { "result" } else { name };
             let pointer = match kind {
                 "&[u8]" => "*const u8",
                 "&mut [u8]" => "*mut u8",
@@ -75,9 +77,9 @@ fn rattle(source: &str) -> Calls {
     calls
 }
 
-/// Everything that the crate `fitcheck` of the Rattle side exports.
+/// Everything that the crate `fitcheck_c` of the Rattle side exports.
 fn exports() -> Calls {
-    let folder = Path::new(env!("CARGO_MANIFEST_DIR")).join("../../crates/fitcheck/src");
+    let folder = Path::new(env!("CARGO_MANIFEST_DIR")).join("../../crates/fitcheck_c/src");
     let mut calls = Calls::new();
     for file in fs::read_dir(&folder).expect("the Rattle source is there") {
         let path = file.unwrap().path();

@@ -41,7 +41,8 @@ impl Site {
         fs::write(site.0.join("src/main.rs"), PROGRAM).unwrap();
         workspace(&here.join(".."), &inside.join("rust"));
         fs::create_dir_all(inside.join("crates/fitcheck/src")).unwrap();
-        fs::write(inside.join("crates.txt"), "fitcheck:\n").unwrap();
+        let crates = "fitcheck:\nfitcheck_c staticlib: fitcheck\n";
+        fs::write(inside.join("crates.txt"), crates).unwrap();
         fs::write(site.source(), "// the calls\n").unwrap();
         fs::create_dir_all(inside.join("target/staticlib")).unwrap();
         site.put(&fs::read(Path::new(env!("FITCHECK_LINKED")).join(library::LIBRARY)).unwrap());
@@ -56,7 +57,7 @@ impl Site {
         self.0.join("yazukoremi/target/staticlib")
     }
 
-    /// Puts a library where `rt` would, later than every source.
+    /// Puts a library where `tools/staticlib` would, later than every source.
     fn put(&self, bytes: &[u8]) {
         let path = self.libraries().join(library::LIBRARY);
         fs::write(&path, bytes).unwrap();
@@ -180,7 +181,7 @@ fn a_site_with_a_workspace_of_its_own_links_the_library_that_belongs_to_it() {
     assert!(!ran.status.success(), "{}", said(&ran));
     for part in [
         "target/staticlib/libfitcheck.a is older than crates/fitcheck/src/lib.rt",
-        "Run `rt staticlib fitcheck` at the repository root",
+        "Run `tools/staticlib` at the repository root",
     ] {
         assert!(said(&ran).contains(part), "no {part:?} in {}", said(&ran));
     }
@@ -208,7 +209,7 @@ fn a_site_with_a_workspace_of_its_own_links_the_library_that_belongs_to_it() {
         let ran = site.cargo("build --offline").output().unwrap();
         assert!(!ran.status.success(), "{}", said(&ran));
         assert!(said(&ran).contains(part), "no {part:?} in {}", said(&ran));
-        assert!(said(&ran).contains("Run `rt staticlib fitcheck`"));
+        assert!(said(&ran).contains("Run `tools/staticlib`"));
     }
 
     // One that names the number and does not have it: the link itself fails.

@@ -7,8 +7,8 @@ use std::time::{Duration, SystemTime};
 use crate::folder;
 use crate::library::{self, Verdict};
 
-const CRATES: &str =
-    "# lowest first\nwords:\nskill: words\nfitcheck: skill\nchecker: words fitcheck\n";
+const CRATES: &str = "# lowest first\nwords:\nskill: words\nfitcheck: skill\n\
+     fitcheck_c staticlib: fitcheck\nchecker: words fitcheck\n";
 
 /// An archive as far as the build script looks at it.
 fn archive(symbols: &str) -> Vec<u8> {
@@ -23,6 +23,7 @@ fn repository(test: &str) -> PathBuf {
         "crates/skill/src/lib.rt",
         "crates/skill/proofs/walk/Proof.antt",
         "crates/fitcheck/src/lib.rt",
+        "crates/fitcheck_c/src/lib.rt",
         "crates/checker/src/main.rt",
         "crates/skill/must-fail/one.edit",
         "target/staticlib/libfitcheck.a",
@@ -72,6 +73,7 @@ fn a_source_that_is_newer_than_the_library_is_named() {
         "crates/skill/src/lib.rt",
         "crates/skill/proofs/walk/Proof.antt",
         "crates/fitcheck/src/lib.rt",
+        "crates/fitcheck_c/src/lib.rt",
     ] {
         let root = repository("newer");
         set(&root.join(source), 20);
@@ -80,8 +82,8 @@ fn a_source_that_is_newer_than_the_library_is_named() {
             format!(
                 "target/staticlib/libfitcheck.a is older than {source}, so it may not do what the \
                  source says.\n\
-                 Run `rt staticlib fitcheck` at the repository root, which proves and builds it, \
-                 and build again.\n\
+                 Run `tools/staticlib` at the repository root, which proves and builds it, and \
+                 build again.\n\
                  (A library that you know to be the right one is linked where FITCHECK_LIB_DIR \
                  names its directory.)"
             )
@@ -163,7 +165,7 @@ fn a_library_of_another_interface_is_not_linked() {
                 Verdict::Unfit(message) => {
                     assert!(message.starts_with("target/staticlib/libfitcheck.a is "));
                     assert!(message.contains(said), "{message}");
-                    assert!(message.contains("Run `rt staticlib fitcheck`"), "{message}");
+                    assert!(message.contains("Run `tools/staticlib`"), "{message}");
                 }
                 _ => panic!("{said}: it is linked"),
             }
