@@ -2,9 +2,8 @@
 use Prim.Native.Nat.{ℕ, ◌≤◌, ◌<◌}
 use native.Mathlib.Omega.{arith}
 use mathlib.Core.Path.{◌≡◌, ◌∙◌}
-use mathlib.Core.List.{List, [], ◌∷◌}
+use mathlib.Core.List.{List}
 use lib.ListN.{length}
-use Rattle.words.specs.Words.{first_of}
 use Rattle.numbers.specs.Refusals as Refusals
 use Rattle.widening.specs.Old.{old_refusals, old_refusal}
 use Rattle.widening.specs.Widen.{widened}

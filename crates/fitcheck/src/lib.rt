@@ -1,4 +1,6 @@
 // The calls, on numbers and byte slices; `fitcheck_c` exports them. Document 01, "Refusals in their order" and "Hall number"; document 02.
+#![tactic(auto)]
+
 mod hall;
 
 ghost use Rattle.std.specs.Prelude.{◌≡◌};

@@ -11,50 +11,36 @@ use Rattle.fitcheck.proofs.fit_hall.Statement.{statement}
 use Rattle.fitcheck.proofs.fit_hall.Tie as tie
 
 -- past refusals 1 to 3
-accepted : (c : tie.Else1) → catalogue_refusal c.before.before.before.before.args.catalogue.now ≡ 0
-accepted c = omega (arith, c.before.number.ensures, c.if1.false)
+
+accepted : (c : tie.Else-refusal-gt0) → catalogue_refusal c.args.catalogue.now ≡ 0
+accepted c = omega (arith, c.number-refusal.ensures, c.if-refusal-gt0.false)
 
 -- past refusal 4
-good : (c : tie.Else2) → bad_input c.before.before.before.before.before.before.args.input.now ≡ false
-good c = sym c.before.bad-input.ensures ∙ c.if2.false
+good : (c : tie.Else-bad_input) → bad_input c.args.input.now ≡ false
+good c = sym c.bad_input.ensures ∙ c.if-bad_input.false
 
 refused-requires : tie.Need-refused-requires
 refused-requires c κs =
-    let k = c.before in
-    omega (arith, k.number.ensures, unread_small k.before.before.before.args.catalogue.now)
+    omega (arith, c.number-refusal.ensures, unread_small c.args.catalogue.now)
 
-returns : tie.Need-returns
+returns : tie.Need-returns-then-refusal-gt0
 returns c =
-    let k = c.before.before in
-    let a = k.before.before.before.args in
-    let e = k.number.ensures in
-    omega (arith, e, c.refused.ensures, hall_unread a.catalogue.now a.input.now (omega (arith, e, c.before.if1.true)))
+    let a = c.args in
+    let e = c.number-refusal.ensures in
+    omega (arith, e, c.refused.ensures, hall_unread a.catalogue.now a.input.now (omega (arith, e, c.if-refusal-gt0.true)))
 
-returns-2 : tie.Need-returns-2
+returns-2 : tie.Need-returns-then-bad_input
 returns-2 c =
-    let i = c.before in
-    let e = i.before.before in
-    let a = e.before.before.before.before.args in
-    c.refused2.ensures ∙ sym (hall_bad a.catalogue.now a.input.now (accepted e) (sym i.before.bad-input.ensures ∙ i.if2.true))
+    let a = c.args in
+    c.refused-then-bad_input.ensures ∙ sym (hall_bad a.catalogue.now a.input.now (accepted c.before.before.before) (sym c.bad_input.ensures ∙ c.if-bad_input.true))
 
 word-requires : tie.Need-word-requires
 word-requires c κs = (accepted-sound _ (accepted c.before.before), laid _ (good c))
 
-returns-3 : tie.Need-returns-3
+returns-3 : tie.Need-returns
 returns-3 c =
-    let e = c.before.before.before in
-    let a = e.before.before.before.before.args in
-    c.word.ensures ∙ sym (hall_counted a.catalogue.now a.input.now (accepted e) (good c.before))
+    let a = c.args in
+    c.word.ensures ∙ sym (hall_counted a.catalogue.now a.input.now (accepted c.before.before.before) (good c.before))
 
-pub fit-hall-spec : {M : Type 1} → statement M
-fit-hall-spec =
-    tie.close
-    (tie.spec
-    (λ c κs. search rules)
-    refused-requires
-    returns
-    (λ c κs. search rules)
-    (λ c κs. search rules)
-    returns-2
-    word-requires
-    returns-3)
+pub fit_hall_spec : {M : Type 1} → statement M
+fit_hall_spec = tie.close (tie.spec (λ c κs. search rules) refused-requires returns (λ c κs. search rules) (λ c κs. search rules) returns-2 word-requires returns-3)

@@ -16,67 +16,50 @@ use Rattle.fitcheck.proofs.fit_widen.Statement.{statement}
 use Rattle.fitcheck.proofs.fit_widen.Tie as tie
 
 -- past refusals 1 to 3
-accepted : (c : tie.Else1) → old_refusal c.before.before.before.before.args.old.now ≡ 0
-accepted c = omega (arith, c.before.number.ensures, c.if1.false)
 
-sized : (c : tie.Else1) → let old = c.before.before.before.before.args.old.now in length old ≡ old_size_of old
-sized c = (accepted-old c.before.before.before.before.args.old.now (accepted c)).0
+accepted : (c : tie.Else-first-gt0) → old_refusal c.args.old.now ≡ 0
+accepted c = omega (arith, c.number-first.ensures, c.if-first-gt0.false)
+
+sized : (c : tie.Else-first-gt0) → let old = c.args.old.now in length old ≡ old_size_of old
+sized c = (accepted-old c.args.old.now (accepted c)).0
 
 refused-requires : tie.Need-refused-requires
 refused-requires c κs =
-    let k = c.before in
-    omega (arith, k.number.ensures, old-small k.before.before.before.args.old.now)
+    omega (arith, c.number-first.ensures, old-small c.args.old.now)
 
-returns : tie.Need-returns
+returns : tie.Need-returns-then-first-gt0
 returns c =
-    let k = c.before.before in
-    let a = k.before.before.before.args in
-    let e = k.number.ensures in
+    let a = c.args in
+    let e = c.number-first.ensures in
     let w = c.refused.ensures ∙ ap (λ (n : ℕ). n * Sizes.word) e in
-    let some : 0 < old_refusal a.old.now = omega (arith, e, c.before.if1.true) in
+    let some : 0 < old_refusal a.old.now = omega (arith, e, c.if-first-gt0.true) in
     let g = bytes_same (sym (widen_refused a.old.now a.out.now some)) (bytes-refused a.out.now _ w) in
     (g.word, g.buffer)
 
-wide-size-requires : tie.Need-wide-size-requires
+wide-size-requires : tie.Need-wide_size-size-requires
 wide-size-requires c κs = sized c
 
-returns-2 : tie.Need-returns-2
+returns-2 : tie.Need-returns-then-out-size
 returns-2 c =
-    let i = c.before in
-    let k = i.before in
-    let a = k.before.before.before.before.before.args in
-    let h : length a.out.now < length (widened a.old.now) = omega (arith, k.wide-size.ensures, i.if2.true) in
-    let e = widen_short a.old.now a.out.now (accepted k.before) h in
-    let g = bytes_same (sym e) (bytes-refused a.out.now Refusals.too_short c.refused2.ensures) in
+    let a = c.args in
+    let h : length a.out.now < length (widened a.old.now) = omega (arith, c.wide_size-size.ensures, c.if-out-size.true) in
+    let e = widen_short a.old.now a.out.now (accepted c.before.before.before) h in
+    let g = bytes_same (sym e) (bytes-refused a.out.now Refusals.too_short c.refused-then-out-size.ensures) in
     (g.word, g.buffer)
 
 widen-requires : tie.Need-widen-requires
 widen-requires c κs =
-    let k = c.before.before in
-    let old = k.before.before.before.before.before.args.old.now in
-    (sized k.before, omega (arith, k.wide-size.ensures, c.before.if2.false, widened-length old (sized k.before)))
+    let old = c.args.old.now in
+    (sized c.before.before.before, omega (arith, c.wide_size-size.ensures, c.if-out-size.false, widened-length old (sized c.before.before.before)))
 
-returns-3 : tie.Need-returns-3
+returns-3 : tie.Need-returns
 returns-3 c =
-    let i = c.before.before.before.before in
-    let k = i.before in
-    let a = k.before.before.before.before.before.args in
-    let e = k.wide-size.ensures in
-    let h : length (widened a.old.now) ≤ length a.out.now = omega (arith, e, i.if2.false) in
-    let f = widen_written a.old.now a.out.now (accepted k.before) h in
-    let g = bytes_same (sym f) (bytes-written a.out.now (widened a.old.now) e c.before.before.widen.ensures h) in
+    let a = c.args in
+    let e = c.wide_size-size.ensures in
+    let h : length (widened a.old.now) ≤ length a.out.now = omega (arith, e, c.if-out-size.false) in
+    let f = widen_written a.old.now a.out.now (accepted c.before.before.before.before.before.before) h in
+    let g = bytes_same (sym f) (bytes-written a.out.now (widened a.old.now) e c.widen.ensures h) in
     (g.word, g.buffer)
 
-pub fit-widen-spec : {M : Type 1} → statement M
-fit-widen-spec =
-    tie.close
-    (tie.spec
-    (λ c κs. search rules)
-    refused-requires
-    returns
-    wide-size-requires
-    (λ c κs. search rules)
-    returns-2
-    widen-requires
-    (λ c. search rules)
-    returns-3)
+pub fit_widen_spec : {M : Type 1} → statement M
+fit_widen_spec = tie.close (tie.spec (λ c κs. search rules) refused-requires returns wide-size-requires (λ c κs. search rules) returns-2 widen-requires (λ c. search rules) returns-3)
