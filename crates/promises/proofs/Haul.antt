@@ -2,33 +2,33 @@
 use Prim.Native.Nat.{ℕ}
 use mathlib.Core.Path.{◌≡◌, refl, sym, ap, ap₂, ◌∙◌, subst}
 use mathlib.Core.Bool.{Bool, true, false, not, ◌&&◌, ◌||◌, cond}
-use mathlib.Core.List.{List, [], ◌∷◌, ◌++◌, append-nil, append_assoc}
+use mathlib.Core.List.{List, [], ◌∷◌, ◌++◌, append-nil}
 use mathlib.Core.Option.{Option, none, some}
 use lib.Dec.{T, eqb, leb, ltb, eqb→eq}
 use lib.ListN.{length}
 use lib.Ieee.{Float}
 use Rattle.floats.specs.Floats.{of_nat}
-use Rattle.words.specs.Words.{◌>>=◌, each, when, when_any, when_above, unless, only, count_of, sum_of, any_of, given}
+use Rattle.words.specs.Words.{◌>>=◌, each, when, when_any, when_above, unless, only, count_of, sum_of, any_of}
 use Rattle.words.proofs.Steps.{only-append, each_append}
 use Rattle.catalogue.specs.Catalogue.{Id, Catalogue}
 use Rattle.catalogue.specs.Lookups.{name_id}
-use Rattle.fit.specs.Fit.{Frame, Fit, mode_of}
-use Rattle.fit.specs.Lookups.{value, amount}
+use Rattle.fit.specs.Fit.{Frame, mode_of}
+use Rattle.fit.specs.Lookups.{amount}
 use Rattle.numbers.specs.Slots as Slots
 use Rattle.numbers.specs.Names as Names
 use Rattle.numbers.specs.Resources as Resources
 use Rattle.entry.specs.declared.Entry.{Entry}
 use Rattle.entry.specs.declared.Rule.TheVariants.{NotAHull, Resource, ShipItem, StructureItem}
-use Rattle.entry.specs.Entries.{on_ship, fields}
-use Rattle.context.specs.Context.{Pair, Context, context, pairs, is_in, is_fitted, is_fighter_slot, is_on_hull, is_other, on}
+use Rattle.entry.specs.Entries.{on_ship}
+use Rattle.context.specs.Context.{Pair, Context, context, is_in, is_fitted, is_fighter_slot, is_on_hull, is_other, on}
 use Rattle.validate.specs.Kind.{is_hull, not_a_mode, not_a_skill}
-use Rattle.resource.specs.Resource.{resource, is_launched, launched, loads, launched_drones, cargo, resources}
-use Rattle.racks.specs.Racks.{HARDPOINTS, takes_hardpoint, slots, racks, hardpoints, racks_and_hardpoints}
+use Rattle.resource.specs.Resource.{resource, is_launched, launched, loads, launched_drones, cargo}
+use Rattle.racks.specs.Racks.{HARDPOINTS, takes_hardpoint, slots, racks, hardpoints}
 use Rattle.slot.specs.Slot.{slot_number_name, holds_one, shares_slot, shares_part, wrong_slot, not_a_module, not_a_drone, not_a_fighter, not_an_implant}
-use Rattle.slot.specs.Slot.{wrong_slot_index, slot_taken, subsystem_taken, slot_checks, slot_rules}
-use Rattle.item.specs.Item.{rig_size_at, rig_size, is_restricted, is_structure, is_standup, ship_restricted_at, ship_restricted, is_capital_item, capital_item_at, capital_item, standup_at, standup, item_rules}
-use Rattle.limits.specs.Limits.{group_limit_rows, in_group, group_limit_at, group_limit, group_limits, of_type, type_limit_at, type_limit, limit_rules}
-use Rattle.validate.specs.Validate.{hull_rules, list_with, list_of}
+use Rattle.slot.specs.Slot.{wrong_slot_index, slot_taken, subsystem_taken, slot_checks}
+use Rattle.item.specs.Item.{rig_size_at, rig_size, is_restricted, is_structure, is_standup, ship_restricted_at, ship_restricted, is_capital_item, capital_item_at, capital_item, standup_at, standup}
+use Rattle.limits.specs.Limits.{group_limit_rows, in_group, group_limit_at, group_limit, group_limits, of_type, type_limit_at, type_limit}
+use Rattle.validate.specs.Validate.{hull_rules, list_with}
 use Rattle.words.proofs.All.{All, nil, cons, all-when, all-bind}
 use Rattle.lists.proofs.Numbers.{only_no, behind, parted}
 

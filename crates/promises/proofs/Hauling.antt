@@ -9,14 +9,13 @@ use mathlib.Core.List.{List, [], ◌∷◌, ◌++◌, map, append-nil, Memᴰ}
 use lib.Dec.{T, eqb, leb, ltb, eqb→eq}
 use lib.Ieee.{Float}
 use lib.ListN.{length, length-map, drop}
-use Rattle.words.specs.Words.{◌>>=◌, each, when, when_above, only, count_of, sum_of}
+use Rattle.words.specs.Words.{◌>>=◌, when, when_above, only, count_of, sum_of}
 use Rattle.words.proofs.Steps.{only-append}
 use Rattle.words.proofs.Lengths.{few-bind, few-when}
 use Rattle.numbers.specs.Slots as Slots
 use Rattle.numbers.specs.Resources as Resources
 use Rattle.image.specs.Bytes.{u8_at}
 use Rattle.catalogue.specs.Catalogue.{Id, Catalogue, catalogue_of}
-use Rattle.fit.specs.Fit as Fit
 use Rattle.fit.specs.Fit.{Item, Result, Frame, Fit, fit_of, result_at, mode_of}
 use Rattle.profile.specs.Profile.{Price, prices_of}
 use Rattle.entry.specs.declared.Entry.{Entry}
@@ -45,7 +44,7 @@ use Rattle.promises.proofs.Placed.{Placed, done, skip, keep, placed_only}
 use Rattle.promises.proofs.Rises.{Rises, Covers, covers-stays}
 use Rattle.promises.proofs.Growth.{only-mem, added, new-pairs, list_grows}
 use Rattle.promises.proofs.Haul.{Held, all_map, only_same, each-alike, each_same, bind_same, when-no, not-fitted, list_same}
-use Rattle.promises.proofs.Sounds.{AllSound, list_sound}
+use Rattle.promises.proofs.Sounds.{list_sound}
 use Rattle.promises.proofs.Lengths.{pairs-short}
 use Rattle.promises.proofs.Comparing.{same-result, quantities}
 use Rattle.promises.proofs.Accepted.{sized, list_accepted_lem, asked}
@@ -298,7 +297,7 @@ module _ {A B : Type 0} (f : A → B) where
   map-mem (x ∷ l) y (Memᴰ.head e) = (x, Memᴰ.head refl, e)
   map-mem (x ∷ l) y (Memᴰ.tail h) = let r = map-mem l y h in (r.0, Memᴰ.tail r.1, r.2)
 
-  mem_map : {l : List A} (x : A) → Memᴰ x l → Memᴰ (f x) (map f l)
+  mem_map : (x : A) {l : List A} → Memᴰ x l → Memᴰ (f x) (map f l)
   mem_map x (Memᴰ.head e) = Memᴰ.head (ap f e)
   mem_map x (Memᴰ.tail h) = Memᴰ.tail (mem_map x h)
 

@@ -10,7 +10,6 @@ use Rattle.catalogue.specs.Catalogue.{Catalogue}
 use Rattle.fit.specs.Fit.{Fit, result_at, all_results, fit_of, skill_count, item_count, result_count, attribute_count, size_of}
 use Rattle.fit.specs.Refusals.{bad_size}
 use Rattle.context.specs.Context.{pairs}
-use Rattle.context.specs.Gathered.{pair_count}
 use Rattle.lists.specs.Terms.{Terms}
 use Rattle.lists.specs.Lists.{list_for}
 use Rattle.lists.proofs.Few.{Few, few-more, few-when, few-each, few-given, pairs-most, image_few}

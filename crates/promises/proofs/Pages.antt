@@ -19,10 +19,10 @@ use Rattle.skill.specs.Skill.{wants_too_many, skill_list}
 use Rattle.lists.specs.Terms.{Terms, terms, read_by}
 use Rattle.lists.specs.Lists.{list_for}
 use Rattle.calls.specs.Answers.{answer_by, answer, no_result, too_many_skills, over_pairs, over_skills, too_short}
-use Rattle.calls.specs.Answers.{image_refusals, buffer_refusals, skill_refusals}
+use Rattle.calls.specs.Answers.{image_refusals, buffer_refusals}
 use Rattle.fitcheck.specs.Calls.{list_call, skill_call}
 use Rattle.calls.proofs.Pages.{limits_unread}
-use Rattle.promises.specs.Answers.{outcome, refusal, Conditions, catalogue_conditions, fit_conditions, profile_conditions, First, None}
+use Rattle.promises.specs.Answers.{outcome, refusal, Conditions, catalogue_conditions, fit_conditions, profile_conditions, None}
 use Rattle.promises.specs.Compare.{Alike}
 use Rattle.promises.proofs.Conditions.{none-parts, never_first, never_reached, left_out}
 use Rattle.promises.proofs.Lengths.{pairs-short}

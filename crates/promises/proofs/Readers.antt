@@ -1,9 +1,8 @@
 -- Readers: a guest is not told of a pilot's training, pilots and officers are told all. By the conditions of the calls and the list without
 -- skills.
 use Prim.Native.Nat.{ℕ, ◌*◌}
-use native.Mathlib.Omega.{arith}
 use mathlib.Core.Path.{◌≡◌, refl, sym, ap, ap₂, ◌∙◌}
-use mathlib.Core.Bool.{Bool, true, false, not, cond}
+use mathlib.Core.Bool.{not, cond}
 use mathlib.Core.List.{List, [], ◌∷◌, ◌++◌, map}
 use lib.Dec.{eqb, ltb}
 use lib.ListN.{length}
@@ -11,7 +10,7 @@ use Rattle.words.specs.Words.{only, first_of}
 use Rattle.image.specs.Bytes.{u8_at}
 use Rattle.catalogue.specs.Catalogue.{Catalogue, catalogue_of}
 use Rattle.catalogue.specs.Refusals.{catalogue_refusals}
-use Rattle.fit.specs.Fit.{Item, Result, Frame, Fit, fit_of}
+use Rattle.fit.specs.Fit.{Frame, Fit, fit_of}
 use Rattle.fit.specs.Refusals.{fit_refusals}
 use Rattle.profile.specs.Profile.{profile_refusals}
 use Rattle.entry.specs.declared.Entry.{Entry}

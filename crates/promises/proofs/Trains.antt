@@ -3,21 +3,20 @@ use Prim.Native.Nat.{ℕ, zero, suc, ◌+◌, ◌*◌, ◌-◌, ◌^◌, ◌≤�
 use native.Mathlib.Numerals.{add-one}
 use native.Mathlib.Omega.{arith}
 use mathlib.Core.Path.{◌≡◌, refl, sym, ap, ap₂, subst, ◌∙◌}
-use mathlib.Core.Bool.{Bool, true, false, not, ◌||◌, cond}
+use mathlib.Core.Bool.{Bool, true, false, not, cond}
 use mathlib.Core.List.{List, [], ◌∷◌, ◌++◌, map}
-use mathlib.Core.Option.{Option, some}
+use mathlib.Core.Option.{some}
 use mathlib.Core.Logic.{◌⊎◌, inl, inr, ◌↔◌}
 use lib.Dec.{T, ltb, leb, nltb→le}
 use lib.ListN.{length, take, drop}
 use borrow.Author.Tests.{lt-ltb, le-ltb, le-leb, lt-leb, ltb-false}
-use Rattle.words.specs.Words.{each, when, count_of, is_empty, contains, same, any_of, first_of, given}
+use Rattle.words.specs.Words.{each, when, count_of, is_empty, contains, same, any_of, given}
 use Rattle.words.proofs.All.{All}
 use Rattle.words.proofs.Elements.{or_left, or_right}
 use Rattle.catalogue.specs.Catalogue.{Id, Catalogue, catalogue_of}
-use Rattle.fit.specs.Fit.{Fit, Result, fit_of, result_at, result_count, result_of, skill_count, items_at}
+use Rattle.fit.specs.Fit.{Fit, fit_of, result_at, result_count, result_of, items_at}
 use Rattle.fit.specs.Refusals.{bad_size, bad_order, bad_field, fit_refusals, fit_refusal}
 use Rattle.catalogue.specs.Refusals.{catalogue_refusals}
-use Rattle.fit.specs.Lookups.{trained}
 use Rattle.fit.specs.Sound as Fit
 use Rattle.fit.proofs.Decoded.{results-length, result-some}
 use Rattle.fit.proofs.Soundness.{sound, first_bad}
@@ -26,11 +25,11 @@ use Rattle.entry.specs.declared.Entry.{Entry}
 use Rattle.entry.specs.declared.Rule.TheVariants.{Skill}
 use Rattle.entry.specs.Entries.{fields}
 use Rattle.context.specs.Context.{pairs}
-use Rattle.skill.specs.Skill.{Demand, walk_within, wanted_skills, met, noted, target_of, entry_of, reported, wants_too_many, skill_list}
+use Rattle.skill.specs.Skill.{Demand, walk_within, wanted_skills, met, target_of, entry_of, reported, wants_too_many, skill_list}
 use Rattle.lists.specs.Terms.{main}
 use Rattle.skill.specs.Wanted.{Once}
 use Rattle.training.specs.Training.{Training, training_of, trained_as, skill_of, step_by, step, trained_by, too_many_listed, trained_image}
-use Rattle.training.specs.Turns.{level_of, gain, turns, is_new, Listed}
+use Rattle.training.specs.Turns.{level_of, gain, turns, Listed}
 use Rattle.training.proofs.Raising.{gain-own, gain-other}
 use Rattle.training.proofs.Stepping.{stepped, steps, split_lt, past, own, stepped_higher, all-given, list_of, trained-steps}
 use Rattle.training.proofs.Turning.{turns-listed}
@@ -46,7 +45,7 @@ use Rattle.calls.specs.Answers.{too_short}
 use Rattle.calls.specs.Output.{output, no_room}
 use Rattle.fitcheck.specs.Calls.{skill_call}
 use Rattle.fitcheck.specs.Train.{train_call}
-use Rattle.promises.specs.Answers.{Outcome, outcome, refusal, count, Conditions, catalogue_conditions, fit_conditions, First, None}
+use Rattle.promises.specs.Answers.{outcome, refusal, Conditions, catalogue_conditions, fit_conditions, First, None}
 use Rattle.promises.specs.Widens.{Fills, written}
 use Rattle.promises.specs.Compare.{Bytes}
 use Rattle.promises.specs.Trains.{train_outcome, trained_bytes, train_own, train_conditions, missing, Onward, Copied}

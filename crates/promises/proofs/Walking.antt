@@ -191,10 +191,10 @@ at_mem [] n t e = absurd (none≢some e)
 at_mem (w ∷ ws) zero t e = (w.1, Memᴰ.head (ap (λ (x : Id). (x, w.1)) (sym (some-injective _ _ e))))
 at_mem (w ∷ ws) (suc n) t e = let h = at_mem ws n t e in (h.0, Memᴰ.tail h.1)
 
-mem_at : (ws : List Demand) (t : Id) (l : ℕ) → Memᴰ (t, l) ws → (n : ℕ) × (n < length ws) × (skill_at ws n ≡ some t)
+mem_at : (t : Id) (l : ℕ) (ws : List Demand) → Memᴰ (t, l) ws → (n : ℕ) × (n < length ws) × (skill_at ws n ≡ some t)
 unfolding skill_at
-mem_at ws t l (Memᴰ.head e) = (zero, suc-le-suc zero-le, ap some (ap (λ (x : Demand). x.0) (sym e)))
-mem_at ws t l (Memᴰ.tail {xs = xs} m) = let h = mem_at xs t l m in (suc h.0, suc-le-suc h.1, h.2)
+mem_at t l ws (Memᴰ.head e) = (zero, suc-le-suc zero-le, ap some (ap (λ (x : Demand). x.0) (sym e)))
+mem_at t l ws (Memᴰ.tail {xs = xs} m) = let h = mem_at t l xs m in (suc h.0, suc-le-suc h.1, h.2)
 
 -- where a place is taken, so are those before it
 at_before : (ws : List Demand) (i n : ℕ) (t : Id) → i ≤ n → skill_at ws n ≡ some t → (u : Id) × (skill_at ws i ≡ some u)
@@ -264,7 +264,7 @@ module _ (c : Catalogue) (r : Result) where
   -- an order of at most n skills, of which n were walked, is closed: what its skills demand is in it
   module _ (n : ℕ) (short : length (noted (met c r n)) ≤ n) where
     met_of : (t : Id) (k : ℕ) → Memᴰ (t, k) (noted (met c r n)) → (x : Demand) → Memᴰ x (of_skill c t) → Memᴰ x (met c r n)
-    met_of t k m x d = let h = mem_at (noted (met c r n)) t k m in met-closed n h.0 t (le_trans h.1 short) h.2 x d
+    met_of t k m x d = let h = mem_at t k (noted (met c r n)) m in met-closed n h.0 t (le_trans h.1 short) h.2 x d
 
     wanted-in : (s : Id) → Wanted c r s → (m : ℕ) × Memᴰ (s, m) (noted (met c r n))
     wanted-in s (asked {l = l} m) = let h = noted-new n s l (met-first n (s, l) m) in (h.0, h.1)

@@ -1,5 +1,5 @@
 -- The list of wanted skills and the entries made of it, said without the walk. From `Walking`, `Refusing` and `Meeting`.
-use Prim.Native.Nat.{ℕ, ◌+◌, ◌≤◌}
+use Prim.Native.Nat.{ℕ, ◌≤◌}
 use native.Mathlib.Nat.{le_antisymm}
 use native.Mathlib.Omega.{arith}
 use mathlib.Core.Path.{◌≡◌, refl, sym, ap, ◌∙◌, subst}
@@ -8,7 +8,7 @@ use mathlib.Core.List.Memᴰ
 use mathlib.Core.List.{List, [], ◌∷◌, Memᴰ}
 use mathlib.Core.Option.{Option, some}
 use mathlib.Core.Logic.{◌⊎◌, ◌↔◌, inl, inr}
-use lib.Dec.{T, T_not, ltb, ltb→lt, lt→ltb, nltb→le}
+use lib.Dec.{T, T_not, ltb, ltb→lt, lt→ltb}
 use lib.ListN.{length, get_or, get_elem?}
 use Rattle.words.specs.Words.{◌>>=◌, each, when, given, contains}
 use Rattle.catalogue.specs.Catalogue.{Id, Catalogue, catalogue_of}
@@ -87,7 +87,7 @@ module _ {A B : Type 0} where
       go (inl a) k = (x, Memᴰ.head refl, a)
       go (inr a) k = let h = k a in (h.0, Memᴰ.tail h.1, h.2)
 
-  each-has : (f : A → List B) (y : B) {l : List A} {x : A} → Memᴰ x l → Memᴰ y (f x) → Memᴰ y (each l f)
+  each-has : (f : A → List B) (y : B) {x : A} {l : List A} → Memᴰ x l → Memᴰ y (f x) → Memᴰ y (each l f)
   unfolding each
   each-has f y (Memᴰ.head {xs = xs} e) k = Memᴰ.append_left (each xs f) (subst (λ (z : A). Memᴰ y (f z)) e k)
   each-has f y (Memᴰ.tail {x = z} m) k = Memᴰ.append_right (f z) (each-has f y m k)

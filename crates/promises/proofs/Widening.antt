@@ -1,17 +1,16 @@
 -- The widening call: its conditions, what it writes, and that nothing changes under a widened catalogue. From what it decodes to.
 use Prim.Native.Nat.{ℕ, zero, suc, ◌+◌, ◌*◌, ◌-◌, ◌/◌, ◌^◌, ◌≤◌, ◌<◌}
-use native.Mathlib.Nat.{zero-add}
 use native.Mathlib.Omega.{arith}
 use mathlib.Core.Path.{◌≡◌, refl, sym, ap, ap₂, subst, ◌∙◌}
-use mathlib.Core.Bool.{Bool, true, false, not, ◌||◌}
+use mathlib.Core.Bool.{Bool, true, false, not}
 use mathlib.Core.List.{List, [], ◌∷◌, ◌++◌}
-use lib.Dec.{T, ltb, eqb, nltb→le}
+use lib.Dec.{T, nltb→le}
 use lib.ListN.{length, get_or, take, drop, length-append, length-drop}
 use lib.Seq.{get_or-append-add, get_or-drop, take_at}
 use borrow.Author.Tests.{le-ltb, eq-eqb}
 use Rattle.words.specs.Words.{first_of}
 use Rattle.catalogue.specs.Catalogue.{Catalogue, catalogue_of, size_of}
-use Rattle.catalogue.specs.Refusals.{bad_length, bad_order, bad_field, catalogue_refusals, catalogue_refusal}
+use Rattle.catalogue.specs.Refusals.{bad_length, catalogue_refusals, catalogue_refusal}
 use Rattle.catalogue.proofs.Sound.{length-is, length-limit}
 use Rattle.widening.specs.Old.{old_size_of, old_catalogue_of, old_bad_length, old_refusals}
 use Rattle.widening.specs.Widen.{widened}
@@ -22,13 +21,13 @@ use Rattle.fit.specs.Refusals.{fit_refusals}
 use Rattle.profile.specs.Profile.{profile_refusals}
 use Rattle.skill.specs.Skill.{skill_list}
 use Rattle.lists.specs.Lists.{list_for}
-use Rattle.calls.specs.Answers.{Answer, answer, over_pairs, buffer_refusals, skill_refusals}
+use Rattle.calls.specs.Answers.{answer, over_pairs, buffer_refusals, skill_refusals}
 use Rattle.fitcheck.specs.Calls.{no_reader, is_guest, list_call, skill_call}
 use Rattle.calls.specs.Output.{output_by, output, output_word, filled, no_room}
 use Rattle.fitcheck.specs.Widen.{widen_call}
 use Rattle.calls.proofs.First.{Numbered}
 use Rattle.promises.specs.Answers.{Outcome, refusal, count, Conditions, None}
-use Rattle.promises.specs.Widens.{widen_outcome, widen_conditions, Fills, written, list_under_old, skills_under_old, Stands}
+use Rattle.promises.specs.Widens.{widen_outcome, widen_conditions, Fills, written, Stands}
 use Rattle.promises.proofs.Conditions.{none_is, is_none, word-refused, word-answered, word-numbered}
 
 -- ---- a call that writes bytes, from the first of its conditions that holds

@@ -1,6 +1,6 @@
 -- Cases of document 02, P2: league profiles with the number that refuses them, what a profile adds behind a list, and where its refusals stand
 -- among the others.
-use Rattle.std.specs.Prelude.{ℕ, ◌+◌, ◌*◌, List, [], ◌∷◌, ◌++◌, map, pos, length, replicate, take}
+use Rattle.std.specs.Prelude.{ℕ, ◌*◌, List, [], ◌∷◌, ◌++◌, map, pos, length, replicate, take}
 use Rattle.words.specs.Words.{from}
 use Rattle.entry.specs.declared.Entry.{Entry}
 use Rattle.entry.specs.declared.Rule.TheVariants.{NotAModule, NotAHull, Banned, Points, UnknownType}

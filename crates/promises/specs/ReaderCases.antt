@@ -8,7 +8,7 @@ use Rattle.entry.specs.Entries.{on_ship, on_item}
 use Rattle.lists.specs.Terms.{Terms, terms, limited, read_by, main}
 use Rattle.promises.specs.Cases.{ship, structure, gun, unknown, known, result, Thing, one}
 use Rattle.promises.specs.Cases.{InLeague, LeagueCall, PageSkillCall, HallCall, Number, Entries, Returns, Case}
-use Rattle.promises.specs.CallCases.{words, bare, small, empty, fitted, types_at, marked, sized}
+use Rattle.promises.specs.CallCases.{words, bare, small, empty, fitted, types_at, marked}
 use Rattle.promises.specs.LeagueCases.{profile, ban, bad, dear}
 
 -- ---- lists

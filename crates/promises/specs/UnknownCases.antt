@@ -1,5 +1,5 @@
 -- Cases of document 02, P5: types that the catalogue lacks, in every kind of slot and beside types that are there with group 0 and category 0.
-use Rattle.std.specs.Prelude.{ℕ, ◌+◌, ◌*◌, List, [], ◌∷◌, ◌++◌, map, pos, negsuc, replicate}
+use Rattle.std.specs.Prelude.{ℕ, ◌*◌, List, [], ◌∷◌, ◌++◌, map, pos, negsuc, replicate}
 use Rattle.catalogue.specs.Catalogue.{Id, Link, Catalogue}
 use Rattle.fit.specs.Fit.{Fit}
 use Rattle.entry.specs.declared.Entry.{Entry}
