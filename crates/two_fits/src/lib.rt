@@ -1,5 +1,7 @@
 // Demand 3 of the two calls as they are exported: an old and a new call, each with its own buffer, and what their contracts say of both.
 // Document 01, "Two fits compared"; and what Cargo put behind a fit leaves as it was: document 02, P7.
+#![tactic(auto)]
+
 ghost use Rattle.std.specs.Prelude.{◌≡◌};
 ghost use Rattle.lists.specs.Terms.{terms, limited, read_by, main};
 ghost use Rattle.fitcheck.specs.Calls.{list_call, skill_call};

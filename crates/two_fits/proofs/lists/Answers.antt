@@ -7,33 +7,25 @@ use Rattle.promises.proofs.Comparing.{list_kept}
 use Rattle.promises.proofs.Hauling.{haul_lists, hold-one, hold_kept}
 use Rattle.two_fits.specs.Kept.{ListsKept, HeldOnce, ListsHauled}
 use Rattle.two_fits.proofs.Left.{left_is, of_both}
-use borrow.Author.Rules.{rules}
-use Rattle.two_fits.proofs.lists.Statement.{statement}
-use Rattle.two_fits.proofs.lists.Tie as tie
+use Rattle.two_fits.proofs.lists.Goals as goal
 
-returns : tie.Need-returns
+pub returns : goal.returns
 returns c =
-    let n = c.before.before in
-    let o = n.before.before.before.before in
-    let b = o.before.before in
-    let a = b.before.before.before.before.before.before.before.args in
+    let a = c.args in
     let catalogue = a.catalogue.now in
     let league = read_by a.reader (terms a.profile.now a.allowance) in
     let t = limited a.first.pairs a.first.skills league in
     let t' = limited a.second.pairs a.second.skills league in
     let old = a.old.now in
     let new = a.new.now in
-    let e = left_is a.before.now (list_call t catalogue old a.before.now) o.fit-list.ensures in
-    let e' = left_is a.after.now (list_call t' catalogue new a.after.now) n.fit-list2.ensures in
+    let e = left_is a.before.now (list_call t catalogue old a.before.now) c.fit_list-a.ensures in
+    let e' = left_is a.after.now (list_call t' catalogue new a.after.now) c.fit_list-b.ensures in
     let alike : Alike t t' = record { profile = refl; allowance = refl; reader = refl } in
-    let kept = list_kept t t' catalogue old new a.before.now a.after.now alike b.bytes.ensures in
+    let kept = list_kept t t' catalogue old new a.before.now a.after.now alike c.bytes.ensures in
     let hauled : ListsHauled catalogue old new _ _ = λ h answered answered'. (
       haul_lists t t' catalogue old new a.before.now a.after.now alike h answered answered',
-      λ v. hold_kept t t' catalogue old new a.before.now a.after.now alike b.bytes.ensures h v answered answered',
+      λ v. hold_kept t t' catalogue old new a.before.now a.after.now alike c.bytes.ensures h v answered answered',
     ) in
     let once = hold-one t catalogue old a.before.now in
     let once' = hold-one t' catalogue new a.after.now in
     (e, e', of_both (ListsKept catalogue old new) e e' kept, of_both (ListsHauled catalogue old new) e e' hauled, subst HeldOnce e once, subst HeldOnce e' once')
-
-pub lists-spec : {M : Type 1} → statement M
-lists-spec = tie.close (tie.spec (λ c κs. search rules) (λ c κs. search rules) (λ c κs. search rules) (λ c. search rules) (λ c. search rules) returns)
