@@ -1,6 +1,6 @@
 # What the programs' scripts share: sourced by ./check and ./widen, which set `name` (as it is called), `crate` (what is built), `root` (the
 # repository) and `usage` before. What a program cannot do, having no exit status, is done here.
-program=$root/crates/$crate/out/$crate
+program=$root/target/bin/$crate
 
 # die STATUS WORDS..
 die() {
@@ -60,33 +60,32 @@ image() {
     fi
 }
 
-# The files that a proof makes, in out/, are no sources.
 is_built() {
-    [ -x "$program" ] && [ -z "$(find "$root/crates.txt" "$root/crates" -path '*/out' -prune -o -type f \( -name '*.rt' -o -name '*.antt' -o -name crates.txt \) -newer "$program" -print | head -n 1)" ]
+    [ -x "$program" ] && [ -z "$(find "$root/crates.txt" "$root/crates" -type f \( -name '*.rt' -o -name '*.antt' -o -name crates.txt \) -newer "$program" | head -n 1)" ]
 }
 
-# Proves and builds the program; each crate is shown as it is begun. `rt run` also runs it where it stands, without files: what it then
-# writes is in the log.
+# Proves and builds the program; each crate is shown as soon as it is proved.
 build() {
     command -v rt >/dev/null || die 2 "rt, the command of the Rattle kit, is not on the PATH; it builds the program"
     if [ -x "$program" ]; then
         say 'sources have changed: proving what is new and building the program'
     else
-        say "proving and building the program; from nothing this takes about ten minutes. The last crate is $crate."
+        say "proving and building the program; from nothing this takes about five minutes. The last crate is $crate."
     fi
     : >"$room/began"
     {
-        cd "$root/crates/$crate" && rt run
+        cd "$root" && rt check "$crate"
         echo "$?" >"$room/status"
     } 2>&1 | while IFS= read -r line; do
         printf '%s\n' "$line" >>"$room/log"
         case $line in
-        'rt: chose --jobs '*) say "proving ${line##* }" ;;
+        'rt: '*'(unchanged since it was last proved)') ;;
+        'rt: '*) printf '%s\n' "$line" >&2 ;;
         esac
     done
     if [ "$(cat "$room/status")" != 0 ] || [ ! -x "$program" ]; then
         tail -n 20 "$room/log" >&2
-        die 2 "the program is not built: rt run in crates/$crate failed"
+        die 2 "the program is not built: rt check $crate failed"
     fi
     # rt leaves a program alone whose sources are as they were; its age now says that it is as new as they are
     touch -r "$room/began" "$program"
