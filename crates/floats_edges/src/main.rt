@@ -1,208 +1,205 @@
 // Runs the readers, the casts and `over` at document 01's edges, and on both sides of each limit.
 // The file `stdout` was worked out from the document; above each function stands how its lines follow.
-use floats::{Load, Value};
+#![tactic(auto)]
 
-fn decimal(n: u64) {
-    io::print_decimal(1, n);
-    io::write_all(1, b"\n");
+use floats::{Load, Value};
+use std::io;
+
+fn decimal(rt: &impl Print, n: u64) -> io::Result<()> {
+    println!(rt; "{n}")
 }
 
 // A negative number is its bits less 2^32.
-fn signed(z: i32) {
+fn signed(rt: &impl Print, z: i32) -> io::Result<()> {
     let n = image::bits(z) as u64;
     if n < 2147483648 {
-        decimal(n);
+        decimal(rt, n)
     } else {
-        io::write_all(1, b"-");
-        decimal(4294967296 - n);
+        print!(rt; "-")?;
+        decimal(rt, 4294967296 - n)
     }
 }
 
-fn as_u8(name: &[u8], x: f64) {
-    io::write_all(1, name);
-    io::write_all(1, b" to u8 ");
-    decimal(floats::to_u8(x) as u64);
+fn as_u8(rt: &impl Print, name: &str, x: f64) -> io::Result<()> {
+    print!(rt; "{name} to u8 ")?;
+    decimal(rt, floats::to_u8(x) as u64)
 }
 
-fn as_u16(name: &[u8], x: f64) {
-    io::write_all(1, name);
-    io::write_all(1, b" to u16 ");
-    decimal(floats::to_u16(x) as u64);
+fn as_u16(rt: &impl Print, name: &str, x: f64) -> io::Result<()> {
+    print!(rt; "{name} to u16 ")?;
+    decimal(rt, floats::to_u16(x) as u64)
 }
 
-fn as_u32(name: &[u8], x: f64) {
-    io::write_all(1, name);
-    io::write_all(1, b" to u32 ");
-    decimal(floats::to_u32(x) as u64);
+fn as_u32(rt: &impl Print, name: &str, x: f64) -> io::Result<()> {
+    print!(rt; "{name} to u32 ")?;
+    decimal(rt, floats::to_u32(x) as u64)
 }
 
-fn as_i32(name: &[u8], x: f64) {
-    io::write_all(1, name);
-    io::write_all(1, b" to i32 ");
-    signed(floats::to_i32(x));
+fn as_i32(rt: &impl Print, name: &str, x: f64) -> io::Result<()> {
+    print!(rt; "{name} to i32 ")?;
+    signed(rt, floats::to_i32(x))
 }
 
-fn held(name: &[u8], used: f64, available: f64) {
-    io::write_all(1, name);
+fn held(rt: &impl Print, name: &str, used: f64, available: f64) -> io::Result<()> {
     if floats::over(Load { used, available }) {
-        io::write_all(1, b" over\n");
+        println!(rt; "{name} over")
     } else {
-        io::write_all(1, b" not over\n");
+        println!(rt; "{name} not over")
     }
 }
 
-fn bits(name: &[u8], x: f64) {
-    io::write_all(1, name);
-    io::write_all(1, b" has bits ");
-    io::print_hex(1, floats::f64_bits(x), 16);
-    io::write_all(1, b"\n");
+fn bits(rt: &impl Print, name: &str, x: f64) -> io::Result<()> {
+    let word = floats::f64_bits(x);
+    println!(rt; "{name} has bits {word:016x}")
 }
 
 // "Casts truncate toward zero, stop at the ends of the range, NaN gives 0": u8 ends at 0 and 255.
-fn to_u8() {
-    as_u8(b"NaN", 0.0 / 0.0);
-    as_u8(b"-infinity", -1.0 / 0.0);
-    as_u8(b"-1", -1.0);
-    as_u8(b"-0.9", -0.9);
-    as_u8(b"0.9", 0.9);
-    as_u8(b"254.9", 254.9);
-    as_u8(b"255", 255.0);
-    as_u8(b"255.9", 255.9);
-    as_u8(b"256", 256.0);
-    as_u8(b"infinity", 1.0 / 0.0);
+fn to_u8(rt: &impl Print) -> io::Result<()> {
+    as_u8(rt, "NaN", 0.0 / 0.0)?;
+    as_u8(rt, "-infinity", -1.0 / 0.0)?;
+    as_u8(rt, "-1", -1.0)?;
+    as_u8(rt, "-0.9", -0.9)?;
+    as_u8(rt, "0.9", 0.9)?;
+    as_u8(rt, "254.9", 254.9)?;
+    as_u8(rt, "255", 255.0)?;
+    as_u8(rt, "255.9", 255.9)?;
+    as_u8(rt, "256", 256.0)?;
+    as_u8(rt, "infinity", 1.0 / 0.0)
 }
 
 // u16 ends at 65535.
-fn to_u16() {
-    as_u16(b"NaN", 0.0 / 0.0);
-    as_u16(b"-1", -1.0);
-    as_u16(b"65534.9", 65534.9);
-    as_u16(b"65535.9", 65535.9);
-    as_u16(b"65536", 65536.0);
+fn to_u16(rt: &impl Print) -> io::Result<()> {
+    as_u16(rt, "NaN", 0.0 / 0.0)?;
+    as_u16(rt, "-1", -1.0)?;
+    as_u16(rt, "65534.9", 65534.9)?;
+    as_u16(rt, "65535.9", 65535.9)?;
+    as_u16(rt, "65536", 65536.0)
 }
 
 // u32 ends at 4294967295. 2^64 is where the code's own first test stands.
-fn to_u32() {
-    as_u32(b"NaN", 0.0 / 0.0);
-    as_u32(b"-1", -1.0);
-    as_u32(b"4294967294.9", 4294967294.9);
-    as_u32(b"4294967295.9", 4294967295.9);
-    as_u32(b"4294967296", 4294967296.0);
-    as_u32(b"2^64", 18446744073709551616.0);
-    as_u32(b"1e300", 1e300);
+fn to_u32(rt: &impl Print) -> io::Result<()> {
+    as_u32(rt, "NaN", 0.0 / 0.0)?;
+    as_u32(rt, "-1", -1.0)?;
+    as_u32(rt, "4294967294.9", 4294967294.9)?;
+    as_u32(rt, "4294967295.9", 4294967295.9)?;
+    as_u32(rt, "4294967296", 4294967296.0)?;
+    as_u32(rt, "2^64", 18446744073709551616.0)?;
+    as_u32(rt, "1e300", 1e300)
 }
 
 // i32 ends at -2147483648 and 2147483647.
-fn to_i32() {
-    as_i32(b"NaN", 0.0 / 0.0);
-    as_i32(b"-0.9", -0.9);
-    as_i32(b"2.7", 2.7);
-    as_i32(b"-2.7", -2.7);
-    as_i32(b"2147483646.9", 2147483646.9);
-    as_i32(b"2147483647.9", 2147483647.9);
-    as_i32(b"2147483648", 2147483648.0);
-    as_i32(b"infinity", 1.0 / 0.0);
+fn to_i32(rt: &impl Print) -> io::Result<()> {
+    as_i32(rt, "NaN", 0.0 / 0.0)?;
+    as_i32(rt, "-0.9", -0.9)?;
+    as_i32(rt, "2.7", 2.7)?;
+    as_i32(rt, "-2.7", -2.7)?;
+    as_i32(rt, "2147483646.9", 2147483646.9)?;
+    as_i32(rt, "2147483647.9", 2147483647.9)?;
+    as_i32(rt, "2147483648", 2147483648.0)?;
+    as_i32(rt, "infinity", 1.0 / 0.0)
 }
 
-fn to_i32_below() {
-    as_i32(b"-2147483647.9", -2147483647.9);
-    as_i32(b"-2147483648", -2147483648.0);
-    as_i32(b"-2147483648.9", -2147483648.9);
-    as_i32(b"-2147483649", -2147483649.0);
-    as_i32(b"-1e300", -1e300);
-    as_i32(b"-infinity", -1.0 / 0.0);
+fn to_i32_below(rt: &impl Print) -> io::Result<()> {
+    as_i32(rt, "-2147483647.9", -2147483647.9)?;
+    as_i32(rt, "-2147483648", -2147483648.0)?;
+    as_i32(rt, "-2147483648.9", -2147483648.9)?;
+    as_i32(rt, "-2147483649", -2147483649.0)?;
+    as_i32(rt, "-1e300", -1e300)?;
+    as_i32(rt, "-infinity", -1.0 / 0.0)
 }
 
 // "A missing value reads as 0 for an amount."
-fn amounts() {
-    as_u8(b"amount 7", floats::amount(Value::Given(7.0)));
-    as_u8(b"amount missing", floats::amount(Value::Missing));
+fn amounts(rt: &impl Print) -> io::Result<()> {
+    as_u8(rt, "amount 7", floats::amount(Value::Given(7.0)))?;
+    as_u8(rt, "amount missing", floats::amount(Value::Missing))
 }
 
 // "Over: used > available + |available| × c, each operation rounded once." 10^9 × c rounds to 1, so the
 // limits are 1000000001 and -999999999, and the next f64 above either is over.
-fn over_billion() {
-    held(b"1000000001 of 1000000000", 1000000001.0, 1000000000.0);
+fn over_billion(rt: &impl Print) -> io::Result<()> {
+    held(rt, "1000000001 of 1000000000", 1000000001.0, 1000000000.0)?;
     held(
-        b"1000000001.0000001 of 1000000000",
+        rt,
+        "1000000001.0000001 of 1000000000",
         1000000001.0000001,
         1000000000.0,
-    );
-    held(b"1000000002 of 1000000000", 1000000002.0, 1000000000.0);
-    held(b"-999999999 of -1000000000", -999999999.0, -1000000000.0);
+    )?;
+    held(rt, "1000000002 of 1000000000", 1000000002.0, 1000000000.0)?;
+    held(rt, "-999999999 of -1000000000", -999999999.0, -1000000000.0)?;
     held(
-        b"-999999998.9999999 of -1000000000",
+        rt,
+        "-999999998.9999999 of -1000000000",
         -999999998.9999999,
         -1000000000.0,
-    );
+    )
 }
 
 // Of a zero the limit is +0, whichever its sign; 5e-324 is the smallest f64 above.
-fn over_zero() {
-    held(b"0 of 0", 0.0, 0.0);
-    held(b"5e-324 of 0", 5e-324, 0.0);
-    held(b"0 of -0", 0.0, -0.0);
-    held(b"5e-324 of -0", 5e-324, -0.0);
+fn over_zero(rt: &impl Print) -> io::Result<()> {
+    held(rt, "0 of 0", 0.0, 0.0)?;
+    held(rt, "5e-324 of 0", 5e-324, 0.0)?;
+    held(rt, "0 of -0", 0.0, -0.0)?;
+    held(rt, "5e-324 of -0", 5e-324, -0.0)
 }
 
 // -infinity + infinity × c is a NaN, and no comparison with a NaN is true.
-fn over_infinity() {
-    held(b"0 of -infinity", 0.0, -1.0 / 0.0);
-    held(b"infinity of -infinity", 1.0 / 0.0, -1.0 / 0.0);
-    held(b"infinity of infinity", 1.0 / 0.0, 1.0 / 0.0);
-    held(b"infinity of 1", 1.0 / 0.0, 1.0);
-    held(b"1 of NaN", 1.0, 0.0 / 0.0);
-    held(b"NaN of 1", 0.0 / 0.0, 1.0);
+fn over_infinity(rt: &impl Print) -> io::Result<()> {
+    held(rt, "0 of -infinity", 0.0, -1.0 / 0.0)?;
+    held(rt, "infinity of -infinity", 1.0 / 0.0, -1.0 / 0.0)?;
+    held(rt, "infinity of infinity", 1.0 / 0.0, 1.0 / 0.0)?;
+    held(rt, "infinity of 1", 1.0 / 0.0, 1.0)?;
+    held(rt, "1 of NaN", 1.0, 0.0 / 0.0)?;
+    held(rt, "NaN of 1", 0.0 / 0.0, 1.0)
 }
 
 // 1e-9 has the bits of c; a NaN is written as the quiet NaN without a sign; every u32 is exact.
-fn written() {
-    bits(b"1e-9", 1e-9);
-    bits(b"-0", -0.0);
-    bits(b"NaN", 0.0 / 0.0);
-    bits(b"4294967295", floats::of_u32(4294967295));
+fn written(rt: &impl Print) -> io::Result<()> {
+    bits(rt, "1e-9", 1e-9)?;
+    bits(rt, "-0", -0.0)?;
+    bits(rt, "NaN", 0.0 / 0.0)?;
+    bits(rt, "4294967295", floats::of_u32(4294967295))
 }
 
 // What is put reads back.
-fn put() {
+fn put(rt: &impl Print) -> io::Result<()> {
     let mut out = [0u8; 8];
     floats::put_f64(&mut out, 0, 1e-9);
-    bits(b"1e-9 put and read", floats::f64_at(&out, 0));
+    bits(rt, "1e-9 put and read", floats::f64_at(&out, 0))
 }
 
 // The largest finite f64, infinity, and the first and last NaN patterns.
-fn read_f64() {
+fn read_f64(rt: &impl Print) -> io::Result<()> {
     let b =
         b"\xff\xff\xff\xff\xff\xff\xef\x7f\x00\x00\x00\x00\x00\x00\xf0\x7f\x01\x00\x00\x00\x00\x00\xf0\x7f\xff\xff\xff\xff\xff\xff\xff\xff";
-    bits(b"7fefffffffffffff", floats::f64_at(b, 0));
-    bits(b"7ff0000000000000", floats::f64_at(b, 8));
-    bits(b"7ff0000000000001", floats::f64_at(b, 16));
-    bits(b"ffffffffffffffff", floats::f64_at(b, 24));
+    bits(rt, "7fefffffffffffff", floats::f64_at(b, 0))?;
+    bits(rt, "7ff0000000000000", floats::f64_at(b, 8))?;
+    bits(rt, "7ff0000000000001", floats::f64_at(b, 16))?;
+    bits(rt, "ffffffffffffffff", floats::f64_at(b, 24))
 }
 
 // "f32 widened exactly": the digits of an f32 with 29 zeros behind them, and its exponent. The smallest
 // f32, 2^-149; 0.1 in f32; the largest finite f32; infinity; the first NaN pattern.
-fn read_f32() {
+fn read_f32(rt: &impl Print) -> io::Result<()> {
     let b = b"\x01\x00\x00\x00\xcd\xcc\xcc\x3d\xff\xff\x7f\x7f\x00\x00\x80\x7f\x01\x00\x80\x7f";
-    bits(b"f32 00000001", floats::f32_wide_at(b, 0));
-    bits(b"f32 3dcccccd", floats::f32_wide_at(b, 4));
-    bits(b"f32 7f7fffff", floats::f32_wide_at(b, 8));
-    bits(b"f32 7f800000", floats::f32_wide_at(b, 12));
-    bits(b"f32 7f800001", floats::f32_wide_at(b, 16));
+    bits(rt, "f32 00000001", floats::f32_wide_at(b, 0))?;
+    bits(rt, "f32 3dcccccd", floats::f32_wide_at(b, 4))?;
+    bits(rt, "f32 7f7fffff", floats::f32_wide_at(b, 8))?;
+    bits(rt, "f32 7f800000", floats::f32_wide_at(b, 12))?;
+    bits(rt, "f32 7f800001", floats::f32_wide_at(b, 16))
 }
 
-fn main() {
-    to_u8();
-    to_u16();
-    to_u32();
-    to_i32();
-    to_i32_below();
-    amounts();
-    over_billion();
-    over_zero();
-    over_infinity();
-    written();
-    put();
-    read_f64();
-    read_f32();
+fn main(rt: HostRuntime) -> io::Result<()> {
+    to_u8(&rt)?;
+    to_u16(&rt)?;
+    to_u32(&rt)?;
+    to_i32(&rt)?;
+    to_i32_below(&rt)?;
+    amounts(&rt)?;
+    over_billion(&rt)?;
+    over_zero(&rt)?;
+    over_infinity(&rt)?;
+    written(&rt)?;
+    put(&rt)?;
+    read_f64(&rt)?;
+    read_f32(&rt)
 }
