@@ -3,9 +3,14 @@
 // The file `stdout` was worked out from the document: each line says in words what the image is, and behind it stands the number that
 // the document's row of that case gives, or 0 where none does. One limit, 16,777,216 bytes, does not fit a program's stack: the
 // comparison with the original runs it.
+#![tactic(auto)]
+
 mod drawing;
 
 ghost use Rattle.std.specs.Prelude.{◌≡◌, length};
+
+use std::rt::Files;
+use std::{fs, io};
 
 // The longest image of a row is a fit of 30,001 attributes.
 fn zeros() -> [u8; 360400]
@@ -30,44 +35,39 @@ fn number_of(row: &[u8], is_fit: bool) -> u64 {
 }
 
 // A line without a colon is a comment.
-fn say(line: &[u8], is_fit: bool) {
+fn say(rt: &impl Print, line: &[u8], is_fit: bool) -> io::Result<()> {
     let colon = drawing::find(line, 0, b':');
     if colon == line.len() {
-        return;
+        return Ok(());
     }
     let after = colon + 1;
     let row = image::part(line, after, line.len() - after);
-    io::write_all(1, image::part(line, 0, colon));
-    io::write_all(1, b": ");
-    io::print_decimal(1, number_of(row, is_fit));
-    io::write_all(1, b"\n");
+    rt.write_all(image::part(line, 0, colon))?;
+    let number = number_of(row, is_fit);
+    println!(rt; ": {number}")
 }
 
-fn say_lines(b: &[u8], is_fit: bool) {
+fn say_lines(rt: &impl Print, b: &[u8], is_fit: bool) -> io::Result<()> {
     let mut at: usize = 0;
     while at < b.len() {
         let end = drawing::find(b, at, b'\n');
-        say(image::part(b, at, end - at), is_fit);
+        say(rt, image::part(b, at, end - at), is_fit)?;
         if end == b.len() {
-            return;
+            return Ok(());
         }
         at = end + 1;
     }
+    Ok(())
 }
 
-fn say_file(path: &[u8], is_fit: bool) {
-    let mut file = io::large_buffer();
-    let fd = os::open_read(path);
-    if fd < 0 {
-        os::fail(path);
-        return;
-    }
-    let n = io::read_full(fd, &mut file);
-    libc::close(fd);
-    say_lines(&file[..n], is_fit);
+fn say_file(rt: &(impl Files + Print), path: &str, is_fit: bool) -> io::Result<()> {
+    let mut bytes = [0u8; 65536];
+    let mut file = fs::open(rt, path)?;
+    let n = program::fill(&mut file, &mut bytes);
+    say_lines(rt, &bytes[..n], is_fit)
 }
 
-fn main() {
-    say_file(b"catalogues.txt", false);
-    say_file(b"fits.txt", true);
+fn main(rt: HostRuntime) -> io::Result<()> {
+    say_file(&rt, "catalogues.txt", false)?;
+    say_file(&rt, "fits.txt", true)
 }
