@@ -1,7 +1,11 @@
 // The program `check` of document 01: reads types.bin and fit.bin from the current directory and prints the list call's answer.
+#![tactic(auto)]
+
 mod text;
 
 ghost use Rattle.std.specs.Prelude.{◌≡◌, length};
+
+use std::io;
 
 // As much as the longest text takes, and more.
 fn text_buffer() -> [u8; 458752]
@@ -10,21 +14,20 @@ fn text_buffer() -> [u8; 458752]
     [0; 458752]
 }
 
-fn print(catalogue: &[u8], fit: &[u8]) {
+fn print(rt: &impl Print, catalogue: &[u8], fit: &[u8]) -> io::Result<()> {
     let mut text = text_buffer();
     let n = text::checked(catalogue, fit, &mut text);
-    io::write_all(1, &text[..n]);
+    rt.write_all(&text[..n])
 }
 
 // One byte more than a file may have tells a longer one.
-fn main() {
+fn main(rt: HostRuntime) -> io::Result<()> {
     let mut types = [0u8; 65537];
     let mut fit = [0u8; 65537];
-    let t = program::read(b"types.bin", &mut types);
-    let f = program::read(b"fit.bin", &mut fit);
+    let t = program::read(&rt, b"types.bin", &mut types);
+    let f = program::read(&rt, b"fit.bin", &mut fit);
     if 65536 < t || 65536 < f {
-        io::write_all(1, b"too long\n");
-        return;
+        return println!(rt; "too long");
     }
-    print(&types[..t], &fit[..f]);
+    print(&rt, &types[..t], &fit[..f])
 }

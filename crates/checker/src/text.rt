@@ -1,7 +1,7 @@
 // A list call's answer as text: specs/Text.antt.
 ghost use Rattle.std.specs.Prelude.{◌≡◌, ◌+◌, ◌*◌, ◌/◌, ◌%◌, ◌<◌, ◌≤◌, ◌^◌, length, take};
 ghost use Rattle.image.specs.Bytes.{u8_at, u32_at};
-ghost use Rattle.io.specs.Counts.{IsPrefixLen};
+ghost use Rattle.program.specs.Counts.{IsPrefixLen};
 ghost use Rattle.program.specs.Put.{Put};
 ghost use Rattle.checker.specs.Text as Text;
 ghost use Rattle.checker.specs.Text.{text_of};

@@ -1,6 +1,6 @@
 // What is put on standard output: specs/Text.antt.
 ghost use Rattle.std.specs.Prelude.{◌≡◌, ◌≤◌, length, take};
-ghost use Rattle.io.specs.Counts.{IsPrefixLen};
+ghost use Rattle.program.specs.Counts.{IsPrefixLen};
 ghost use Rattle.widener.specs.Text as Text;
 
 use numbers::sizes;

@@ -5,7 +5,7 @@ use mathlib.Core.Path.{ap, ap₂, ◌∙◌}
 use lib.ListN.{length, take}
 use Rattle.numbers.specs.Sizes as Sizes
 use Rattle.program.specs.Text.{refused}
-use Rattle.io.proofs.Counting.{prefix_len_of_le}
+use Rattle.program.proofs.Counting.{prefix_len_of_le}
 use Rattle.widener.proofs.Printing.{prints, refuses}
 use borrow.Author.Rules.{rules}
 use Rattle.widener.proofs.text.printed.Statement.{statement}
