@@ -60,11 +60,15 @@ fn say_lines(rt: &impl Print, b: &[u8], is_fit: bool) -> io::Result<()> {
     Ok(())
 }
 
-fn say_file(rt: &(impl Files + Print), path: &str, is_fit: bool) -> io::Result<()> {
+fn say_file(rt: &(impl Files + Print + Eprint), path: &str, is_fit: bool) -> io::Result<()> {
     let mut bytes = [0u8; 65536];
-    let mut file = fs::open(rt, path)?;
-    let n = program::fill(&mut file, &mut bytes);
-    say_lines(rt, &bytes[..n], is_fit)
+    match fs::open(rt, path) {
+        Ok(mut file) => {
+            let n = program::fill(&mut file, &mut bytes);
+            say_lines(rt, &bytes[..n], is_fit)
+        }
+        Err(e) => eprintln!(rt; "{path}: {e}"),
+    }
 }
 
 fn main(rt: HostRuntime) -> io::Result<()> {

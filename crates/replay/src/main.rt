@@ -72,7 +72,11 @@ fn file_buffer() -> [u8; 73728]
 
 fn main(rt: HostRuntime) -> io::Result<()> {
     let mut bytes = file_buffer();
-    let mut file = fs::open(&rt, "recorded.bin")?;
-    let n = program::fill(&mut file, &mut bytes);
-    replay(&rt, &bytes[..n])
+    match fs::open(&rt, "recorded.bin") {
+        Ok(mut file) => {
+            let n = program::fill(&mut file, &mut bytes);
+            replay(&rt, &bytes[..n])
+        }
+        Err(e) => eprintln!(rt; "recorded.bin: {e}"),
+    }
 }
