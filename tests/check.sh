@@ -129,18 +129,22 @@ done
 # The build, in a repository of its own whose rt proves nothing: each crate is shown as it is proved, sources that have
 # changed are built again and others are not, and where nothing comes of it the status says so.
 home=$room/repository
-mkdir -p "$home/crates/words/src" "$home/crates/program" "$room/kit"
+made=$home/crates/checker/out/checker
+mkdir -p "$home/crates/words/src" "$home/crates/program" "$home/crates/checker" "$room/kit"
 cp "$root/check" "$home"
 cp "$root/crates/program/program.sh" "$home/crates/program"
 touch -d '1 hour ago' "$home/crates.txt" "$home/crates/words/src/lib.rt"
 cat >"$room/kit/rt" <<'EOF'
 #!/bin/sh
-echo 'fn words::one: proved'
-echo 'rt: words proved (1 s)'
-[ ! -e broken ] || exit 1
-echo 'rt: image proved (unchanged since it was last proved)'
-[ -e target/bin/checker ] && exit
-mkdir -p target/bin && printf '#!/bin/sh\necho count 0\n' >target/bin/checker && chmod +x target/bin/checker
+echo 'rt: words is being proved' >&2
+echo 'fn words::one: proved' >&2
+[ ! -e ../../broken ] || exit 1
+if ! [ -e out/checker ]; then
+    mkdir -p out && printf '#!/bin/sh\necho count 0\n' >out/checker && chmod +x out/checker
+    touch out/checked.antt
+fi
+echo 'rt: running out/checker; to give it other input, run that file yourself' >&2
+exec out/checker
 EOF
 chmod +x "$room/kit/rt"
 
@@ -151,21 +155,21 @@ built() {
     verdict "$1" $?
 }
 
-shown='rt: words proved (1 s)'
+shown='rt: words is being proved'
 mkdir "$room/tools"
 for tool in cat dirname find head mktemp readlink rm; do
     ln -s "$(command -v "$tool")" "$room/tools"
 done
 says 'no rt' 2 'rt, the command of the Rattle kit, is not on the PATH' env PATH="$room/tools" "$home/check" "$root/samples/clear"
 touch "$home/broken"
-says 'a proof that fails' 2 'rt check checker failed' env PATH="$room/kit:$PATH" "$home/check" "$root/samples/clear"
+says 'a proof that fails' 2 'rt run in crates/checker failed' env PATH="$room/kit:$PATH" "$home/check" "$root/samples/clear"
 grep -q 'fn words::one: proved' "$room/said"
 verdict 'a proof that fails, its last lines' $?
 rm "$home/broken"
 built 'built from nothing' "check: proving and building
 $shown"
 built 'built already' ''
-touch -d '1 hour ago' "$home/target/bin/checker"
+touch -d '1 hour ago' "$made"
 touch -d '30 minutes ago' "$home/crates/words/src/lib.rt"
 built 'a source has changed' "check: sources have changed
 $shown"

@@ -1,6 +1,6 @@
 # What the programs' scripts share: sourced by ./check and ./widen, which set `name` (as it is called), `crate` (what is built), `root` (the
 # repository) and `usage` before. What a program cannot do, having no exit status, is done here.
-program=$root/target/bin/$crate
+program=$root/crates/$crate/out/$crate
 
 # die STATUS WORDS..
 die() {
@@ -61,31 +61,32 @@ image() {
 }
 
 is_built() {
-    [ -x "$program" ] && [ -z "$(find "$root/crates.txt" "$root/crates" -type f \( -name '*.rt' -o -name '*.antt' -o -name crates.txt \) -newer "$program" | head -n 1)" ]
+    [ -x "$program" ] && [ -z "$(find "$root/crates.txt" "$root/crates" -name out -prune -o -type f \( -name '*.rt' -o -name '*.antt' -o -name crates.txt \) -newer "$program" -print | head -n 1)" ]
 }
 
-# Proves and builds the program; each crate is shown as soon as it is proved.
+# Proves and builds the program; each crate is shown as soon as its proof begins. rt builds a program in order to run it: there it finds no
+# files, and what it prints is let go.
 build() {
     command -v rt >/dev/null || die 2 "rt, the command of the Rattle kit, is not on the PATH; it builds the program"
     if [ -x "$program" ]; then
         say 'sources have changed: proving what is new and building the program'
     else
-        say "proving and building the program; from nothing this takes about five minutes. The last crate is $crate."
+        say "proving and building the program; from nothing this takes many minutes. The last crate is $crate."
     fi
     : >"$room/began"
     {
-        cd "$root" && rt check "$crate"
+        cd "$root/crates/$crate" && rt run 2>&1 >/dev/null
         echo "$?" >"$room/status"
-    } 2>&1 | while IFS= read -r line; do
+    } | while IFS= read -r line; do
         printf '%s\n' "$line" >>"$room/log"
         case $line in
-        'rt: '*'(unchanged since it was last proved)') ;;
+        'rt: running '*) ;;
         'rt: '*) printf '%s\n' "$line" >&2 ;;
         esac
     done
     if [ "$(cat "$room/status")" != 0 ] || [ ! -x "$program" ]; then
         tail -n 20 "$room/log" >&2
-        die 2 "the program is not built: rt check $crate failed"
+        die 2 "the program is not built: rt run in crates/$crate failed"
     fi
     # rt leaves a program alone whose sources are as they were; its age now says that it is as new as they are
     touch -r "$room/began" "$program"
