@@ -2,8 +2,8 @@
 use Prim.Native.Nat.{ℕ, zero, suc, ◌/◌, ◌≤◌, ◌<◌}
 use native.Mathlib.Omega.{arith}
 use mathlib.Core.Path.{◌≡◌, refl, sym, ap, subst, ◌∙◌}
-use mathlib.Core.List.{List, ◌++◌}
-use lib.ListN.{length, take, drop, length-append, length-drop}
+use mathlib.Core.List.{List}
+use lib.ListN.{length, take, drop, length-append}
 use lib.Seq.{take_at}
 use Rattle.numbers.specs.Sizes as Sizes
 use Rattle.widening.specs.Old.{old_refusal}
