@@ -1,5 +1,5 @@
 # What the programs' scripts share: sourced by ./check and ./widen, which set `name` (as it is called), `crate` (what is built), `root` (the
-# repository) and `usage` before. What a program cannot do, having no exit status, is done here.
+# repository) and `usage` before. What a program does not tell by its exit status is told here.
 program=$root/crates/$crate/out/$crate
 
 # die STATUS WORDS..
