@@ -1,7 +1,8 @@
 // Keys in an image: whether they are in order, and where an id stands among them.
 #![tactic(auto)]
 
-ghost use Rattle.std.specs.Prelude.{◌≡◌, ◌+◌, ◌-◌, ◌*◌, ◌<◌, ◌≤◌, true, false, not, ◌||◌, ltb, length, if◌then◌else◌, ◌==◌, int_le, int_lt, nat_le, nat_lt};
+ghost use Rattle.std.specs.Prelude.{◌≡◌, ◌+◌, ◌-◌, ◌*◌, ◌<◌, ◌≤◌, true, false, not};
+ghost use Rattle.std.specs.Prelude.{◌||◌, ltb, length, if◌then◌else◌, ◌==◌, int_le, int_lt, nat_le, nat_lt};
 ghost use Rattle.words.specs.Words.{table, in_order};
 ghost use Rattle.image.specs.Bytes.{u32_at};
 ghost use Rattle.keys.specs.Keys.{key_at, rank_of, Sorted, Parts, place_of, found_of, sign, biased, stands};

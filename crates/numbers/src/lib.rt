@@ -1,4 +1,6 @@
 // The numbers of document 01 and of the Rust, by their names there.
+#![tactic(auto)]
+
 pub mod categories;
 pub mod groups;
 pub mod limits;

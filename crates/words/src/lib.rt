@@ -1,4 +1,6 @@
 // The vocabulary of the definitions, with its laws, and the small tests that the code is written in.
+#![tactic(auto)]
+
 ghost use Rattle.std.specs.Prelude.{◌≡◌, ◌&&◌, ◌||◌, cond, ◌≤◌};
 ghost use Rattle.words.specs.Words.{same};
 
