@@ -35,9 +35,9 @@ returns-then-limit-walk c =
     let small : a.res ≤ result_count a.fit.now + 1 = omega (arith, c.result_count.ensures, c.if-result_count-res.false) in
     let below : a.res < result_count a.fit.now + 2 = omega (arith, c.result_count.ensures, c.if-result_count-res.false) in
     let w = c.wanted_skills-walk in
-    let held : w.result.len ≤ Sizes.most_wanted = omega (arith, c.if-walk-gt-MOST_WANTED.false) in
-    let few = over-few a.catalogue.now a.fit.now a.res w.result w.ensures below held in
-    let over = over-page a.catalogue.now a.fit.now a.res w.result w.ensures below (limited 0 a.skills main) held (omega (arith, c.if-limit-walk.true)) in
+    let most : w.result.len ≤ Sizes.most_wanted = omega (arith, c.if-walk-gt-MOST_WANTED.false) in
+    let few = over-few a.catalogue.now a.fit.now a.res w.result w.ensures below most in
+    let over = over-page a.catalogue.now a.fit.now a.res w.result w.ensures below (limited 0 a.skills main) most (omega (arith, c.if-limit-walk.true)) in
     gave_same
     (sym
     (answer_false Refusals.no_result _ _ (has_result a.fit.now a.res small)
