@@ -21,9 +21,9 @@ pub returns-then-levels-at : goal.returns-then-levels-at
 returns-then-levels-at c =
     let a = c.args in
     let q = placed a.id c.ranges.id c.place-at.ensures in
-    let known = c.if-at-len.true in
+    let near = c.if-at-len.true in
     subst (λ (l : List ℕ). Noted a.ids.now a.levels.now a.len a.id a.level a.ids.now l a.len) (sym c.raise.ensures)
-    (noted-raised q c.requires.1 c.requires.2 c.requires.0 (omega (arith, known)) (omega (arith, c.if-levels-at.true)))
+    (noted-raised q c.requires.1 c.requires.2 c.requires.0 (omega (arith, near)) (omega (arith, c.if-levels-at.true)))
 
 pub returns-then-at-len : goal.returns-then-at-len
 returns-then-at-len c =
@@ -40,11 +40,11 @@ pub returns-then-len-lt-MOST_WANTED : goal.returns-then-len-lt-MOST_WANTED
 returns-then-len-lt-MOST_WANTED c =
     let a = c.args in
     let q = placed a.id c.ranges.id c.place-at.ensures in
-    let far = c.if-at-len.false in
+    let behind = c.if-at-len.false in
     let bits = ap (λ (z : ℤ). set a.ids.now a.len z) (to_z-of_z w32 a.id c.ranges.id) in
     subst₂ (λ (i : List ℤ) (l : List ℕ). Noted a.ids.now a.levels.now a.len a.id a.level i l (a.len + 1))
     (sym (c.add.ensures.0 ∙ bits)) (sym c.add.ensures.1)
-    (noted-new q c.requires.1 c.requires.2 (omega (arith, c.if-len-lt-MOST_WANTED.true)) far)
+    (noted-new q c.requires.1 c.requires.2 (omega (arith, c.if-len-lt-MOST_WANTED.true)) behind)
 
 pub returns : goal.returns
 returns c =
