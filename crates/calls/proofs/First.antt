@@ -129,13 +129,19 @@ pub numbered-inputs : (t : Terms) (catalogue fit : List ℕ) → Numbered 13 (in
 unfolding catalogue_refusals fit_refusals profile_refusals
 numbered-inputs t catalogue fit = omega arith
 
+-- what the profile adds stands behind what a page's call brings
+inputs_are : (t : Terms) (catalogue fit : List ℕ) → input_refusals t catalogue fit ≡ page_refusals t catalogue fit ++ profile_refusals t.profile
+inputs_are t catalogue fit = refl
+
 module _ (t : Terms) (catalogue fit : List ℕ) where
   pub page_first : 0 < first_of (page_refusals t catalogue fit) → first_of (page_refusals t catalogue fit) ≡ first_of (input_refusals t catalogue fit)
   page_first h = sym (first-kept (page_refusals t catalogue fit) (profile_refusals t.profile) h)
 
   pub profile-first : first_of (page_refusals t catalogue fit) ≡ 0 → profile_refusal t.profile ≡ first_of (input_refusals t catalogue fit)
   unfolding profile_refusal
-  profile-first e = sym (first_past 13 (page_refusals t catalogue fit) (profile_refusals t.profile) (numbered-page t catalogue fit) e)
+  profile-first e =
+      sym (ap first_of (inputs_are t catalogue fit)
+      ∙ first_past 13 (page_refusals t catalogue fit) (profile_refusals t.profile) (numbered-page t catalogue fit) e)
 
   pub inputs_sound : first_of (input_refusals t catalogue fit) ≡ 0 → Catalogue.Sound catalogue × Fit.Sound fit × Profile.Sound t.profile
   inputs_sound e = go (first_of (page_refusals t catalogue fit)) refl
