@@ -3,7 +3,7 @@ use Prim.Native.Nat.{ℕ, ◌+◌, ◌*◌, ◌<◌}
 use native.Mathlib.Omega.{arith}
 use mathlib.Core.Path.{◌≡◌, ap, ◌∙◌}
 use mathlib.Core.List.{List}
-use mathlib.Core.Option.{Option, none, some}
+use Rattle.std.specs.Prelude.{Option, None, Some}
 use lib.Dec.{eqb}
 use lib.IntN.{pos}
 use borrow.Author.Tests.{ne_eqb}
@@ -18,17 +18,17 @@ use Rattle.catalogue.proofs.Reading.{signed_small, number_small}
 
 module _ (b : List ℕ) where
   pub effect-search : (e : Id)
-      → effect_mark (catalogue_of b) e ≡ given (find (λ j. same (effect_at b j).id e) (from 0 (effect_count b))) none (λ j. some (effect_at b j).mark)
+      → effect_mark (catalogue_of b) e ≡ given (find (λ j. same (effect_at b j).id e) (from 0 (effect_count b))) None (λ j. Some (effect_at b j).mark)
   unfolding effect_mark catalogue_of
   effect-search e = find-made (λ x. same x.id e) (λ x. x.mark) (effect_count b) (effect_at b)
 
-  pub type-search : (t : Id) → given (type_of (catalogue_of b) t) none (λ x. some (info_of_type x)) ≡ given
-      (find (λ j. same (type_at b j).id t) (from 0 (type_count b))) none (λ j. some (info_of_type (type_at b j)))
+  pub type-search : (t : Id) → given (type_of (catalogue_of b) t) None (λ x. Some (info_of_type x)) ≡ given
+      (find (λ j. same (type_at b j).id t) (from 0 (type_count b))) None (λ j. Some (info_of_type (type_at b j)))
   unfolding type_of catalogue_of
   type-search t = find-made (λ x. same x.id t) info_of_type (type_count b) (type_at b)
 
   name_table : (n : ℕ)
-      → name_id (catalogue_of b).names n ≡ given (find (λ j. eqb (name_at b j).number n) (from 0 (name_count b))) none (λ j. some (name_at b j).id)
+      → name_id (catalogue_of b).names n ≡ given (find (λ j. eqb (name_at b j).number n) (from 0 (name_count b))) None (λ j. Some (name_at b j).id)
   unfolding name_id catalogue_of
   name_table n = find-made (λ x. eqb x.number n) (λ x. x.id) (name_count b) (name_at b)
 
@@ -39,11 +39,11 @@ module _ (b : List ℕ) where
     name_same n j h = rw (signed_small (name_at b j).number (omega (arith, number_small b s j h)))
 
     pub name_search : (n : ℕ) → name_id (catalogue_of b).names n ≡ given
-        (find (λ j. same (i32_at b (names_at b + 4 * j)) (pos n)) (from 0 (name_count b))) none (λ j. some (name_at b j).id)
-    name_search n = name_table n ∙ ap (λ (o : Option ℕ). given o none (λ j. some (name_at b j).id)) (find-alike _ _ (name_count b) (name_same n))
+        (find (λ j. same (i32_at b (names_at b + 4 * j)) (pos n)) (from 0 (name_count b))) None (λ j. Some (name_at b j).id)
+    name_search n = name_table n ∙ ap (λ (o : Option ℕ). given o None (λ j. Some (name_at b j).id)) (find-alike _ _ (name_count b) (name_same n))
 
-    pub name_none : (n : ℕ) → 87 < n → name_id (catalogue_of b).names n ≡ none
+    pub name_none : (n : ℕ) → 87 < n → name_id (catalogue_of b).names n ≡ None
     unfolding given
     name_none n h =
-        name_table n ∙ ap (λ (o : Option ℕ). given o none (λ j. some (name_at b j).id))
+        name_table n ∙ ap (λ (o : Option ℕ). given o None (λ j. Some (name_at b j).id))
         (find_none _ (name_count b) (λ j. j) (λ j l. ne_eqb (name_at b j).number n (λ e. omega (arith, e, h, number_small b s j l))))

@@ -4,7 +4,7 @@ use native.Mathlib.Omega.{arith}
 use mathlib.Core.Path.{◌≡◌, refl, sym, ap, ◌∙◌}
 use mathlib.Core.Bool.{Bool, true, false, and-false}
 use mathlib.Core.List.{List, [], ◌∷◌, ◌++◌, foldl, foldl-append, append-nil}
-use mathlib.Core.Option.{Option, none, some}
+use Rattle.std.specs.Prelude.{Option, None, Some}
 use lib.ListN.{take, drop}
 use lib.Dec.{leb}
 use lib.IntN.{ℤ}
@@ -30,7 +30,7 @@ module _ (low high : ℕ) (found : Option ℕ) (m : ℕ) where
   pub marked-high : high < m → found ≡ marked low high found m
   marked-high h = rw (lt-leb m high h, and-false (leb low m))
 
-  pub marked-in : low ≤ m → m ≤ high → some (m - 1) ≡ marked low high found m
+  pub marked-in : low ≤ m → m ≤ high → Some (m - 1) ≡ marked low high found m
   marked-in g h = rw (le-leb low m g, le-leb m high h)
 
 -- ---- the keys of a block that are an id, from the first that is not under it on
@@ -68,12 +68,12 @@ module _ (b : List ℕ) (t : Id) where
   module _ (low high : ℕ) where
     -- the last mark from low to high of the first i links
     abbrev pub last_to : ℕ → Option ℕ
-    last_to i = foldl (marked low high) none (marks_to i)
+    last_to i = foldl (marked low high) None (marks_to i)
 
-    pub last_none : (i : ℕ) → ((k : ℕ) → k < i → same (link_at b k).type t ≡ false) → none ≡ last_to i
+    pub last_none : (i : ℕ) → ((k : ℕ) → k < i → same (link_at b k).type t ≡ false) → None ≡ last_to i
     unfolding each
     last_none i e =
-        sym (ap (λ (l : List Link). foldl (marked low high) none (each l (link_marks (catalogue_of b))))
+        sym (ap (λ (l : List Link). foldl (marked low high) None (each l (link_marks (catalogue_of b))))
         (only-skip (link_at b) (λ x. same x.type t) 0 i (omega arith) (λ k a h. e k h) ∙ only_none (link_at b) (λ x. same x.type t)))
 
     pub last_more : (i : ℕ) → same (link_at b i).type t ≡ true → last_to (i + 1) ≡ foldl (marked low high) (last_to i) (link_marks (catalogue_of b) (link_at b i))
@@ -82,26 +82,26 @@ module _ (b : List ℕ) (t : Id) where
         let f = link_at b in
         let g = link_marks (catalogue_of b) in
         let p : Link → Bool = λ x. same x.type t in
-        ap (foldl (marked low high) none)
+        ap (foldl (marked low high) None)
         (ap (λ (l : List Link). each l g) (only-more f p i e) ∙ each_append g (only p (table i f)) (f i ∷ []) ∙ ap (λ (l : List ℕ). marks_to i ++ l)
         (append-nil (g (f i))))
-        ∙ foldl-append (marked low high) none (marks_to i) (g (f i))
+        ∙ foldl-append (marked low high) None (marks_to i) (g (f i))
 
     pub last-all : (i : ℕ) → i ≤ link_count b → ((k : ℕ) → i ≤ k → k < link_count b → same (link_at b k).type t ≡ false)
         → last_to i ≡ last_mark (catalogue_of b) low high t
     unfolding last_mark
     last-all i h e =
-        ap (λ (l : List Link). foldl (marked low high) none (each l (link_marks (catalogue_of b))))
+        ap (λ (l : List Link). foldl (marked low high) None (each l (link_marks (catalogue_of b))))
         (sym (only-skip (link_at b) (λ x. same x.type t) i (link_count b) h e))
-        ∙ ap (foldl (marked low high) none) (sym marks-all)
+        ∙ ap (foldl (marked low high) None) (sym marks-all)
 
 -- ---- the base values of a type
 module _ (b : List ℕ) (i last : ℕ) (a : Id) where
-  pub span_none : last ≤ i → none ≡ span_value b i last a
+  pub span_none : last ≤ i → None ≡ span_value b i last a
   unfolding span_value given
   span_none h = rw (find-done (base_at b) (λ x. same x.attribute a) i last h)
 
-  pub span_here : i < last → same (base_at b i).attribute a ≡ true → span_value b i last a ≡ some (base_at b i).value
+  pub span_here : i < last → same (base_at b i).attribute a ≡ true → span_value b i last a ≡ Some (base_at b i).value
   unfolding span_value given
   span_here h e = rw (find-turn (base_at b) (λ x. same x.attribute a) i last h, e)
 
@@ -112,6 +112,6 @@ module _ (b : List ℕ) (i last : ℕ) (a : Id) where
 pub span_value_lem : (b : List ℕ) (t a : Id) (s : Span) → SpanOf b t s → span_value b s.from s.to a ≡ base_value (catalogue_of b) t a
 unfolding span_value base_value catalogue_of
 span_value_lem b t a s run =
-    ap (λ (o : Option Base). given o none (λ x. some x.value))
+    ap (λ (o : Option Base). given o None (λ x. Some x.value))
     (sym (find-run (base_at b) (λ x. same x.type t) (λ x. same x.attribute a) s.from s.to (base_count b) run.ordered run.within
     run.before run.inside run.after))

@@ -1,7 +1,7 @@
 -- Reading a catalogue, as `Context` and `slots_of` in validate/mod.rs do: each lookup takes the first match in stored order.
 use Rattle.std.specs.Prelude.{ℕ, ◌-◌, Bool, true, false, ◌&&◌, cond, pos, eqb, leb, Float}
 use mathlib.Core.List.{List, [], ◌∷◌, foldl}
-use Rattle.std.proofs.Math.Option.{Option, none, some}
+use Rattle.std.specs.Prelude.{Option, None, Some}
 use Rattle.words.specs.Words.{◌>>=◌, each, only, find, given, same}
 use Rattle.numbers.specs.Marks as Marks
 use Rattle.floats.specs.Floats.{zero_f}
@@ -9,7 +9,7 @@ use Rattle.catalogue.specs.Catalogue.{Id, Name, TypeData, Catalogue}
 
 -- `attribute_id`: the id of a name
 unfoldable pub name_id : List Name → ℕ → Option Id
-name_id names n = given (find (λ x. eqb x.number n) names) none (λ x. some x.id)
+name_id names n = given (find (λ x. eqb x.number n) names) None (λ x. Some x.id)
 
 module _ (c : Catalogue) where
   -- `get_type`
@@ -33,7 +33,7 @@ module _ (c : Catalogue) where
 
   -- the mark of an effect, where it is there
   unfoldable pub effect_mark : Id → Option ℕ
-  effect_mark e = given (find (λ x. same x.id e) c.effects) none (λ x. some x.mark)
+  effect_mark e = given (find (λ x. same x.id e) c.effects) None (λ x. Some x.mark)
 
   -- the marks of a type's effects, in the order of its links; a link to an effect that is not there is skipped
   unfoldable pub marks : Id → List ℕ
@@ -43,7 +43,7 @@ module _ (c : Catalogue) where
 
   -- the last mark from low to high wins; mark m stands for slot m - 1
   unfoldable pub last_mark : ℕ → ℕ → Id → Option ℕ
-  last_mark low high t = foldl (λ found m. cond (leb low m && leb m high) (some (m - 1)) found) none (marks t)
+  last_mark low high t = foldl (λ found m. cond (leb low m && leb m high) (Some (m - 1)) found) None (marks t)
 
   -- `slots_of`: the rack and the hardpoint that a type asks for
   unfoldable pub rack_of : Id → Option ℕ
@@ -54,4 +54,4 @@ module _ (c : Catalogue) where
 
   -- `base_value`: what an attribute starts at on a type
   unfoldable pub base_value : Id → Id → Option Float
-  base_value t a = given (find (λ x. same x.type t && same x.attribute a) c.bases) none (λ x. some x.value)
+  base_value t a = given (find (λ x. same x.type t && same x.attribute a) c.bases) None (λ x. Some x.value)

@@ -1,6 +1,6 @@
 -- Document 01, "Records": links and bases never descend, so that those of one type stand together. What a walk over them does.
 use Rattle.std.specs.Prelude.{ℕ, ◌-◌, ◌≤◌, ◌<◌, ◌≡◌, true, false, cond, ◌&&◌, List, [], ◌∷◌, leb, ℤ, Float}
-use Rattle.std.proofs.Math.Option.{Option, none, some}
+use Rattle.std.specs.Prelude.{Option, None, Some}
 use Rattle.words.specs.Words.{◌>>=◌, table_from, find, given, same}
 use Rattle.numbers.specs.Marks as Marks
 use Rattle.catalogue.specs.Catalogue.{Id, Link, Catalogue, base_at, base_count}
@@ -28,11 +28,11 @@ SpanOf b t s = Run (λ k. (base_at b k).type) (base_count b) t s.from s.to
 
 -- the value of an attribute among the bases from one place to another: the first match
 unfoldable pub span_value : List ℕ → ℕ → ℕ → Id → Option Float
-span_value b first last a = given (find (λ x. same x.attribute a) (table_from first (last - first) (base_at b))) none (λ x. some x.value)
+span_value b first last a = given (find (λ x. same x.attribute a) (table_from first (last - first) (base_at b))) None (λ x. Some x.value)
 
 -- one more mark: one from low to high wins over those before it
 abbrev pub marked : ℕ → ℕ → Option ℕ → ℕ → Option ℕ
-marked low high found m = cond (leb low m && leb m high) (some (m - 1)) found
+marked low high found m = cond (leb low m && leb m high) (Some (m - 1)) found
 
 abbrev pub in_rack : Option ℕ → ℕ → Option ℕ
 in_rack = marked Marks.hi_power Marks.service_slot

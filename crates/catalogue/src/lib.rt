@@ -3,22 +3,19 @@
 
 ghost use Rattle.std.specs.Prelude.{◌≡◌, cond, ◌+◌, ◌*◌, ◌<◌, ◌≤◌, length, take, drop, eqb};
 ghost use mathlib.Core.List.{foldl};
-ghost use Rattle.std.proofs.Math.Option.{none, some};
+ghost use Rattle.std.specs.Prelude.{None, Some};
 ghost use Rattle.words.specs.Words.{from, find, given, same};
 ghost use Rattle.image.specs.Bytes.{u32_at, i32_at};
-ghost use Rattle.keys.specs.Keys.{Sorted, Parts, found_of};
+ghost use Rattle.keys.specs.Keys.{Sorted, Parts};
 ghost use Rattle.floats.specs.Floats.{zero_f, f32_at};
-ghost use Rattle.floats.specs.Values.{value_of};
 ghost use Rattle.catalogue.specs.Catalogue.{catalogue_of, size_of, name_count, effect_count, type_count, link_count, base_count};
 ghost use Rattle.catalogue.specs.Catalogue.{names_at, effects_at, types_at, links_at};
 ghost use Rattle.catalogue.specs.Catalogue.{bases_at, base_values_at, effect_at, type_at, link_at};
 ghost use Rattle.catalogue.specs.Lookups.{name_id, type_of, effect_mark, rack_of, hardpoint_of};
 ghost use Rattle.catalogue.specs.Sound.{Sound};
-ghost use Rattle.catalogue.specs.Answers.{id_of, mark_of, info_of, info_of_type, slot_of};
+ghost use Rattle.catalogue.specs.Answers.{info_of_type};
 ghost use Rattle.catalogue.specs.Walks.{Ends, SpanOf, span_value, in_rack, on_hardpoint, link_marks};
 
-use floats::Value;
-use keys::Found;
 use numbers::{marks, names};
 
 // Refusals 1 to 3, or none.
@@ -30,20 +27,6 @@ pub enum Verdict {
     BadField,
 }
 
-// The id of an attribute, where its name has one.
-#[derive(Clone, Copy)]
-pub enum AttributeId {
-    Known(i32),
-    Unknown,
-}
-
-// The mark of an effect, where the effect is there.
-#[derive(Clone, Copy)]
-pub enum Mark {
-    Known(u8),
-    Unknown,
-}
-
 // What a type is. Its volume is 0 where none is given.
 #[derive(Clone, Copy)]
 pub struct TypeInfo {
@@ -52,33 +35,20 @@ pub struct TypeInfo {
     pub volume: f64,
 }
 
-#[derive(Clone, Copy)]
-pub enum TypeAnswer {
-    Known(TypeInfo),
-    Unknown,
-}
-
 // The answers of four types.
 #[derive(Clone, Copy)]
 pub struct FourTypes {
-    pub a: TypeAnswer,
-    pub b: TypeAnswer,
-    pub c: TypeAnswer,
-    pub d: TypeAnswer,
-}
-
-// A rack or a hardpoint by its number.
-#[derive(Clone, Copy)]
-pub enum SlotAnswer {
-    Slot(u8),
-    Nothing,
+    pub a: Option<TypeInfo>,
+    pub b: Option<TypeInfo>,
+    pub c: Option<TypeInfo>,
+    pub d: Option<TypeInfo>,
 }
 
 // What a type asks for.
 #[derive(Clone, Copy)]
 pub struct SlotMarks {
-    pub rack: SlotAnswer,
-    pub hardpoint: SlotAnswer,
+    pub rack: Option<u8>,
+    pub hardpoint: Option<u8>,
 }
 
 // The bases of a type, by their places.
@@ -210,27 +180,27 @@ fn seek(catalogue: &[u8], b: Block, i: i32, j: i32, k: i32, l: i32, hints: &mut 
 }
 
 // Where an id stands among the keys of a block, given how many of them are under it.
-fn found_at(catalogue: &[u8], b: Block, id: i32, at: usize) -> Found
+fn found_at(catalogue: &[u8], b: Block, id: i32, at: usize) -> Option<usize>
     requires n_in_bounds { (b.at + 4 * b.n ≤ length catalogue.now) × Sorted (take (4 * b.n) (drop b.at catalogue.now)) b.n }
     requires parts { Parts (take (4 * b.n) (drop b.at catalogue.now)) b.n id at }
-    ensures { found_of result ≡ find (λ i. same (i32_at catalogue.now (b.at + 4 * i)) id) (from 0 b.n) }
+    ensures { result ≡ find (λ i. same (i32_at catalogue.now (b.at + 4 * i)) id) (from 0 b.n) }
 {
     keys::place_at(keys_of(catalogue, b), b.n, id, at)
 }
 
 // Where an id stands among the keys of a block.
-fn find_key(catalogue: &[u8], b: Block, id: i32, hints: &mut [u32]) -> Found
+fn find_key(catalogue: &[u8], b: Block, id: i32, hints: &mut [u32]) -> Option<usize>
     requires { (b.at + 4 * b.n ≤ length catalogue.now) × Sorted (take (4 * b.n) (drop b.at catalogue.now)) b.n }
-    ensures { found_of result ≡ find (λ i. same (i32_at catalogue.now (b.at + 4 * i)) id) (from 0 b.n) }
+    ensures { result ≡ find (λ i. same (i32_at catalogue.now (b.at + 4 * i)) id) (from 0 b.n) }
 {
     let at = first_key(catalogue, b, id, hints);
     found_at(catalogue, b, id, at)
 }
 
 // The same, where a guess is at hand.
-fn find_near(catalogue: &[u8], b: Block, id: i32, guess: usize) -> Found
+fn find_near(catalogue: &[u8], b: Block, id: i32, guess: usize) -> Option<usize>
     requires { (b.at + 4 * b.n ≤ length catalogue.now) × Sorted (take (4 * b.n) (drop b.at catalogue.now)) b.n }
-    ensures { found_of result ≡ find (λ i. same (i32_at catalogue.now (b.at + 4 * i)) id) (from 0 b.n) }
+    ensures { result ≡ find (λ i. same (i32_at catalogue.now (b.at + 4 * i)) id) (from 0 b.n) }
 {
     let at = keys::first_near(keys_of(catalogue, b), b.n, id, guess);
     found_at(catalogue, b, id, at)
@@ -246,18 +216,18 @@ fn id_at(catalogue: &[u8], b: Block, i: usize) -> i32
 
 // The attribute of a name. Name numbers are at most 87, so that the order of the signed numbers is theirs; where all are there, each
 // stands at its own number.
-pub fn attribute_id(catalogue: &[u8], name: u32) -> AttributeId
+pub fn attribute_id(catalogue: &[u8], name: u32) -> Option<i32>
     requires { Sound catalogue.now }
-    ensures { id_of result ≡ name_id (catalogue_of catalogue.now).names name }
+    ensures { result ≡ name_id (catalogue_of catalogue.now).names name }
 {
     if names::REQUIRED_SKILL_6_LEVEL < name {
-        return AttributeId::Unknown;
+        return None;
     }
     let b = names(catalogue);
     let found = find_near(catalogue, b, name as i32, name as usize);
     match found {
-        Found::At(i) => AttributeId::Known(id_at(catalogue, b, i)),
-        Found::Nothing => AttributeId::Unknown,
+        Some(i) => Some(id_at(catalogue, b, i)),
+        None => None,
     }
 }
 
@@ -270,14 +240,14 @@ fn mark_at(catalogue: &[u8], i: usize) -> u8
 }
 
 // The mark of an effect.
-pub fn effect_mark(catalogue: &[u8], id: i32, hints: &mut [u32]) -> Mark
+pub fn effect_mark(catalogue: &[u8], id: i32, hints: &mut [u32]) -> Option<u8>
     requires { Sound catalogue.now }
-    ensures { mark_of result ≡ effect_mark (catalogue_of catalogue.now) id }
+    ensures { result ≡ effect_mark (catalogue_of catalogue.now) id }
 {
     let found = find_key(catalogue, effects(catalogue), id, hints);
     match found {
-        Found::At(i) => Mark::Known(mark_at(catalogue, i)),
-        Found::Nothing => Mark::Unknown,
+        Some(i) => Some(mark_at(catalogue, i)),
+        None => None,
     }
 }
 
@@ -314,15 +284,15 @@ pub fn seek_types(catalogue: &[u8], i: i32, j: i32, k: i32, l: i32, hints: &mut 
 }
 
 // What a type is, given how many types are under its id.
-fn type_found(catalogue: &[u8], id: i32, at: usize) -> TypeAnswer
+fn type_found(catalogue: &[u8], id: i32, at: usize) -> Option<TypeInfo>
     requires { let keys = take (4 * type_count catalogue.now) (drop (types_at catalogue.now) catalogue.now) in
         Sound catalogue.now × Parts keys (type_count catalogue.now) id at }
-    ensures { info_of result ≡ given (type_of (catalogue_of catalogue.now) id) none (λ x. some (info_of_type x)) }
+    ensures { result ≡ given (type_of (catalogue_of catalogue.now) id) None (λ x. Some (info_of_type x)) }
 {
     let found = found_at(catalogue, types(catalogue), id, at);
     match found {
-        Found::At(i) => TypeAnswer::Known(type_at(catalogue, i)),
-        Found::Nothing => TypeAnswer::Unknown,
+        Some(i) => Some(type_at(catalogue, i)),
+        None => None,
     }
 }
 
@@ -330,10 +300,10 @@ fn type_found(catalogue: &[u8], id: i32, at: usize) -> TypeAnswer
 pub fn four_types(catalogue: &[u8], i: i32, j: i32, k: i32, l: i32) -> FourTypes
     requires { Sound catalogue.now }
     ensures { let c = catalogue_of catalogue.now in
-        (info_of result.a ≡ given (type_of c i) none (λ x. some (info_of_type x)))
-        × (info_of result.b ≡ given (type_of c j) none (λ x. some (info_of_type x)))
-        × (info_of result.c ≡ given (type_of c k) none (λ x. some (info_of_type x)))
-        × (info_of result.d ≡ given (type_of c l) none (λ x. some (info_of_type x))) }
+        (result.a ≡ given (type_of c i) None (λ x. Some (info_of_type x)))
+        × (result.b ≡ given (type_of c j) None (λ x. Some (info_of_type x)))
+        × (result.c ≡ given (type_of c k) None (λ x. Some (info_of_type x)))
+        × (result.d ≡ given (type_of c l) None (λ x. Some (info_of_type x))) }
 {
     let b = types(catalogue);
     let found = keys::four_from(keys_of(catalogue, b), b.n, i, j, k, l);
@@ -346,9 +316,9 @@ pub fn four_types(catalogue: &[u8], i: i32, j: i32, k: i32, l: i32) -> FourTypes
 }
 
 // `get_type`: what a type is. `hints` are any numbers: where ids stood that were looked for before with the same catalogue.
-pub fn type_of(catalogue: &[u8], id: i32, hints: &mut [u32]) -> TypeAnswer
+pub fn type_of(catalogue: &[u8], id: i32, hints: &mut [u32]) -> Option<TypeInfo>
     requires { Sound catalogue.now }
-    ensures { info_of result ≡ given (type_of (catalogue_of catalogue.now) id) none (λ x. some (info_of_type x)) }
+    ensures { result ≡ given (type_of (catalogue_of catalogue.now) id) None (λ x. Some (info_of_type x)) }
 {
     let at = first_key(catalogue, types(catalogue), id, hints);
     type_found(catalogue, id, at)
@@ -366,8 +336,8 @@ fn is_id(catalogue: &[u8], at: usize, id: i32) -> bool
 
 // A mark of a rack is 1 to 6, one of a hardpoint 7 or 8; mark m stands for slot m - 1.
 fn with_mark(found: SlotMarks, mark: u8) -> SlotMarks
-    ensures rack { slot_of result.rack ≡ in_rack (slot_of found.rack) mark }
-    ensures hardpoint { slot_of result.hardpoint ≡ on_hardpoint (slot_of found.hardpoint) mark }
+    ensures rack { result.rack ≡ in_rack found.rack mark }
+    ensures hardpoint { result.hardpoint ≡ on_hardpoint found.hardpoint mark }
 {
     if mark < marks::HI_POWER {
         return found;
@@ -375,7 +345,7 @@ fn with_mark(found: SlotMarks, mark: u8) -> SlotMarks
     if mark <= marks::SERVICE_SLOT {
         let hardpoint = found.hardpoint;
         return SlotMarks {
-            rack: SlotAnswer::Slot(mark - 1),
+            rack: Some(mark - 1),
             hardpoint,
         };
     }
@@ -383,7 +353,7 @@ fn with_mark(found: SlotMarks, mark: u8) -> SlotMarks
         let rack = found.rack;
         return SlotMarks {
             rack,
-            hardpoint: SlotAnswer::Slot(mark - 1),
+            hardpoint: Some(mark - 1),
         };
     }
     found
@@ -392,15 +362,15 @@ fn with_mark(found: SlotMarks, mark: u8) -> SlotMarks
 fn with_link(catalogue: &[u8], found: SlotMarks, i: usize, hints: &mut [u32]) -> SlotMarks
     requires { Sound catalogue.now × (i < link_count catalogue.now) }
     ensures rack { let ms = link_marks (catalogue_of catalogue.now) (link_at catalogue.now i) in
-        slot_of result.rack ≡ foldl in_rack (slot_of found.rack) ms }
+        result.rack ≡ foldl in_rack found.rack ms }
     ensures hardpoint { let ms = link_marks (catalogue_of catalogue.now) (link_at catalogue.now i) in
-        slot_of result.hardpoint ≡ foldl on_hardpoint (slot_of found.hardpoint) ms }
+        result.hardpoint ≡ foldl on_hardpoint found.hardpoint ms }
 {
     let effect = id_at(catalogue, links(catalogue), i);
     let mark = effect_mark(catalogue, effect, hints);
     match mark {
-        Mark::Known(m) => with_mark(found, m),
-        Mark::Unknown => found,
+        Some(m) => with_mark(found, m),
+        None => found,
     }
 }
 
@@ -414,15 +384,15 @@ pub fn seek_links(catalogue: &[u8], i: i32, j: i32, k: i32, l: i32, hints: &mut 
 // The slot effects EVE marks an item with, in the order of its links. `hints` as in `type_of`.
 pub fn slots_of(catalogue: &[u8], id: i32, hints: &mut [u32]) -> SlotMarks
     requires { Sound catalogue.now }
-    ensures rack { slot_of result.rack ≡ rack_of (catalogue_of catalogue.now) id }
-    ensures hardpoint { slot_of result.hardpoint ≡ hardpoint_of (catalogue_of catalogue.now) id }
+    ensures rack { result.rack ≡ rack_of (catalogue_of catalogue.now) id }
+    ensures hardpoint { result.hardpoint ≡ hardpoint_of (catalogue_of catalogue.now) id }
 {
     let b = links(catalogue);
     let at = b.at;
     let n = b.n;
     let mut found = SlotMarks {
-        rack: SlotAnswer::Nothing,
-        hardpoint: SlotAnswer::Nothing,
+        rack: None,
+        hardpoint: None,
     };
     let mut i = first_key(catalogue, b, id, hints);
     while i < n {
@@ -467,10 +437,10 @@ pub fn bases_of(catalogue: &[u8], id: i32) -> Span
 }
 
 // What an attribute starts at on the type of a span.
-pub fn base_value(catalogue: &[u8], span: Span, attribute: i32) -> Value
+pub fn base_value(catalogue: &[u8], span: Span, attribute: i32) -> Option<f64>
     requires catalogue_len { length catalogue.now ≡ size_of catalogue.now }
     requires from_le_to { (span.from ≤ span.to) × (span.to ≤ base_count catalogue.now) }
-    ensures { value_of result ≡ span_value catalogue.now span.from span.to attribute }
+    ensures { result ≡ span_value catalogue.now span.from span.to attribute }
 {
     let b = bases(catalogue);
     let at = b.at + 4 * b.n;
@@ -478,9 +448,9 @@ pub fn base_value(catalogue: &[u8], span: Span, attribute: i32) -> Value
     let mut i = span.from;
     while i < to {
         if is_id(catalogue, at + 12 * i, attribute) {
-            return Value::Given(floats::f64_at(catalogue, at + 12 * i + 4));
+            return Some(floats::f64_at(catalogue, at + 12 * i + 4));
         }
         i += 1;
     }
-    Value::Missing
+    None
 }

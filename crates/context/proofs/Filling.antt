@@ -5,7 +5,7 @@ use native.Mathlib.Omega.{arith}
 use mathlib.Core.Path.{◌≡◌, refl, sym, ap, subst, ◌∙◌}
 use mathlib.Core.List.{List, [], ◌∷◌}
 use mathlib.Core.Logic.{⊎_elim}
-use mathlib.Core.Option.{none, some}
+use Rattle.std.specs.Prelude.{None, Some}
 use lib.ListN.{length, get_or, set, length-set}
 use lib.Seq.{get_or-set_same, get_or-set_other}
 use Rattle.catalogue.specs.Catalogue.{Id, Catalogue, catalogue_of}
@@ -26,10 +26,10 @@ fill-only l i at (w ∷ ws) j h =
 -- place i of section s
 fill_here : (l : List ℕ) (i at : ℕ) (ws : List ℕ) (s j : ℕ) → j ≡ at + place_count * s + i → s < length ws → j < length l
     → get_or (fill l i at ws) j 0 ≡ get_or ws s 0
-fill_here l i at [] s j e h q = absurd (none s h)
+fill_here l i at [] s j e h q = absurd (None s h)
   where
-    none : (s : ℕ) → s < 0 → ⊥
-    none s h = omega arith
+    None : (s : ℕ) → s < 0 → ⊥
+    None s h = omega arith
 fill_here l i at (w ∷ ws) zero j e h q =
     let k : j ≡ at + i = omega (arith, e) in
     fill-only (set l (at + i) w) i (at + place_count) ws j (λ s b x. omega (arith, e, x))
@@ -48,12 +48,12 @@ module _ (l : List ℕ) (i : ℕ) (small : i < place_count) (size : length l ≡
     here : (s : ℕ) → s < 5 → get_or (fill l i groups_at words) (groups_at + place_count * s + i) 0 ≡ get_or words s 0
     here s b = fill_here l i groups_at words s (groups_at + place_count * s + i) refl b (omega (arith, size, b, small))
 
-    pub type-here : type_in (fill l i groups_at words) i ≡ some (info_of_words g c lo hi)
+    pub type-here : type_in (fill l i groups_at words) i ≡ Some (info_of_words g c lo hi)
     unfolding type_in
     type-here = rw (here 0 (omega arith), here 1 (omega arith), here 2 (omega arith), here 3 (omega arith), here 4 (omega arith))
 
   -- that is not
-  pub type-missing : type_in (fill l i knowns_at (0 ∷ [])) i ≡ none
+  pub type-missing : type_in (fill l i knowns_at (0 ∷ [])) i ≡ None
   unfolding type_in
   type-missing = rw (fill_here l i knowns_at (0 ∷ []) 0 (knowns_at + i) (omega arith) (omega arith) (omega (arith, size, small)))
 
@@ -80,10 +80,10 @@ module _ (old new : List ℕ) (i k : ℕ) (o : Only i groups_at 7 old new) (a : 
 
 -- ---- the pairs
 pub pairs-none : (catalogue fit facts : List ℕ) → Pairs catalogue fit 0 facts
-pairs-none catalogue fit facts k l = absurd (none k l)
+pairs-none catalogue fit facts k l = absurd (None k l)
   where
-    none : (k : ℕ) → k < 0 → ⊥
-    none k l = omega arith
+    None : (k : ℕ) → k < 0 → ⊥
+    None k l = omega arith
 
 pub pairs-more : (catalogue fit old new : List ℕ) (i : ℕ) → i < 256 → Only i groups_at 7 old new
     → Kept (catalogue_of catalogue) (pair_at catalogue fit i).type i new → Pairs catalogue fit i old → Pairs catalogue fit (i + 1) new

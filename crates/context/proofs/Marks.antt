@@ -4,7 +4,7 @@ use native.Mathlib.Omega.{arith}
 use mathlib.Core.Path.{◌≡◌, refl}
 use mathlib.Core.Bool.{Bool, true, false, ◌&&◌, cond}
 use mathlib.Core.List.{List, [], ◌∷◌, foldl}
-use mathlib.Core.Option.{Option, none, some}
+use Rattle.std.specs.Prelude.{Option, None, Some}
 use lib.Dec.{leb}
 use borrow.Author.Tests.{leb-true}
 use Rattle.catalogue.specs.Catalogue.{Id, Catalogue}
@@ -12,7 +12,7 @@ use Rattle.context.specs.Gathered.{Below}
 use Rattle.catalogue.specs.Lookups.{marks, last_mark, rack_of, hardpoint_of}
 
 module _ (low high : ℕ) (h : 0 < low) where
-  step : (b b' : Bool) (m : ℕ) (found : Option ℕ) → leb low m ≡ b → leb m high ≡ b' → Below high found → Below high (cond (b && b') (some (m - 1)) found)
+  step : (b b' : Bool) (m : ℕ) (found : Option ℕ) → leb low m ≡ b → leb m high ≡ b' → Below high found → Below high (cond (b && b') (Some (m - 1)) found)
   step true true m found p q f = go (leb-true low m p) (leb-true m high q)
     where
       go : low ≤ m → m ≤ high → m - 1 < high
@@ -20,17 +20,17 @@ module _ (low high : ℕ) (h : 0 < low) where
   step true false m found p q f = f
   step false b' m found p q f = f
 
-  last-below : (ms : List ℕ) (found : Option ℕ) → Below high found → Below high (foldl (λ found m. cond (leb low m && leb m high) (some (m - 1)) found) found ms)
+  last-below : (ms : List ℕ) (found : Option ℕ) → Below high found → Below high (foldl (λ found m. cond (leb low m && leb m high) (Some (m - 1)) found) found ms)
   last-below [] found f = f
   last-below (m ∷ ms) found f = last-below ms _ (step (leb low m) (leb m high) m found refl refl f)
 
   mark-below : (c : Catalogue) (t : Id) → Below high (last_mark c low high t)
   unfolding last_mark
-  mark-below c t = last-below (marks c t) none tt
+  mark-below c t = last-below (marks c t) None tt
 
 weaken : (o : Option ℕ) → Below 6 o → Below 8 o
-weaken none h = tt
-weaken (some s) h = omega arith
+weaken None h = tt
+weaken (Some s) h = omega arith
 
 pub rack-below : (c : Catalogue) (t : Id) → Below 8 (rack_of c t)
 unfolding rack_of

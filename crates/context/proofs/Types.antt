@@ -1,7 +1,7 @@
 -- What is read of a type lookup's answer by its cases is what is read of the catalogue by whether it has the type.
 use mathlib.Core.Path.{◌≡◌, refl, sym, ap, ◌∙◌}
 use mathlib.Core.Bool.{Bool, true, false}
-use mathlib.Core.Option.{Option, none, some}
+use Rattle.std.specs.Prelude.{Option, None, Some}
 use lib.IntN.{pos}
 use Rattle.words.specs.Words.{given}
 use Rattle.floats.specs.Floats.{zero_f}
@@ -13,18 +13,18 @@ use Rattle.context.specs.Gathered.{answer_of}
 
 module _ {A : Type 0} (missing : A) (read : TypeInfo → A) where
   -- of an answer by its cases
-  pub when-known : {o : Option TypeInfo} {info : TypeInfo} → o ≡ some info → read info ≡ given o missing read
+  pub when-known : {o : Option TypeInfo} {info : TypeInfo} → o ≡ Some info → read info ≡ given o missing read
   unfolding given
   when-known e = sym (ap (λ (o : Option TypeInfo). given o missing read) e)
 
-  pub when-missing : {o : Option TypeInfo} → o ≡ none → missing ≡ given o missing read
+  pub when-missing : {o : Option TypeInfo} → o ≡ None → missing ≡ given o missing read
   unfolding given
   when-missing e = sym (ap (λ (o : Option TypeInfo). given o missing read) e)
 
-  by-type : (o : Option TypeData) → given (given o none (λ x. some (info_of_type x))) missing read ≡ given o missing (λ x. read (info_of_type x))
+  by-type : (o : Option TypeData) → given (given o None (λ x. Some (info_of_type x))) missing read ≡ given o missing (λ x. read (info_of_type x))
   unfolding given
-  by-type none = refl
-  by-type (some x) = refl
+  by-type None = refl
+  by-type (Some x) = refl
 
   pub told : (c : Catalogue) (id : Id) {o : Option TypeInfo} → o ≡ answer_of c id
       → given o missing read ≡ given (type_of c id) missing (λ x. read (info_of_type x))
@@ -53,5 +53,5 @@ module _ (test : Id → Bool) (failed : test (pos 0) ≡ false) where
   pub passes : (o : Option TypeInfo) {category : Id} → given o (pos 0) (λ x. x.category) ≡ category
       → given o false (λ x. test x.category) ≡ test category
   unfolding given
-  passes none e = sym failed ∙ ap test e
-  passes (some x) e = ap test e
+  passes None e = sym failed ∙ ap test e
+  passes (Some x) e = ap test e

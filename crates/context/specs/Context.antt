@@ -1,6 +1,6 @@
 -- validate/mod.rs, `Context` and `Item`: a fit's items and results side by side, with what the catalogue says of each, gathered once.
 use Rattle.std.specs.Prelude.{ℕ, suc, Bool, not, ◌||◌, List, [], ◌∷◌, eqb, leb, Float}
-use Rattle.std.proofs.Math.Option.{Option}
+use Rattle.std.specs.Prelude.{Option}
 use Rattle.words.specs.Words.{same}
 use Rattle.numbers.specs.Slots as Slots
 use Rattle.numbers.specs.Categories as Categories

@@ -1,13 +1,13 @@
 -- `Context::new`: the pairs of two images, and what is gathered of them once per call.
 use Rattle.std.specs.Prelude.{ℕ, ◌+◌, ◌*◌, ◌^◌, ◌<◌, min, ◌≡◌, cond, List, [], ◌∷◌, eqb, ltb, get_or, set, Float}
-use Rattle.std.proofs.Math.Option.{Option, none, some}
+use Rattle.std.specs.Prelude.{Option, None, Some}
 use Rattle.std.specs.Float.{binary64}
 use Rattle.std.specs.Float.Ieee.{of_bits}
 use Rattle.words.specs.Words.{given}
 use Rattle.image.specs.Bytes.{signed32}
 use Rattle.catalogue.specs.Catalogue.{Id, Catalogue, catalogue_of}
 use Rattle.catalogue.specs.Lookups.{type_of, rack_of, hardpoint_of}
-use Rattle.catalogue.specs.Answers.{info_of_type, slot_of}
+use Rattle.catalogue.specs.Answers.{info_of_type}
 use Rattle.catalogue.specs.declared.TypeInfo.{TypeInfo}
 use Rattle.catalogue.specs.declared.SlotMarks.{SlotMarks}
 use Rattle.fit.specs.Fit.{item_count, result_count, item_at, result_of, fit_of}
@@ -33,7 +33,7 @@ context_of catalogue fit = context (catalogue_of catalogue) (fit_of fit).frame
 
 -- a slot in a word: 8 and above stand for none
 unfoldable pub slot_in : ℕ → Option ℕ
-slot_in code = cond (ltb code 8) (some code) none
+slot_in code = cond (ltb code 8) (Some code) None
 
 -- the f64 of which a word has the lower half of the bits, a word the upper
 abbrev pub of_halves : ℕ → ℕ → Float
@@ -41,7 +41,7 @@ of_halves low high = of_bits binary64 (low + 2 ^ 32 * high)
 
 -- what the type lookup answers, if the type is there
 abbrev pub answer_of : Catalogue → Id → Option TypeInfo
-answer_of c id = given (type_of c id) none (λ x. some (info_of_type x))
+answer_of c id = given (type_of c id) None (λ x. Some (info_of_type x))
 
 -- ---- the facts: all that a call gathers, in one array of words
 -- where each result's attributes begin, from place 0 on; then sections, each with a place for every pair and the last one for the ship
@@ -87,7 +87,7 @@ info_at facts i =
 
 -- the type at a place, if it is there: the other words say nothing of one that is not
 unfoldable pub type_in : List ℕ → ℕ → Option TypeInfo
-type_in facts i = cond (eqb (get_or facts (knowns_at + i) 0) 1) (some (info_at facts i)) none
+type_in facts i = cond (eqb (get_or facts (knowns_at + i) 0) 1) (Some (info_at facts i)) None
 
 -- what is kept at a place of the type of a pair: what the lookup answers of it, and the marks that stand by its id
 pub record Kept (c : Catalogue) (id : Id) (i : ℕ) (facts : List ℕ) : Type 0 where
@@ -132,11 +132,11 @@ pub record TypePut (i : ℕ) (answer : Option TypeInfo) (old new : List ℕ) : T
 
 -- the marks at place i
 pub record MarksPut (i : ℕ) (marks : SlotMarks) (old new : List ℕ) : Type 0 where
-  pub rack : slot_in (get_or new (racks_at + i) 0) ≡ slot_of marks.rack
-  pub hardpoint : slot_in (get_or new (hardpoints_at + i) 0) ≡ slot_of marks.hardpoint
+  pub rack : slot_in (get_or new (racks_at + i) 0) ≡ marks.rack
+  pub hardpoint : slot_in (get_or new (hardpoints_at + i) 0) ≡ marks.hardpoint
   pub others : Only i racks_at 2 old new
 
 -- below a limit, where there is a slot
 abbrev pub Below : ℕ → Option ℕ → Type 0
-Below limit none = Unit {0}
-Below limit (some s) = s < limit
+Below limit None = Unit {0}
+Below limit (Some s) = s < limit

@@ -5,7 +5,6 @@ ghost use Rattle.std.specs.Prelude.{◌≡◌, List, [], ◌∷◌, ℕ, ◌+◌
 ghost use Rattle.numbers.specs.Slots as Slots;
 ghost use Rattle.catalogue.specs.Catalogue.{catalogue_of};
 ghost use Rattle.catalogue.specs.Sound as Catalogue;
-ghost use Rattle.catalogue.specs.Answers.{info_of, slot_of};
 ghost use Rattle.fit.specs.Fit.{fit_of};
 ghost use Rattle.fit.specs.Sound as Fit;
 ghost use Rattle.context.specs.Context.{is_fitted, is_in, is_on_hull, is_module_category};
@@ -13,7 +12,7 @@ ghost use Rattle.context.specs.Gathered.{pair_count, pair_at, slot_in, of_halves
 ghost use Rattle.context.specs.Gathered.{groups_at, knowns_at, place_count, fact_count, Kept, Pairs, Before, Gathered};
 ghost use Rattle.context.specs.Gathered.{fill, list_of_words, Only, TypePut, MarksPut, Below};
 
-use catalogue::{SlotAnswer, SlotMarks, TypeAnswer, TypeInfo};
+use catalogue::{SlotMarks, TypeInfo};
 use numbers::{categories, slots};
 
 // What a call gathers stands in one array of words: where each result's attributes begin, then sections of 257, with a place for each
@@ -51,13 +50,13 @@ struct TypeWords {
 }
 
 // A slot as a word.
-fn code(slot: SlotAnswer) -> u32
-    requires { Below 8 (slot_of slot) }
-    ensures { slot_in result ≡ slot_of slot }
+fn code(slot: Option<u8>) -> u32
+    requires { Below 8 slot }
+    ensures { slot_in result ≡ slot }
 {
     match slot {
-        SlotAnswer::Slot(s) => image::wide32(s),
-        SlotAnswer::Nothing => 8,
+        Some(s) => image::wide32(s),
+        None => 8,
     }
 }
 
@@ -105,19 +104,19 @@ fn put_missing(facts: &mut [u32], i: usize)
 }
 
 // What the lookup answered of a type, at its place.
-fn put_type(facts: &mut [u32], i: usize, answer: TypeAnswer)
+fn put_type(facts: &mut [u32], i: usize, answer: Option<TypeInfo>)
     requires { (length facts.old ≡ fact_count) × (i < place_count) }
-    ensures { TypePut i (info_of answer) facts.old facts.new }
+    ensures { TypePut i answer facts.old facts.new }
 {
     match answer {
-        TypeAnswer::Known(info) => put_words(facts, i, words_of(info)),
-        TypeAnswer::Unknown => put_missing(facts, i),
+        Some(info) => put_words(facts, i, words_of(info)),
+        None => put_missing(facts, i),
     }
 }
 
 fn put_marks(facts: &mut [u32], i: usize, marks: SlotMarks)
     requires facts_len { (length facts.old ≡ fact_count) × (i < place_count) }
-    requires below { Below 8 (slot_of marks.rack) × Below 8 (slot_of marks.hardpoint) }
+    requires below { Below 8 marks.rack × Below 8 marks.hardpoint }
     ensures { MarksPut i marks facts.old facts.new }
 {
     let rack = marks.rack;
@@ -244,29 +243,29 @@ fn is_kept(facts: &[u32; 2058], place: usize) -> bool
 }
 
 // What was kept of the type at a place.
-fn type_in(facts: &[u32; 2058], place: usize) -> TypeAnswer
+fn type_in(facts: &[u32; 2058], place: usize) -> Option<TypeInfo>
     requires { place < place_count }
-    ensures { info_of result ≡ type_in facts.now place }
+    ensures { result ≡ type_in facts.now place }
 {
     if is_kept(facts, place) {
-        return TypeAnswer::Known(info_in(facts, place));
+        return Some(info_in(facts, place));
     }
-    TypeAnswer::Unknown
+    None
 }
 
 // What the lookup answered of the ship's type.
-pub fn ship_type(catalogue: &[u8], fit: &[u8], facts: &[u32; 2058]) -> TypeAnswer
+pub fn ship_type(catalogue: &[u8], fit: &[u8], facts: &[u32; 2058]) -> Option<TypeInfo>
     requires { Gathered catalogue.now fit.now facts.now }
-    ensures { info_of result ≡ answer_of (catalogue_of catalogue.now) (fit_of fit.now).frame.ship }
+    ensures { result ≡ answer_of (catalogue_of catalogue.now) (fit_of fit.now).frame.ship }
 {
     type_in(facts, SHIP)
 }
 
 // What it answered of the type of pair i.
-pub fn type_at(catalogue: &[u8], fit: &[u8], facts: &[u32; 2058], i: usize) -> TypeAnswer
+pub fn type_at(catalogue: &[u8], fit: &[u8], facts: &[u32; 2058], i: usize) -> Option<TypeInfo>
     requires { Gathered catalogue.now fit.now facts.now × (i < pair_count fit.now) }
     ensures { let c = catalogue.now in
-        info_of result ≡ answer_of (catalogue_of c) (pair_at c fit.now i).type }
+        result ≡ answer_of (catalogue_of c) (pair_at c fit.now i).type }
 {
     type_in(facts, i)
 }

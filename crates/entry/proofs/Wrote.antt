@@ -2,7 +2,7 @@
 use mathlib.Core.Path.{◌≡◌, refl, ap, sym, subst, ◌∙◌}
 use mathlib.Core.Bool.{Bool, true, false, cond}
 use mathlib.Core.List.{List, [], ◌∷◌, ◌++◌, append-nil, append_assoc}
-use mathlib.Core.Option.{Option, none, some}
+use Rattle.std.specs.Prelude.{Option, None, Some}
 use Prim.Native.Nat.{ℕ, suc, ◌+◌, ◌*◌, ◌/◌, ◌<◌, ◌≤◌}
 use native.Mathlib.Nat.{zero-add}
 use native.Mathlib.Numerals.{add-one}
@@ -91,7 +91,7 @@ module _ {b a : List ℕ} {n k : ℕ} where
   unfolding unless
   wrote-past h w = rw h w
 
-  pub wrote-bind : {A : Type 0} (f : A → List Entry) {o : Option A} {x : A} → o ≡ some x → Wrote b n a k (f x) → Wrote b n a k (◌>>=◌ o f)
+  pub wrote-bind : {A : Type 0} (f : A → List Entry) {o : Option A} {x : A} → o ≡ Some x → Wrote b n a k (f x) → Wrote b n a k (◌>>=◌ o f)
   unfolding ◌>>=◌
   wrote-bind f h w = rw h w
 
@@ -106,7 +106,7 @@ module _ {b : List ℕ} {n : ℕ} where
   unfolding unless
   wrote-return es h = rw h (wrote_none b n)
 
-  pub wrote-bind_none : {A : Type 0} (f : A → List Entry) {o : Option A} → o ≡ none → Wrote b n b n (◌>>=◌ o f)
+  pub wrote-bind_none : {A : Type 0} (f : A → List Entry) {o : Option A} → o ≡ None → Wrote b n b n (◌>>=◌ o f)
   unfolding ◌>>=◌
   wrote-bind_none f h = rw h (wrote_none b n)
 

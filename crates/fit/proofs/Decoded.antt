@@ -5,8 +5,9 @@ use native.Mathlib.Numerals.{add-one}
 use native.Mathlib.Omega.{arith}
 use mathlib.Core.Path.{◌≡◌, refl, sym, ap, ◌∙◌, subst}
 use mathlib.Core.List.{List, map}
-use mathlib.Core.Option.{some}
-use lib.ListN.{length, get_or, get_elem?}
+use Rattle.std.specs.Prelude.{Some}
+use lib.ListN.{length, get_or}
+use Rattle.std.specs.Prelude.{slice_get}
 use lib.Ieee.{binary64, of_bits}
 use Rattle.words.specs.Words.{table, sum_of}
 use Rattle.words.proofs.Tables.{length-table, get_or-table, map-table, table_same, sum_more}
@@ -37,9 +38,9 @@ module _ (b : List ℕ) where
   unfolding fit_of
   all_results_lem = sym (table-two (result_count b) (result_of b))
 
-  pub result-some : (n : ℕ) → n < result_count b + 2 → result_at (fit_of b) n ≡ some (result_of b n)
+  pub result-some : (n : ℕ) → n < result_count b + 2 → result_at (fit_of b) n ≡ Some (result_of b n)
   unfolding result_at
-  result-some n h = ap (λ (l : List Result). get_elem? l n) all_results_lem ∙ elem_table (result_count b + 2) (result_of b) n h
+  result-some n h = ap (λ (l : List Result). slice_get l n) all_results_lem ∙ elem_table (result_count b + 2) (result_of b) n h
 
   -- where the next result's attributes begin
   pub start-next : (j : ℕ) → start_at b (j + 1) ≡ start_at b j + count_at b j

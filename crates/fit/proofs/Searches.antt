@@ -3,7 +3,7 @@ use Prim.Native.Nat.{ℕ, zero, suc, ◌+◌, ◌*◌, ◌<◌}
 use mathlib.Core.Path.{◌≡◌, refl, sym, ap, ◌∙◌}
 use mathlib.Core.Bool.{Bool, true, false, cond}
 use mathlib.Core.List.{List}
-use mathlib.Core.Option.{Option, none, some}
+use Rattle.std.specs.Prelude.{Option, None, Some}
 use lib.ListN.{take, drop}
 use lib.Signed.{lt_z}
 use lib.Ieee.{Float}
@@ -27,36 +27,36 @@ level-from f g t i zero = refl
 level-from f g t i (suc n) = go (same (f i) t) (level-from f g t (suc i) n)
   where
     go : (x : Bool) → trained (table_from (suc i) n f) (table_from (suc i) n g) t ≡ given (find (λ k. same (f k) t) (from (suc i) n)) 0 g
-        → cond x (g i) (trained (table_from (suc i) n f) (table_from (suc i) n g) t) ≡ given (cond x (some i) (find (λ k. same (f k) t) (from (suc i) n))) 0 g
+        → cond x (g i) (trained (table_from (suc i) n f) (table_from (suc i) n g) t) ≡ given (cond x (Some i) (find (λ k. same (f k) t) (from (suc i) n))) 0 g
     go true e = refl
     go false e = e
 
 module _ (b : List ℕ) where
   -- what a search of a result's ids says of its value
   abbrev value_at : ℕ → Option ℕ → Option Float
-  value_at j o = given o none (λ i. some (f64_at b (values_at b + 8 * (start_at b j + i))))
+  value_at j o = given o None (λ i. Some (f64_at b (values_at b + 8 * (start_at b j + i))))
 
-  passed : (j : ℕ) (o : Option ℕ) → given (given o none (λ i. some (attribute_at b (start_at b j + i)))) none (λ x. some x.value) ≡ value_at j o
+  passed : (j : ℕ) (o : Option ℕ) → given (given o None (λ i. Some (attribute_at b (start_at b j + i)))) None (λ x. Some x.value) ≡ value_at j o
   unfolding given
-  passed j none = refl
-  passed j (some i) = refl
+  passed j None = refl
+  passed j (Some i) = refl
 
   value_found : (j : ℕ) (id : Id) → value (result_of b j) id ≡ value_at j (place_of (ids_part b (start_at b j) (count_at b j)) (count_at b j) id)
   unfolding value place_of
   value_found j id =
       let n = count_at b j in
       let ids = ids_part b (start_at b j) n in
-      ap (λ o. given o none (λ x. some x.value)) (find-table (λ x. same x.id id) n (λ i. attribute_at b (start_at b j + i)))
+      ap (λ o. given o None (λ x. Some x.value)) (find-table (λ x. same x.id id) n (λ i. attribute_at b (start_at b j + i)))
       ∙ passed j (find (λ i. same (attribute_at b (start_at b j + i)).id id) (from 0 n))
       ∙ ap (value_at j) (find-alike (λ i. same (attribute_at b (start_at b j + i)).id id) (λ i. same (key_at ids i) id) n (λ i h. ap (λ z. same z id) (sym (id-at b (start_at b j) n i h))))
 
   module _ (j : ℕ) (id : Id) where
     -- an id that stands at place i has the value at place i
-    pub value-given : (i : ℕ) → place_of (ids_part b (start_at b j) (count_at b j)) (count_at b j) id ≡ some i → value (result_of b j) id ≡ some (f64_at b (values_at b + 8 * (start_at b j + i)))
+    pub value-given : (i : ℕ) → place_of (ids_part b (start_at b j) (count_at b j)) (count_at b j) id ≡ Some i → value (result_of b j) id ≡ Some (f64_at b (values_at b + 8 * (start_at b j + i)))
     unfolding given
     value-given i e = value_found j id ∙ ap (value_at j) e
 
-    pub value-missing : place_of (ids_part b (start_at b j) (count_at b j)) (count_at b j) id ≡ none → value (result_of b j) id ≡ none
+    pub value-missing : place_of (ids_part b (start_at b j) (count_at b j)) (count_at b j) id ≡ None → value (result_of b j) id ≡ None
     unfolding given
     value-missing e = value_found j id ∙ ap (value_at j) e
 
@@ -82,11 +82,11 @@ module _ (b : List ℕ) where
 
   module _ (id : Id) where
     -- a skill that stands at place i has the level at place i
-    pub level-given : (i : ℕ) → place_of skill_ids (skill_count b) id ≡ some i → trained (fit_of b).skills (fit_of b).levels id ≡ u8_at b (levels_at b + i)
+    pub level-given : (i : ℕ) → place_of skill_ids (skill_count b) id ≡ Some i → trained (fit_of b).skills (fit_of b).levels id ≡ u8_at b (levels_at b + i)
     unfolding given
     level-given i e = level-found id ∙ ap level_at e
 
-    pub level-missing : place_of skill_ids (skill_count b) id ≡ none → trained (fit_of b).skills (fit_of b).levels id ≡ 0
+    pub level-missing : place_of skill_ids (skill_count b) id ≡ None → trained (fit_of b).skills (fit_of b).levels id ≡ 0
     unfolding given
     level-missing e = level-found id ∙ ap level_at e
 

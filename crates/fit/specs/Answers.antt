@@ -1,12 +1,10 @@
 -- Document 01, "Refusals in their order" and "What each place should look like": what each case of an answer stands for.
 use Rattle.std.specs.Prelude.{ℕ}
-use Rattle.std.proofs.Math.Option.{Option, none, some}
+use Rattle.std.specs.Prelude.{Option, None, Some}
 use Rattle.numbers.specs.Refusals as Refusals
 use Rattle.catalogue.specs.Catalogue.{Id}
 use Rattle.fit.specs.declared.Verdict.{Verdict}
 use Rattle.fit.specs.declared.Verdict.TheVariants.{Accepted, BadSize, BadOrder, BadField}
-use Rattle.fit.specs.declared.ModeAnswer.{ModeAnswer}
-use Rattle.fit.specs.declared.ModeAnswer.TheVariants.{Mode, Nothing}
 
 -- the number of a refusal; 0 where there is none
 abbrev pub number_of : Verdict → ℕ
@@ -15,7 +13,3 @@ number_of BadSize = Refusals.bad_size
 number_of BadOrder = Refusals.bad_ids
 number_of BadField = Refusals.bad_field
 
--- the mode, if there is one
-abbrev pub chosen_of : ModeAnswer → Option Id
-chosen_of (Mode m) = some m
-chosen_of Nothing = none

@@ -1,8 +1,8 @@
 -- Document 01, "Records", Fit: u32 sizes S, F, R, A; ship type, mode flag, mode; S skill ids, S levels; F items of 12 bytes;
 -- R + 2 results of 4 bytes: ship, character, then items; A attribute ids, A values, result after result.
 use Rattle.std.specs.Prelude.{ℕ, zero, suc, ◌+◌, ◌*◌, cond, List, ◌∷◌, eqb, Float}
-use Rattle.std.proofs.Math.Option.{Option, none, some}
-use Rattle.std.proofs.Math.ListN.{get_elem?}
+use Rattle.std.specs.Prelude.{Option, None, Some}
+use Rattle.std.specs.Prelude.{slice_get}
 use Rattle.words.specs.Words.{table}
 use Rattle.image.specs.Bytes.{u8_at, u16_at, u32_at, i32_at}
 use Rattle.floats.specs.Floats.{f64_at}
@@ -43,7 +43,7 @@ pub record Fit : Type 0 where
 
 -- the mode, where the flag says that one is given
 unfoldable pub mode_of : Frame → Option Id
-mode_of k = cond (eqb k.mode_flag 0) none (some k.mode)
+mode_of k = cond (eqb k.mode_flag 0) None (Some k.mode)
 
 -- the ship's and the character's result, then those of the items
 abbrev pub all_results : Fit → List Result
@@ -51,7 +51,7 @@ all_results f = f.frame.ship_result ∷ f.frame.character_result ∷ f.results
 
 -- the result of a number: 0 the ship's, 1 the character's, 2 the first item's
 unfoldable pub result_at : Fit → ℕ → Option Result
-result_at f n = get_elem? (all_results f) n
+result_at f n = slice_get (all_results f) n
 
 -- ---- the image b
 module _ (b : List ℕ) where

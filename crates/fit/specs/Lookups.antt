@@ -1,6 +1,6 @@
 -- Reading a result, as `Context::value` and `Context::amount` in validate/mod.rs do, and a trained level.
 use Rattle.std.specs.Prelude.{ℕ, cond, List, [], ◌∷◌, Float}
-use Rattle.std.proofs.Math.Option.{Option, none, some}
+use Rattle.std.specs.Prelude.{Option, None, Some}
 use Rattle.words.specs.Words.{find, given, same}
 use Rattle.floats.specs.Floats.{zero_f}
 use Rattle.catalogue.specs.Catalogue.{Id}
@@ -8,7 +8,7 @@ use Rattle.fit.specs.Fit.{Result}
 
 -- what an attribute reached, where the result has it
 unfoldable pub value : Result → Id → Option Float
-value r a = given (find (λ x. same x.id a) r.attributes) none (λ x. some x.value)
+value r a = given (find (λ x. same x.id a) r.attributes) None (λ x. Some x.value)
 
 -- an amount that is not there reads as 0
 unfoldable pub amount : Result → Id → Float

@@ -6,15 +6,11 @@ pub mod layout;
 ghost use Rattle.std.specs.Prelude.{◌≡◌, ◌+◌, ◌*◌, ◌<◌, ◌≤◌, min, length, get_or, take, drop};
 ghost use Rattle.numbers.specs.Sizes.{most_results};
 ghost use Rattle.image.specs.Bytes.{i32_at};
-ghost use Rattle.floats.specs.Values.{value_of};
 ghost use Rattle.fit.specs.Fit.{mode_of, fit_of, skill_count, item_count, result_count, attribute_count};
 ghost use Rattle.fit.specs.Fit.{skills_at, item_at, count_at, start_at, result_of};
 ghost use Rattle.fit.specs.Sound.{Sound, Starts, ids_part, values_part};
-ghost use Rattle.fit.specs.Answers.{chosen_of};
 ghost use Rattle.fit.specs.Lookups.{value, amount, trained};
 
-use floats::Value;
-use keys::Found;
 
 // What is said of a fit: accepted, or refused by 4, 5 or 6.
 #[derive(Clone, Copy)]
@@ -25,13 +21,6 @@ pub enum Verdict {
     BadField,
 }
 
-// The ship's mode, where one is chosen.
-#[derive(Clone, Copy)]
-pub enum ModeAnswer {
-    Mode(i32),
-    Nothing,
-}
-
 pub fn ship(fit: &[u8]) -> i32
     requires { Sound fit.now }
     ensures { result ≡ (fit_of fit.now).frame.ship }
@@ -39,15 +28,15 @@ pub fn ship(fit: &[u8]) -> i32
     image::i32_at(fit, 16)
 }
 
-pub fn mode(fit: &[u8]) -> ModeAnswer
+pub fn mode(fit: &[u8]) -> Option<i32>
     requires { Sound fit.now }
-    ensures { chosen_of result ≡ mode_of (fit_of fit.now).frame }
+    ensures { result ≡ mode_of (fit_of fit.now).frame }
 {
     let flag = image::u32_at(fit, 20);
     if flag == 0 {
-        return ModeAnswer::Nothing;
+        return None;
     }
-    ModeAnswer::Mode(image::i32_at(fit, 24))
+    Some(image::i32_at(fit, 24))
 }
 
 pub fn skill_count(fit: &[u8]) -> usize
@@ -199,15 +188,15 @@ fn values_of<'a>(fit: &'a [u8], starts: &[u32], j: usize) -> &'a [u8]
 }
 
 // What an attribute of result j reached: its value stands among the result's values where its id stands among the ids.
-pub fn value(fit: &[u8], starts: &[u32], j: usize, id: i32) -> Value
+pub fn value(fit: &[u8], starts: &[u32], j: usize, id: i32) -> Option<f64>
     requires { Sound fit.now × Starts fit.now starts.now × (j < result_count fit.now + 2) }
-    ensures { value_of result ≡ value (result_of fit.now j) id }
+    ensures { result ≡ value (result_of fit.now j) id }
 {
     let ids = ids_of(fit, starts, j);
     let found = keys::place_of(ids, ids.len() / 4, id);
     match found {
-        Found::At(i) => Value::Given(floats::f64_at(values_of(fit, starts, j), 8 * i)),
-        Found::Nothing => Value::Missing,
+        Some(i) => Some(floats::f64_at(values_of(fit, starts, j), 8 * i)),
+        None => None,
     }
 }
 
@@ -228,7 +217,7 @@ pub fn trained_level(fit: &[u8], id: i32) -> u8
     let ids = image::part(fit, 28, 4 * n);
     let found = keys::place_of(ids, n, id);
     match found {
-        Found::At(i) => image::u8_at(fit, layout::levels_at(fit) + i),
-        Found::Nothing => 0,
+        Some(i) => image::u8_at(fit, layout::levels_at(fit) + i),
+        None => 0,
     }
 }

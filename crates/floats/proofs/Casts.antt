@@ -17,15 +17,15 @@ twice a b c h = omega arith
 lower : (a b : ℕ) → a ≤ b → min b a ≡ a
 lower a b h = omega arith
 
-none : (a : ℕ) → min 0 a ≡ 0
-none a = omega arith
+None : (a : ℕ) → min 0 a ≡ 0
+None a = omega arith
 
 pub stops : (top : ℕ) → top ≤ 2 ^ 64 - 1 → (x : Float) → min (to_unsigned 64 x) top ≡ stopped top x
 unfolding to_unsigned
-stops top h nan = none top
-stops top h (inf true) = none top
+stops top h nan = None top
+stops top h (inf true) = None top
 stops top h (inf false) = lower top (2 ^ 64 - 1) h
-stops top h (fin true m e) = none top
+stops top h (fin true m e) = None top
 stops top h (fin false m e) = twice (m * up e / down e) top (2 ^ 64 - 1) h
 
 -- ---- to w bits

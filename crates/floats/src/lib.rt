@@ -7,7 +7,6 @@ ghost use Rattle.std.specs.Float.{binary32, binary64};
 ghost use Rattle.words.specs.Words.{given};
 ghost use Rattle.image.specs.Bytes.{le, put};
 ghost use Rattle.floats.specs.Floats.{f32_at, f64_at, f64_bits, zero_f, of_nat, to_u, to_i32, abs, over};
-ghost use Rattle.floats.specs.Values.{value_of};
 
 // The f32 of a bit pattern. `from_bits` is undefined at a NaN's pattern.
 fn of_bits32(n: u32) -> f32
@@ -72,20 +71,13 @@ pub fn put_f64(out: &mut [u8], at: usize, x: f64)
     image::put_u64(out, at, f64_bits(x));
 }
 
-// A value that a result or a type may lack: what `value` and `base_value` answer.
-#[derive(Clone, Copy)]
-pub enum Value {
-    Given(f64),
-    Missing,
-}
-
 // A missing value reads as 0 for an amount.
-pub fn amount(v: Value) -> f64
-    ensures { result ≡ given (value_of v) zero_f (λ x. x) }
+pub fn amount(v: Option<f64>) -> f64
+    ensures { result ≡ given v zero_f (λ x. x) }
 {
     match v {
-        Value::Given(x) => x,
-        Value::Missing => 0.0,
+        Some(x) => x,
+        None => 0.0,
     }
 }
 

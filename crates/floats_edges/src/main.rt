@@ -2,7 +2,7 @@
 // The file `stdout` was worked out from the document; above each function stands how its lines follow.
 #![tactic(auto)]
 
-use floats::{Load, Value};
+use floats::Load;
 use std::io;
 
 fn decimal(rt: &impl Print, n: u64) -> io::Result<()> {
@@ -110,8 +110,8 @@ fn to_i32_below(rt: &impl Print) -> io::Result<()> {
 
 // "A missing value reads as 0 for an amount."
 fn amounts(rt: &impl Print) -> io::Result<()> {
-    as_u8(rt, "amount 7", floats::amount(Value::Given(7.0)))?;
-    as_u8(rt, "amount missing", floats::amount(Value::Missing))
+    as_u8(rt, "amount 7", floats::amount(Some(7.0)))?;
+    as_u8(rt, "amount missing", floats::amount(None))
 }
 
 // "Over: used > available + |available| × c, each operation rounded once." 10^9 × c rounds to 1, so the

@@ -4,7 +4,7 @@ use native.Mathlib.Numerals.{add-one}
 use native.Mathlib.Omega.{arith}
 use mathlib.Core.Path.{◌≡◌, sym, ap, ap₂, ◌∙◌}
 use mathlib.Core.List.{List, [], ◌∷◌, ◌++◌, map, map-append}
-use mathlib.Core.Option.{none, some}
+use Rattle.std.specs.Prelude.{None, Some}
 use lib.IntN.{ℤ}
 use lib.ListN.{length, get_or, take, set}
 use lib.Seq.{take-suc, take-suc-set, take_all}
@@ -16,19 +16,19 @@ use Rattle.image.specs.Bytes.{signed32, bits32}
 use Rattle.image.proofs.Signs.{bits_of_z, signed_bits}
 use Rattle.item.specs.Ids.{id_in}
 
-pub code_some : (n : ℕ) → n < 2 ^ 32 → id_in n ≡ some (signed32 n)
+pub code_some : (n : ℕ) → n < 2 ^ 32 → id_in n ≡ Some (signed32 n)
 unfolding id_in
 code_some n h = rw (lt-ltb n (2 ^ 32) h)
 
-pub code_none : (n : ℕ) → 2 ^ 32 ≤ n → id_in n ≡ none
+pub code_none : (n : ℕ) → 2 ^ 32 ≤ n → id_in n ≡ None
 unfolding id_in
 code_none n h = rw (le-ltb n (2 ^ 32) h)
 
 -- the bits of an id are its number
-pub code_bits : (z : ℤ) → SFits w32 z → (n : ℕ) → n ≡ bits32 z → id_in n ≡ some z
+pub code_bits : (z : ℤ) → SFits w32 z → (n : ℕ) → n ≡ bits32 z → id_in n ≡ Some z
 code_bits z f n e =
     let o : n ≡ of_z w32 z = e ∙ bits_of_z z in
-    code_some n (omega (arith, o, (of_z_fits w32 z f).fits)) ∙ ap some (ap signed32 e ∙ signed_bits z f)
+    code_some n (omega (arith, o, (of_z_fits w32 z f).fits)) ∙ ap Some (ap signed32 e ∙ signed_bits z f)
 
 -- one more id in its place
 module _ {A B C : Type 0} (f : A → C) (g : B → C) (l : List A) (m : List B) where

@@ -5,7 +5,7 @@ use native.Mathlib.Omega.{arith}
 use mathlib.Core.Path.{◌≡◌, refl, sym, ap, ap₂, ◌∙◌}
 use mathlib.Core.Bool.{Bool, true, false, cond, true≢false}
 use mathlib.Core.List.{List, [], ◌∷◌, ◌++◌}
-use mathlib.Core.Option.{none}
+use Rattle.std.specs.Prelude.{None}
 use mathlib.Core.Logic.{⊎_elim}
 use lib.Dec.{ltb}
 use lib.IntN.{pos, negsuc}
@@ -101,7 +101,7 @@ module _ (flags : List Bool) where
       go false e = refl
 
   no_attribute : (a : Id) → flag_of flags a ≡ true → (l : List Attribute) → any_of (λ x. flag_of flags x.id) l ≡ false
-      → find (λ x. same x.id a) l ≡ none
+      → find (λ x. same x.id a) l ≡ None
   unfolding any_of find
   no_attribute a h [] e = refl
   no_attribute a h (x ∷ l) e =
@@ -110,7 +110,7 @@ module _ (flags : List Bool) where
       rw s (no_attribute a h l (or_right (flag_of flags x.id) rest e))
 
   module _ (r : Result) (e : any_flagged flags r ≡ false) where
-    no_value : (a : Id) → flag_of flags a ≡ true → value r a ≡ none
+    no_value : (a : Id) → flag_of flags a ≡ true → value r a ≡ None
     unfolding value any_flagged given
     no_value a h = rw (no_attribute a h r.attributes e)
 

@@ -4,7 +4,7 @@ use native.Mathlib.Numerals.{add-one}
 use mathlib.Core.Path.{◌≡◌, refl, sym, ap, ap₂, subst, ◌∙◌}
 use mathlib.Core.Bool.{Bool, true, false, not, ◌&&◌, ◌||◌}
 use mathlib.Core.List.{List, [], ◌∷◌, ◌++◌, map}
-use mathlib.Core.Option.{Option, none, some}
+use Rattle.std.specs.Prelude.{Option, None, Some}
 use lib.ListN.{length, get_or, take}
 use lib.Seq.{take_all}
 use lib.Ieee.{Float}
@@ -30,15 +30,15 @@ or_assoc false b c = refl
 
 -- ---- under one id
 module _ (id : Id) (r : Result) where
-  pub under-unknown : (o : Option Id) → o ≡ none → ListingOf id (listed_under r o) (record { any = false; has = false })
+  pub under-unknown : (o : Option Id) → o ≡ None → ListingOf id (listed_under r o) (record { any = false; has = false })
   unfolding listed_under ◌>>=◌ is_empty contains any_of
   under-unknown o e = rw e (record { any = refl; has = refl })
 
-  pub under-missing : (o : Option Id) (a : Id) → o ≡ some a → value r a ≡ none → ListingOf id (listed_under r o) (record { any = false; has = false })
+  pub under-missing : (o : Option Id) (a : Id) → o ≡ Some a → value r a ≡ None → ListingOf id (listed_under r o) (record { any = false; has = false })
   unfolding listed_under ◌>>=◌ is_empty contains any_of
   under-missing o a e q = rw (e, q) (record { any = refl; has = refl })
 
-  pub under-given : (o : Option Id) (a : Id) (v : Float) (h : Bool) → o ≡ some a → value r a ≡ some v → h ≡ same id (to_i32 v)
+  pub under-given : (o : Option Id) (a : Id) (v : Float) (h : Bool) → o ≡ Some a → value r a ≡ Some v → h ≡ same id (to_i32 v)
       → ListingOf id (listed_under r o) (record { any = true; has = h })
   unfolding listed_under ◌>>=◌ is_empty contains any_of
   under-given o a v h e q p = rw (e, q) (record { any = refl; has = p ∙ or_false (same id (to_i32 v)) })

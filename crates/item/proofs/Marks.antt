@@ -4,7 +4,7 @@ use native.Mathlib.Numerals.{add-one}
 use mathlib.Core.Path.{◌≡◌, refl, sym, ap, ◌∙◌}
 use mathlib.Core.Bool.{Bool, true, false, ◌||◌}
 use mathlib.Core.List.{List, [], ◌∷◌, map}
-use mathlib.Core.Option.{Option, none, some}
+use Rattle.std.specs.Prelude.{Option, None, Some}
 use lib.ListN.{length, get_or, drop, drop_of_length-le}
 use lib.Ieee.{ne}
 use Rattle.words.specs.Words.{any_of, given, same}
@@ -20,11 +20,11 @@ use Rattle.item.specs.Item.{standup_fighters, is_standup}
 use Rattle.item.specs.Ids.{id_in, IdsOf, marked_under, marked_in}
 
 module _ (r : Result) (o : Option Id) where
-  pub mark-unknown : o ≡ none → false ≡ marked_under r o
+  pub mark-unknown : o ≡ None → false ≡ marked_under r o
   unfolding marked_under given
   mark-unknown e = rw e
 
-  pub mark-known : (a : Id) (b : Bool) → o ≡ some a → b ≡ ne (amount r a) zero_f → b ≡ marked_under r o
+  pub mark-known : (a : Id) (b : Bool) → o ≡ Some a → b ≡ ne (amount r a) zero_f → b ≡ marked_under r o
   unfolding marked_under given
   mark-known a b e q = rw e q
 

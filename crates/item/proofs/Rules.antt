@@ -3,7 +3,7 @@ use Prim.Native.Nat.{ℕ, ◌≤◌}
 use mathlib.Core.Path.{◌≡◌, refl, ap, ◌∙◌}
 use mathlib.Core.Bool.{Bool, true, false, not, ◌&&◌, ◌||◌, cond}
 use mathlib.Core.List.{List, []}
-use mathlib.Core.Option.{none, some}
+use Rattle.std.specs.Prelude.{None, Some}
 use lib.ListN.{length}
 use lib.Ieee.{Float, ne}
 use Rattle.words.specs.Words.{each, when, is_empty, contains}
@@ -26,11 +26,11 @@ use Rattle.item.specs.Ids.{ListingOf}
 
 -- ---- rig sizes
 module _ (id : Id) (ship : Float) (p : Pair) where
-  pub rig-none : {b : List ℕ} {n : ℕ} → value p.result id ≡ none → Wrote b n b n (rig_size_at id ship p)
+  pub rig-none : {b : List ℕ} {n : ℕ} → value p.result id ≡ None → Wrote b n b n (rig_size_at id ship p)
   unfolding rig_size_at
   rig-none e = wrote-bind_none _ e
 
-  pub rig-some : {b a : List ℕ} {n k : ℕ} {size : Float} {t : Bool} {x y : ℕ} → value p.result id ≡ some size
+  pub rig-some : {b a : List ℕ} {n k : ℕ} {size : Float} {t : Bool} {x y : ℕ} → value p.result id ≡ Some size
       → t ≡ is_in Slots.rig p && ne size ship → x ≡ to_u 8 ship → y ≡ to_u 8 size
       → Wrote b n a k (when t (on p (RigSize x y))) → Wrote b n a k (rig_size_at id ship p)
   unfolding rig_size_at
@@ -41,16 +41,16 @@ module _ (id : Id) (ship : Float) (p : Pair) where
   rig-few = few-bind _ 1 (λ size. few-when (is_in Slots.rig p && ne size ship) (on p (RigSize (to_u 8 ship) (to_u 8 size)))) (value p.result id)
 
 module _ (x : Context) (ps : List Pair) where
-  pub rig-no_name : {b : List ℕ} {n : ℕ} → name_id x.names Names.rig_size ≡ none → Wrote b n b n (rig_size x ps)
+  pub rig-no_name : {b : List ℕ} {n : ℕ} → name_id x.names Names.rig_size ≡ None → Wrote b n b n (rig_size x ps)
   unfolding rig_size
   rig-no_name e = wrote-bind_none _ e
 
-  pub rig-no_ship : {b : List ℕ} {n : ℕ} (id : Id) → name_id x.names Names.rig_size ≡ some id → value x.ship_result id ≡ none
+  pub rig-no_ship : {b : List ℕ} {n : ℕ} (id : Id) → name_id x.names Names.rig_size ≡ Some id → value x.ship_result id ≡ None
       → Wrote b n b n (rig_size x ps)
   unfolding rig_size
   rig-no_ship id e q = wrote-bind _ e (wrote-bind_none _ q)
 
-  pub rig-each : {b a : List ℕ} {n k : ℕ} (id : Id) (ship : Float) → name_id x.names Names.rig_size ≡ some id → value x.ship_result id ≡ some ship
+  pub rig-each : {b a : List ℕ} {n k : ℕ} (id : Id) (ship : Float) → name_id x.names Names.rig_size ≡ Some id → value x.ship_result id ≡ Some ship
       → Wrote b n a k (each ps (rig_size_at id ship)) → Wrote b n a k (rig_size x ps)
   unfolding rig_size
   rig-each id ship e q w = wrote-bind _ e (wrote-bind _ q w)
@@ -106,23 +106,23 @@ module _ (volume : Id) (p : Pair) where
   capital_few = few-when (is_capital_item volume p) (on p CapitalItem)
 
 module _ (x : Context) (ps : List Pair) where
-  pub capital_no_volume : {b : List ℕ} {n : ℕ} → name_id x.names Names.volume ≡ none → Wrote b n b n (capital_item x ps)
+  pub capital_no_volume : {b : List ℕ} {n : ℕ} → name_id x.names Names.volume ≡ None → Wrote b n b n (capital_item x ps)
   unfolding capital_item
   capital_no_volume e = wrote-bind_none _ e
 
-  pub capital_no_capital : {b : List ℕ} {n : ℕ} (volume : Id) → name_id x.names Names.volume ≡ some volume
-      → name_id x.names Names.is_capital_size ≡ none → Wrote b n b n (capital_item x ps)
+  pub capital_no_capital : {b : List ℕ} {n : ℕ} (volume : Id) → name_id x.names Names.volume ≡ Some volume
+      → name_id x.names Names.is_capital_size ≡ None → Wrote b n b n (capital_item x ps)
   unfolding capital_item
   capital_no_capital volume e q = wrote-bind _ e (wrote-bind_none _ q)
 
-  pub capital_taken : {b : List ℕ} {n : ℕ} (volume capital : Id) → name_id x.names Names.volume ≡ some volume
-      → name_id x.names Names.is_capital_size ≡ some capital
+  pub capital_taken : {b : List ℕ} {n : ℕ} (volume capital : Id) → name_id x.names Names.volume ≡ Some volume
+      → name_id x.names Names.is_capital_size ≡ Some capital
       → ne (amount x.ship_result capital) zero_f || is_structure x ≡ true → Wrote b n b n (capital_item x ps)
   unfolding capital_item
   capital_taken volume capital e q t = wrote-bind _ e (wrote-bind _ q (wrote-return _ t))
 
-  pub capital_each : {b a : List ℕ} {n k : ℕ} (volume capital : Id) → name_id x.names Names.volume ≡ some volume
-      → name_id x.names Names.is_capital_size ≡ some capital
+  pub capital_each : {b a : List ℕ} {n k : ℕ} (volume capital : Id) → name_id x.names Names.volume ≡ Some volume
+      → name_id x.names Names.is_capital_size ≡ Some capital
       → ne (amount x.ship_result capital) zero_f || is_structure x ≡ false → Wrote b n a k (each ps (capital_item_at volume))
       → Wrote b n a k (capital_item x ps)
   unfolding capital_item

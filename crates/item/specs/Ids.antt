@@ -1,6 +1,6 @@
 -- Ids looked up once per rule, each kept in a number, and what a result has under them.
 use Rattle.std.specs.Prelude.{ℕ, ◌^◌, ◌≡◌, Bool, false, not, cond, List, [], ◌∷◌, map, ltb}
-use Rattle.std.proofs.Math.Option.{Option, none, some}
+use Rattle.std.specs.Prelude.{Option, None, Some}
 use Rattle.std.specs.Float.Ieee.{ne}
 use Rattle.words.specs.Words.{◌>>=◌, each, any_of, is_empty, given, contains}
 use Rattle.image.specs.Bytes.{signed32}
@@ -13,7 +13,7 @@ use Rattle.item.specs.declared.Listing.{Listing}
 
 -- the id in a number: 2 ^ 32 and above stand for none
 unfoldable pub id_in : ℕ → Option Id
-id_in code = cond (ltb code (2 ^ 32)) (some (signed32 code)) none
+id_in code = cond (ltb code (2 ^ 32)) (Some (signed32 code)) None
 
 -- codes hold the ids of the names in the rows of a table
 abbrev pub IdsOf : List Name → List ℕ → List ℕ → Type 0

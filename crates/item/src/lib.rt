@@ -9,7 +9,6 @@ ghost use Rattle.floats.specs.Floats.{zero_f};
 ghost use Rattle.keys.specs.Keys.{key_at};
 ghost use Rattle.catalogue.specs.Catalogue.{catalogue_of};
 ghost use Rattle.catalogue.specs.Lookups.{name_id};
-ghost use Rattle.catalogue.specs.Answers.{id_of, info_of};
 ghost use Rattle.catalogue.specs.Sound as Catalogue;
 ghost use Rattle.fit.specs.Fit.{result_count, result_of};
 ghost use Rattle.fit.specs.Lookups.{amount};
@@ -23,9 +22,8 @@ ghost use Rattle.item.specs.Item.{rig_size_at, capital_item_at, standup_at, item
 ghost use Rattle.item.specs.Ids.{id_in, IdsOf, listed_under, listed_in, marked_under, marked_in, ListingOf};
 ghost use Rattle.item.specs.Flags.{flag_of, Flagged, OnlyAdded, any_flagged, ShipIds};
 
-use catalogue::{AttributeId, TypeAnswer};
+use catalogue::TypeInfo;
 use entry::{Entry, Rule, Target};
-use floats::Value;
 use numbers::{categories, names, slots};
 
 // The attributes naming the ship types an item may go on.
@@ -90,22 +88,22 @@ pub struct Listing {
 }
 
 // An id as a number, so that an array can hold it; 2^32 stands for none.
-fn code_of(answer: AttributeId) -> u64
-    ensures { id_in result ≡ id_of answer }
+fn code_of(answer: Option<i32>) -> u64
+    ensures { id_in result ≡ answer }
 {
     match answer {
-        AttributeId::Known(id) => image::bits(id) as u64,
-        AttributeId::Unknown => NO_ID,
+        Some(id) => image::bits(id) as u64,
+        None => NO_ID,
     }
 }
 
-fn id_in(code: u64) -> AttributeId
-    ensures { id_of result ≡ id_in code }
+fn id_in(code: u64) -> Option<i32>
+    ensures { result ≡ id_in code }
 {
     if code < NO_ID {
-        return AttributeId::Known(image::signed(code as u32));
+        return Some(image::signed(code as u32));
     }
-    AttributeId::Unknown
+    None
 }
 
 fn code_at(catalogue: &[u8], name: u32) -> u64
@@ -169,7 +167,7 @@ fn rig_size_at(
         ((catalogue : List ℕ) → Wrote before n after result (rig_size_at id ship (pair_at catalogue fit.now i))) }
 {
     let answer = fit::value(fit, facts, i + 2, id);
-    let Value::Given(size) = answer else {
+    let Some(size) = answer else {
         return n;
     };
     entry::emit_when(
@@ -196,11 +194,11 @@ pub fn rig_size(
         Wrote out.old n out.new result (Item.rig_size x ps) × (result ≤ n + most_pairs) }
 {
     let answer = catalogue::attribute_id(catalogue, names::RIG_SIZE);
-    let AttributeId::Known(id) = answer else {
+    let Some(id) = answer else {
         return n;
     };
     let of_ship = fit::value(fit, facts, 0, id);
-    let Value::Given(ship) = of_ship else {
+    let Some(ship) = of_ship else {
         return n;
     };
     let count = fit::pair_count(fit);
@@ -261,14 +259,14 @@ fn listed_under(fit: &[u8], facts: &[u32; 2058], j: usize, code: u64, id: i32) -
     ensures { ListingOf id (listed_under (result_of fit.now j) (id_in code)) result }
 {
     let known = id_in(code);
-    let AttributeId::Known(attribute_id) = known else {
+    let Some(attribute_id) = known else {
         return Listing {
             any: false,
             has: false,
         };
     };
     let answer = fit::value(fit, facts, j, attribute_id);
-    let Value::Given(value) = answer else {
+    let Some(value) = answer else {
         return Listing {
             any: false,
             has: false,
@@ -311,12 +309,12 @@ fn lists_others(types: Listing, groups: Listing) -> bool
 }
 
 // The group by which an item names a ship. It names one that the catalogue lacks by 0.
-fn group_named(ship: TypeAnswer) -> i32
-    ensures { result ≡ given (info_of ship) (pos 0) (λ x. x.group) }
+fn group_named(ship: Option<TypeInfo>) -> i32
+    ensures { result ≡ given ship (pos 0) (λ x. x.group) }
 {
     match ship {
-        TypeAnswer::Known(info) => info.group,
-        TypeAnswer::Unknown => 0,
+        Some(info) => info.group,
+        None => 0,
     }
 }
 
@@ -378,12 +376,12 @@ pub fn ship_restricted(
 }
 
 // Whether a type is of a category. One that the catalogue lacks is of none.
-fn is_of(answer: TypeAnswer, category: i32) -> bool
-    ensures { result ≡ given (info_of answer) false (λ x. same x.category category) }
+fn is_of(answer: Option<TypeInfo>, category: i32) -> bool
+    ensures { result ≡ given answer false (λ x. same x.category category) }
 {
     match answer {
-        TypeAnswer::Known(info) => words::same_id(info.category, category),
-        TypeAnswer::Unknown => false,
+        Some(info) => words::same_id(info.category, category),
+        None => false,
     }
 }
 
@@ -460,11 +458,11 @@ pub fn capital_item(
         Wrote out.old n out.new result (Item.capital_item x ps) × (result ≤ n + most_pairs) }
 {
     let of_volume = catalogue::attribute_id(catalogue, names::VOLUME);
-    let AttributeId::Known(volume) = of_volume else {
+    let Some(volume) = of_volume else {
         return n;
     };
     let of_capital = catalogue::attribute_id(catalogue, names::IS_CAPITAL_SIZE);
-    let AttributeId::Known(capital) = of_capital else {
+    let Some(capital) = of_capital else {
         return n;
     };
     if takes_capitals(catalogue, fit, facts, capital) {
@@ -485,7 +483,7 @@ fn marked_under(fit: &[u8], facts: &[u32; 2058], j: usize, code: u64) -> bool
     ensures { result ≡ marked_under (result_of fit.now j) (id_in code) }
 {
     let known = id_in(code);
-    let AttributeId::Known(attribute_id) = known else {
+    let Some(attribute_id) = known else {
         return false;
     };
     fit::amount(fit, facts, j, attribute_id) != 0.0

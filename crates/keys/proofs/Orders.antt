@@ -1,6 +1,6 @@
 -- From an order of neighbours to one of any two, and what a search of ordered keys finds.
 use Rattle.std.proofs.Common.{◌≡◌, ℕ, zero, suc, ◌+◌, ◌-◌, ◌*◌, ◌<◌, ◌≤◌, max, Bool, true, false, cond, not, ◌&&◌, ◌||◌, ltb, ◌⊎◌, List, ℤ, sym, refl, ap, ◌∙◌, subst, ap₂, inl, inr, ⊎_elim, suc-le-suc, zero-le, le_of_suc-le-suc, not-suc-le-zero, eq-or-lt_of_le, add-one, arith, ltb-true, eq-eqb, ne_eqb, leb-true}
-use mathlib.Core.Option.{none, some}
+use Rattle.std.specs.Prelude.{None, Some}
 use lib.Signed.{lt_z, le_z, mag}
 use borrow.Author.Tests.{eqb-false}
 use Rattle.words.specs.Words.{table, in_order, same}
@@ -204,13 +204,13 @@ module _ (keys : List ℕ) where
         between : (a b c : ℕ) → a ≤ b → b ≤ c → c ≡ a → b ≡ a
         between a b c p q s = omega arith
 
-    pub place_found : r < n → rank_of (key_at keys r) ≡ rank_of id → some r ≡ place_of keys n id
+    pub place_found : r < n → rank_of (key_at keys r) ≡ rank_of id → Some r ≡ place_of keys n id
     unfolding place_of
     place_found h e =
         sym (find_at (λ i. same (key_at keys i) id) n (λ i. i) r h before-differs
         (rank_same (key_at keys r) id (key_range r) range ∙ eq-eqb _ _ e))
 
-    pub place_none : ((k : ℕ) → r ≤ k → k < n → rank_of id < rank_of (key_at keys k)) → none ≡ place_of keys n id
+    pub place_none : ((k : ℕ) → r ≤ k → k < n → rank_of id < rank_of (key_at keys k)) → None ≡ place_of keys n id
     unfolding place_of
     place_none f =
         sym (find_none (λ i. same (key_at keys i) id) n (λ i. i) (λ k h.

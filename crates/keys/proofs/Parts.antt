@@ -1,6 +1,6 @@
 -- Keys in a part of a slice, which are those of the whole from that place on; and where a key can stand.
 use Rattle.std.proofs.Common.{◌≡◌, ℕ, ◌+◌, ◌*◌, ◌<◌, ◌≤◌, List, length, take, drop, ℤ, sym, ap, ◌∙◌, subst, ap₂, arith, length-drop, length-take}
-use mathlib.Core.Option.{some}
+use Rattle.std.specs.Prelude.{Some}
 use Rattle.words.specs.Words.{table, same}
 use Rattle.words.proofs.Tables.{table_same, find-below}
 use Rattle.image.specs.Bytes.{i32_at}
@@ -18,7 +18,7 @@ module _ (b : List ℕ) (at n : ℕ) where
   part-keys = table_same n _ _ part-key
 
 -- an id stands at one of the n places
-pub place-below : (keys : List ℕ) (n : ℕ) (id : ℤ) (i : ℕ) → place_of keys n id ≡ some i → i < n
+pub place-below : (keys : List ℕ) (n : ℕ) (id : ℤ) (i : ℕ) → place_of keys n id ≡ Some i → i < n
 unfolding place_of
 place-below keys n id i e = find-below (λ k. same (key_at keys k) id) n i e
 

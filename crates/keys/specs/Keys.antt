@@ -1,10 +1,8 @@
 -- Keys: signed numbers of 32 bits, one behind the other in a slice. Document 01, "Records": all keys stand together, before all values.
 use Rattle.std.specs.Prelude.{ℕ, ◌+◌, ◌-◌, ◌*◌, ◌%◌, ◌<◌, ◌≤◌, Bool, cond, List, ℤ, pos, negsuc, nat_le, nat_lt}
-use Rattle.std.proofs.Math.Option.{Option, none, some}
+use Rattle.std.specs.Prelude.{Option, None, Some}
 use Rattle.words.specs.Words.{find, from, same}
 use Rattle.image.specs.Bytes.{i32_at}
-use Rattle.keys.specs.declared.Found.{Found}
-use Rattle.keys.specs.declared.Found.TheVariants.{At, Nothing}
 
 -- key i
 abbrev pub key_at : List ℕ → ℕ → ℤ
@@ -28,11 +26,6 @@ pub record Parts (keys : List ℕ) (n : ℕ) (id : ℤ) (r : ℕ) : Type 0 where
 -- where an id stands first among the first n keys
 unfoldable pub place_of : List ℕ → ℕ → ℤ → Option ℕ
 place_of keys n id = find (λ i. same (key_at keys i) id) (from 0 n)
-
--- what the answer of a search says
-abbrev pub found_of : Found → Option ℕ
-found_of (At i) = some i
-found_of Nothing = none
 
 -- the bias by which bits stand in the order of the signed numbers
 abbrev pub sign : ℕ

@@ -5,14 +5,7 @@ ghost use Rattle.std.specs.Prelude.{◌≡◌, ◌+◌, ◌-◌, ◌*◌, ◌<�
 ghost use Rattle.std.specs.Prelude.{◌||◌, ltb, length, if◌then◌else◌, ◌==◌, int_le, int_lt, nat_le, nat_lt};
 ghost use Rattle.words.specs.Words.{table, in_order};
 ghost use Rattle.image.specs.Bytes.{u32_at};
-ghost use Rattle.keys.specs.Keys.{key_at, rank_of, Sorted, Parts, place_of, found_of, sign, biased, stands};
-
-// A place in a slice, or none.
-#[derive(Clone, Copy)]
-pub enum Found {
-    At(usize),
-    Nothing,
-}
+ghost use Rattle.keys.specs.Keys.{key_at, rank_of, Sorted, Parts, place_of, sign, biased, stands};
 
 // A place for each of four ids.
 #[derive(Clone, Copy)]
@@ -258,25 +251,25 @@ pub fn first_near(keys: &[u8], n: usize, id: i32, guess: usize) -> usize
 }
 
 // Where an id stands first among the n keys, given how many of them are under it.
-pub fn place_at(keys: &[u8], n: usize, id: i32, at: usize) -> Found
+pub fn place_at(keys: &[u8], n: usize, id: i32, at: usize) -> Option<usize>
     requires { (4 * n ≤ length keys.now) × Sorted keys.now n × Parts keys.now n id at }
-    ensures { found_of result ≡ place_of keys.now n id }
+    ensures { result ≡ place_of keys.now n id }
 {
     if n <= at {
-        return Found::Nothing;
+        return None;
     }
     let x = rank_at(keys, at);
     let key = rank(id);
     if x == key {
-        return Found::At(at);
+        return Some(at);
     }
-    Found::Nothing
+    None
 }
 
 // Where an id stands first among the n keys, which never descend.
-pub fn place_of(keys: &[u8], n: usize, id: i32) -> Found
+pub fn place_of(keys: &[u8], n: usize, id: i32) -> Option<usize>
     requires { (4 * n ≤ length keys.now) × Sorted keys.now n }
-    ensures { found_of result ≡ place_of keys.now n id }
+    ensures { result ≡ place_of keys.now n id }
 {
     place_at(keys, n, id, first_from(keys, n, id))
 }

@@ -8,7 +8,6 @@ ghost use Rattle.numbers.specs.Sizes.{most_pairs};
 ghost use Rattle.profile.specs.Profile.{is_ban, prices_of, points_of};
 ghost use Rattle.profile.specs.Sound as Profile;
 ghost use Rattle.profile.specs.Sound.{Fair};
-ghost use Rattle.catalogue.specs.Answers.{info_of};
 ghost use Rattle.fit.specs.Sound as Fit;
 ghost use Rattle.entry.specs.declared.Rule.TheVariants.{Banned};
 ghost use Rattle.entry.specs.Entries.{on_item};
@@ -17,17 +16,17 @@ ghost use Rattle.context.specs.Context.{is_fitted};
 ghost use Rattle.context.specs.Gathered.{pair_count, pair_at, pairs_of, Gathered};
 ghost use Rattle.league.specs.League.{banned, points, league};
 
-use catalogue::TypeAnswer;
+use catalogue::TypeInfo;
 use entry::{Entry, Rule, Target};
 use numbers::sizes;
 
 // The group by which a profile bans and prices a type. It lists those that the catalogue lacks under 0.
-fn group_priced(answer: TypeAnswer) -> i32
-    ensures { result ≡ given (info_of answer) (pos 0) (λ x. x.group) }
+fn group_priced(answer: Option<TypeInfo>) -> i32
+    ensures { result ≡ given answer (pos 0) (λ x. x.group) }
 {
     match answer {
-        TypeAnswer::Known(info) => info.group,
-        TypeAnswer::Unknown => 0,
+        Some(info) => info.group,
+        None => 0,
     }
 }
 

@@ -8,7 +8,7 @@ use mathlib.Core.Path.{◌≡◌, refl, sym, ap, subst, ◌∙◌}
 use mathlib.Core.Bool.{Bool, true, false, cond, ◌&&◌}
 use mathlib.Core.List.{List, map}
 use mathlib.Core.Logic.{⊎_elim}
-use mathlib.Core.Option.{Option, none, some}
+use Rattle.std.specs.Prelude.{Option, None, Some}
 use lib.Dec.{ltb, leb, leb-suc-zero, leb-suc-suc}
 use lib.Ieee.{Float}
 use lib.ListN.{length, get_or, set}
@@ -60,15 +60,15 @@ limited o fitted used e = do
   when_above fitted used (to_u 32 allowed) λ u. e u (to_u 32 allowed)
 
 module _ (o : Option Float) (fitted : Bool) (used : ℕ) (e : ℕ → ℕ → Entry) where
-  limited-missing : {b : List ℕ} {n : ℕ} → o ≡ none → Wrote b n b n (limited o fitted used e)
+  limited-missing : {b : List ℕ} {n : ℕ} → o ≡ None → Wrote b n b n (limited o fitted used e)
   unfolding limited
   limited-missing h = wrote-bind_none _ h
 
-  limited-unfitted : {b : List ℕ} {n : ℕ} {v : Float} → o ≡ some v → fitted ≡ false → Wrote b n b n (limited o fitted used e)
+  limited-unfitted : {b : List ℕ} {n : ℕ} {v : Float} → o ≡ Some v → fitted ≡ false → Wrote b n b n (limited o fitted used e)
   unfolding limited when_above
   limited-unfitted {b} {n} {v} h f = wrote-bind _ h (wrote-unless (e used (to_u 32 v)) (rw f))
 
-  limited-fitted : {b a : List ℕ} {n k : ℕ} {v : Float} → o ≡ some v → fitted ≡ true
+  limited-fitted : {b a : List ℕ} {n k : ℕ} {v : Float} → o ≡ Some v → fitted ≡ true
       → Wrote b n a k (when (ltb (to_u 32 v) used) (e used (to_u 32 v))) → Wrote b n a k (limited o fitted used e)
   unfolding limited when_above
   limited-fitted h f w = wrote-bind _ h (rw f w)
@@ -82,16 +82,16 @@ module _ (limit lowest : ℕ) (id : Id) (ps : List Pair) (p : Pair) where
   abbrev max-group : ℕ → ℕ → Entry
   max-group used allowed = on p (MaxGroup p.group limit used allowed)
 
-  pub group-missing : {b : List ℕ} {n : ℕ} → value p.result id ≡ none → Wrote b n b n (group_limit_at limit lowest id ps p)
+  pub group-missing : {b : List ℕ} {n : ℕ} → value p.result id ≡ None → Wrote b n b n (group_limit_at limit lowest id ps p)
   unfolding group_limit_at limited
   group-missing = limited-missing (value p.result id) (is_fitted p) (count_of (in_group p.group lowest) ps) max-group
 
-  pub group-unfitted : {b : List ℕ} {n : ℕ} {v : Float} → value p.result id ≡ some v → is_fitted p ≡ false
+  pub group-unfitted : {b : List ℕ} {n : ℕ} {v : Float} → value p.result id ≡ Some v → is_fitted p ≡ false
       → Wrote b n b n (group_limit_at limit lowest id ps p)
   unfolding group_limit_at limited
   group-unfitted = limited-unfitted (value p.result id) (is_fitted p) (count_of (in_group p.group lowest) ps) max-group
 
-  pub group-fitted : {b a : List ℕ} {n k : ℕ} {v : Float} {group : Id} {used allowed : ℕ} → value p.result id ≡ some v → is_fitted p ≡ true
+  pub group-fitted : {b a : List ℕ} {n k : ℕ} {v : Float} {group : Id} {used allowed : ℕ} → value p.result id ≡ Some v → is_fitted p ≡ true
       → group ≡ p.group → used ≡ count_of (in_group p.group lowest) ps → allowed ≡ to_u 32 v
       → Wrote b n a k (when (ltb allowed used) (on p (MaxGroup group limit used allowed))) → Wrote b n a k (group_limit_at limit lowest id ps p)
   unfolding group_limit_at limited
@@ -103,11 +103,11 @@ module _ (limit lowest : ℕ) (id : Id) (ps : List Pair) (p : Pair) where
   group-few = limited-few (value p.result id) (is_fitted p) (count_of (in_group p.group lowest) ps) max-group
 
 module _ (x : Context) (ps : List Pair) (g : ℕ × ℕ × ℕ) where
-  pub group-no_name : {b : List ℕ} {n : ℕ} → name_id x.names g.2 ≡ none → Wrote b n b n (group_limit x ps g)
+  pub group-no_name : {b : List ℕ} {n : ℕ} → name_id x.names g.2 ≡ None → Wrote b n b n (group_limit x ps g)
   unfolding group_limit
   group-no_name e = wrote-bind_none _ e
 
-  pub group-each : {b a : List ℕ} {n k : ℕ} (id : Id) → name_id x.names g.2 ≡ some id
+  pub group-each : {b a : List ℕ} {n k : ℕ} (id : Id) → name_id x.names g.2 ≡ Some id
       → Wrote b n a k (each ps (group_limit_at g.0 g.1 id ps)) → Wrote b n a k (group_limit x ps g)
   unfolding group_limit
   group-each id e w = wrote-bind _ e w
@@ -122,15 +122,15 @@ module _ (id : Id) (ps : List Pair) (p : Pair) where
   abbrev max-type : ℕ → ℕ → Entry
   max-type used allowed = on p (MaxType p.type used allowed)
 
-  pub type-missing : {b : List ℕ} {n : ℕ} → value p.result id ≡ none → Wrote b n b n (type_limit_at id ps p)
+  pub type-missing : {b : List ℕ} {n : ℕ} → value p.result id ≡ None → Wrote b n b n (type_limit_at id ps p)
   unfolding type_limit_at limited
   type-missing = limited-missing (value p.result id) (is_fitted p) (count_of (of_type p.type) ps) max-type
 
-  pub type-unfitted : {b : List ℕ} {n : ℕ} {v : Float} → value p.result id ≡ some v → is_fitted p ≡ false → Wrote b n b n (type_limit_at id ps p)
+  pub type-unfitted : {b : List ℕ} {n : ℕ} {v : Float} → value p.result id ≡ Some v → is_fitted p ≡ false → Wrote b n b n (type_limit_at id ps p)
   unfolding type_limit_at limited
   type-unfitted = limited-unfitted (value p.result id) (is_fitted p) (count_of (of_type p.type) ps) max-type
 
-  pub type-fitted : {b a : List ℕ} {n k : ℕ} {v : Float} {type : Id} {used allowed : ℕ} → value p.result id ≡ some v → is_fitted p ≡ true
+  pub type-fitted : {b a : List ℕ} {n k : ℕ} {v : Float} {type : Id} {used allowed : ℕ} → value p.result id ≡ Some v → is_fitted p ≡ true
       → type ≡ p.type → used ≡ count_of (of_type p.type) ps → allowed ≡ to_u 32 v
       → Wrote b n a k (when (ltb allowed used) (on p (MaxType type used allowed))) → Wrote b n a k (type_limit_at id ps p)
   unfolding type_limit_at limited
@@ -141,11 +141,11 @@ module _ (id : Id) (ps : List Pair) (p : Pair) where
   type-few = limited-few (value p.result id) (is_fitted p) (count_of (of_type p.type) ps) max-type
 
 module _ (x : Context) (ps : List Pair) where
-  pub type-no_name : {b : List ℕ} {n : ℕ} → name_id x.names Names.max_type_fitted ≡ none → Wrote b n b n (type_limit x ps)
+  pub type-no_name : {b : List ℕ} {n : ℕ} → name_id x.names Names.max_type_fitted ≡ None → Wrote b n b n (type_limit x ps)
   unfolding type_limit
   type-no_name e = wrote-bind_none _ e
 
-  pub type-each : {b a : List ℕ} {n k : ℕ} (id : Id) → name_id x.names Names.max_type_fitted ≡ some id
+  pub type-each : {b a : List ℕ} {n k : ℕ} (id : Id) → name_id x.names Names.max_type_fitted ≡ Some id
       → Wrote b n a k (each ps (type_limit_at id ps)) → Wrote b n a k (type_limit x ps)
   unfolding type_limit
   type-each id e w = wrote-bind _ e w

@@ -4,7 +4,6 @@
 ghost use Rattle.std.specs.Prelude.{◌≡◌, List, ℕ, ◌+◌, ◌*◌, ◌<◌, ◌≤◌, pos};
 ghost use Rattle.words.specs.Words.{count_of, given};
 ghost use Rattle.numbers.specs.Sizes.{most_pairs};
-ghost use Rattle.catalogue.specs.Answers.{info_of};
 ghost use Rattle.fit.specs.Sound as Fit;
 ghost use Rattle.fit.specs.Sound.{Starts};
 ghost use Rattle.entry.specs.Wrote.{Room, Wrote};
@@ -13,9 +12,8 @@ ghost use Rattle.limits.specs.Groups.{Groups, States, state_of};
 ghost use Rattle.limits.specs.Limits.{row_at, in_group, group_limit_at, group_limit, group_limits};
 ghost use Rattle.limits.specs.Limits.{of_type, type_limit_at, type_limit, limit_rules};
 
-use catalogue::{AttributeId, TypeAnswer};
+use catalogue::TypeInfo;
 use entry::{Entry, Rule, Target};
-use floats::Value;
 use numbers::{limits, names, states};
 
 // A group limit, the lowest state that it counts, and its attribute.
@@ -53,12 +51,12 @@ struct Limit {
 }
 
 // The group that a type is counted in and that an entry shows. Those that the catalogue lacks are counted in 0.
-fn group_counted(answer: TypeAnswer) -> i32
-    ensures { result ≡ given (info_of answer) (pos 0) (λ x. x.group) }
+fn group_counted(answer: Option<TypeInfo>) -> i32
+    ensures { result ≡ given answer (pos 0) (λ x. x.group) }
 {
     match answer {
-        TypeAnswer::Known(info) => info.group,
-        TypeAnswer::Unknown => 0,
+        Some(info) => info.group,
+        None => 0,
     }
 }
 
@@ -165,7 +163,7 @@ fn group_limit_at(
         Wrote out.old n out.new result (group_limit_at limit.limit limit.lowest limit.id ps p) }
 {
     let answer = fit::value(fit, facts, i + 2, limit.id);
-    let Value::Given(value) = answer else {
+    let Some(value) = answer else {
         return n;
     };
     if !context::is_fitted_at(fit, i) {
@@ -203,7 +201,7 @@ fn group_limit(
 {
     let row = GROUP_LIMITS[k];
     let answer = catalogue::attribute_id(catalogue, row.name);
-    let AttributeId::Known(id) = answer else {
+    let Some(id) = answer else {
         return n;
     };
     let count = fit::pair_count(fit);
@@ -282,7 +280,7 @@ fn type_limit_at(
         ((catalogue : List ℕ) → Wrote before n after result (type_limit_at id (pairs_of catalogue f) (pair_at catalogue f i))) }
 {
     let answer = fit::value(fit, facts, i + 2, id);
-    let Value::Given(value) = answer else {
+    let Some(value) = answer else {
         return n;
     };
     if !context::is_fitted_at(fit, i) {
@@ -315,7 +313,7 @@ pub fn type_limit(
         Wrote out.old n out.new result (type_limit x ps) × (result ≤ n + most_pairs) }
 {
     let answer = catalogue::attribute_id(catalogue, names::MAX_TYPE_FITTED);
-    let AttributeId::Known(id) = answer else {
+    let Some(id) = answer else {
         return n;
     };
     let count = fit::pair_count(fit);

@@ -42,6 +42,6 @@ module _ (catalogue fit : List ℕ) (clear : is_empty (list_of (catalogue_of cat
       let es = list_of (catalogue_of catalogue) (fit_of fit) in
       let us = unknown_types (catalogue_of catalogue) (pairs_of catalogue fit) in
       let ls = league_of main (pairs_of catalogue fit) in
-      let none : length ls ≡ 0 = ap length (no_league 0 (pairs_of catalogue fit)) in
+      let None : length ls ≡ 0 = ap length (no_league 0 (pairs_of catalogue fit)) in
       rw (sym (whole_on_hull catalogue fit main on-a_hull))
-      (omega (arith, length-append (es ++ ls) us, length-append es ls, none, empty-length es clear))
+      (omega (arith, length-append (es ++ ls) us, length-append es ls, None, empty-length es clear))

@@ -5,7 +5,7 @@ use native.Mathlib.Omega.{arith}
 use mathlib.Core.Path.{◌≡◌}
 use mathlib.Core.Bool.{Bool, true, false, not, cond}
 use mathlib.Core.List.{List, [], ◌∷◌, ◌++◌}
-use mathlib.Core.Option.{Option, none, some}
+use Rattle.std.specs.Prelude.{Option, None, Some}
 use lib.Dec.{T, eqb}
 use lib.ListN.{length, length-append}
 use Rattle.words.specs.Words.{◌>>=◌, each, when, when_any, when_above, unless, only, count_of, given}
@@ -63,8 +63,8 @@ module _ {A : Type 0} where
     pub few-given : (o : Option I) (t : I → Bool) → T (not (given o false t)) → {n : ℕ} {f : I → List A} → ((x : I) → T (not (t x)) → Few n (f x))
         → Few n (◌>>=◌ o f)
     unfolding ◌>>=◌ given
-    few-given none t k h = record { most = zero-le }
-    few-given (some x) t k h = h x k
+    few-given None t k h = record { most = zero-le }
+    few-given (Some x) t k h = h x k
 
     pub few-each : (l : List I) {n : ℕ} {f : I → List A} → ((x : I) → Few n (f x)) → Few (n * length l) (each l f)
     few-each l {n} {f} h = record { most = Lengths.few-each f n (λ x. (h x).most) l }

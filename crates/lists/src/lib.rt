@@ -16,7 +16,6 @@ ghost use Rattle.lists.specs.Terms.{Terms, terms, read_by, main};
 ghost use Rattle.lists.specs.Unknown.{unknown_type_at, unknown_types};
 ghost use Rattle.lists.specs.Lists.{for_reader, whole_list, list_for, most_entries};
 
-use catalogue::TypeAnswer;
 use entry::{Entry, Rule, Target};
 use numbers::{readers, sizes};
 
@@ -48,8 +47,8 @@ fn unknown_type_at(
     let id = fit::item_type(fit, i);
     let answer = context::type_at(catalogue, fit, facts, i);
     match answer {
-        TypeAnswer::Known(info) => n,
-        TypeAnswer::Unknown => entry::emit(
+        Some(info) => n,
+        None => entry::emit(
             out,
             n,
             Entry {

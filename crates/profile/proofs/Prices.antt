@@ -6,7 +6,7 @@ use mathlib.Core.Bool.{Bool, true, false, not, ◌&&◌, ◌||◌, true≢false}
 use mathlib.Core.Logic.{inl, inr}
 use lib.Dec.{ltb}
 use mathlib.Core.List.{List, []}
-use mathlib.Core.Option.{Option, none, some}
+use Rattle.std.specs.Prelude.{Option, None, Some}
 use lib.IntN.{ℤ}
 use lib.Signed.{lt_z}
 use lib.ListN.{length, take, drop}
@@ -79,12 +79,12 @@ module _ (b : List ℕ) where
       is x = same x.group group
 
   module _ (group : ℤ) where
-    pub points-given : (i : ℕ) → place_of groups (group_count b) group ≡ some i
+    pub points-given : (i : ℕ) → place_of groups (group_count b) group ≡ Some i
         → points_of (prices_of b) group ≡ u32_at b (points_at b + 4 * i)
     unfolding given
     points-given i e = points-found group ∙ ap points_for e
 
-    pub points-missing : place_of groups (group_count b) group ≡ none → points_of (prices_of b) group ≡ 0
+    pub points-missing : place_of groups (group_count b) group ≡ None → points_of (prices_of b) group ≡ 0
     unfolding given
     points-missing e = points-found group ∙ ap points_for e
 
@@ -107,8 +107,8 @@ module _ (b : List ℕ) where
   points-fair s group = go (place_of groups (group_count b) group) refl
     where
       go : (o : Option ℕ) → place_of groups (group_count b) group ≡ o → Fair (points_of (prices_of b) group)
-      go none e = inl (omega (arith, points-missing group e))
-      go (some i) e =
+      go None e = inl (omega (arith, points-missing group e))
+      go (Some i) e =
           let f : ℕ → ℕ = λ j. u32_at b (points_at b + 4 * j) in
           let cheap = or_right (not ordered) dear (sym prices-parts ∙ s.prices) in
           let below = place-below groups (group_count b) group i e in

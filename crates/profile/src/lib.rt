@@ -7,7 +7,6 @@ ghost use Rattle.image.specs.Bytes.{u32_at};
 ghost use Rattle.profile.specs.Profile.{group_count, points_at, prices_of, too_dear, bad_profile, bad_prices, profile_refusal, points_of};
 ghost use Rattle.profile.specs.Sound.{Sized, Sound};
 
-use keys::Found;
 use numbers::{refusals, sizes};
 
 // 11: over 4,096 groups, or a length unlike its size.
@@ -102,7 +101,7 @@ pub fn points_of(profile: &[u8], group: i32) -> u32
     let groups = image::part(profile, 4, 4 * n);
     let found = keys::place_of(groups, n, group);
     match found {
-        Found::At(i) => image::u32_at(profile, 4 + 4 * n + 4 * i),
-        Found::Nothing => 0,
+        Some(i) => image::u32_at(profile, 4 + 4 * n + 4 * i),
+        None => 0,
     }
 }

@@ -4,8 +4,10 @@ use native.Mathlib.Nat.{le_of_suc-le-suc, not-suc-le-zero}
 use native.Mathlib.Omega.{arith}
 use mathlib.Core.Path.{◌≡◌, refl, ap, ◌∙◌}
 use mathlib.Core.List.{List, [], ◌∷◌, ◌++◌}
-use mathlib.Core.Option.{some, some-injective}
-use lib.ListN.{length, get_or, drop, get_elem?, length-append, length-drop}
+use Rattle.std.proofs.lemmas.Option.{same_Some}
+use Rattle.std.specs.Prelude.{Some}
+use lib.ListN.{length, get_or, drop, length-append, length-drop}
+use Rattle.std.specs.Prelude.{slice_get}
 use lib.Seq.{get_or-append-add, get_or-drop}
 use Rattle.words.specs.Words.{each, first_of}
 use Rattle.entry.specs.declared.Entry.{Entry}
@@ -17,12 +19,12 @@ use Rattle.promises.proofs.Conditions.{is_none, word-refused, word-answered, wor
 use Rattle.promises.proofs.Entries.{entry_at, entries-length}
 
 -- ---- an element by its place
-pub elem_at : {A : Type 0} (l : List A) (i : ℕ) (x : A) → get_elem? l i ≡ some x → (i < length l) × (get_or l i x ≡ x)
+pub elem_at : {A : Type 0} (l : List A) (i : ℕ) (x : A) → slice_get l i ≡ Some x → (i < length l) × (get_or l i x ≡ x)
 elem_at [] i x e = absurd (let z : ◌≡◌ {A = ℕ} 0 1 = cc in omega arith)
-elem_at (y ∷ l) zero x e = (suc-le-suc zero-le, some-injective y x e)
+elem_at (y ∷ l) zero x e = (suc-le-suc zero-le, same_Some y x e)
 elem_at (y ∷ l) (suc i) x e = let h = elem_at l i x e in (suc-le-suc h.0, h.1)
 
-pub elem_of : {A : Type 0} (d : A) (l : List A) (i : ℕ) → i < length l → get_elem? l i ≡ some (get_or l i d)
+pub elem_of : {A : Type 0} (d : A) (l : List A) (i : ℕ) → i < length l → slice_get l i ≡ Some (get_or l i d)
 elem_of d [] i h = absurd (not-suc-le-zero h)
 elem_of d (x ∷ l) zero h = refl
 elem_of d (x ∷ l) (suc i) h = elem_of d l i (le_of_suc-le-suc h)

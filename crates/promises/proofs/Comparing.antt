@@ -6,7 +6,8 @@ use mathlib.Core.Path.{◌≡◌, refl, sym, ap, ap₂, ◌∙◌, subst, subst�
 use mathlib.Core.Bool.{Bool, true, false, cond}
 use mathlib.Core.List.{List, [], ◌∷◌, ◌++◌}
 use lib.Dec.{ltb→lt, lt→ltb}
-use lib.ListN.{length, get_or, drop, get_elem?}
+use lib.ListN.{length, get_or, drop}
+use Rattle.std.specs.Prelude.{slice_get}
 use Rattle.words.specs.Words.{same}
 use Rattle.image.specs.Bytes.{u32_at}
 use Rattle.catalogue.specs.Catalogue.{Id, Catalogue, catalogue_of}
@@ -97,7 +98,7 @@ trained-lower (i ∷ is) (l ∷ ls) (m ∷ ms) h t = go (same i t) (trained-lowe
     go true k = h 0
     go false k = k
 
-get_append : {A : Type 0} (l m : List A) (n : ℕ) → n < length l → get_elem? (l ++ m) n ≡ get_elem? l n
+get_append : {A : Type 0} (l m : List A) (n : ℕ) → n < length l → slice_get (l ++ m) n ≡ slice_get l n
 get_append [] m n h = absurd (not-suc-le-zero h)
 get_append (x ∷ l) m zero h = refl
 get_append (x ∷ l) m (suc n) h = get_append l m n (le_of_suc-le-suc h)
@@ -108,7 +109,7 @@ module _ (old new : Fit) (g : Grown old new) where
 
   pub same-result : (n : ℕ) → n ≤ length old.results + 1 → result_at new n ≡ result_at old n
   unfolding result_at
-  same-result n h = ap (λ (l : List Result). get_elem? l n) all_results_lem ∙ get_append (all_results old) _ n (omega arith)
+  same-result n h = ap (λ (l : List Result). slice_get l n) all_results_lem ∙ get_append (all_results old) _ n (omega arith)
 
   skills-grow : (c : Catalogue) (n : ℕ) → n ≤ length old.results + 1 → Within (skill_list c old n) (skill_list c new n)
   unfolding skill_list entry_of

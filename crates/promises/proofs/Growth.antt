@@ -6,7 +6,7 @@ use mathlib.Core.Path.{◌≡◌, refl, sym, ap, ap₂, ◌∙◌, subst}
 use mathlib.Core.Bool.{Bool, true, false, not, ◌||◌, cond}
 use mathlib.Core.List.Memᴰ
 use mathlib.Core.List.{List, [], ◌∷◌, ◌++◌, Memᴰ}
-use mathlib.Core.Option.{Option, none, some}
+use Rattle.std.specs.Prelude.{Option, None, Some}
 use lib.Dec.{T, eqb, eqb→eq}
 use lib.ListN.{length, take, drop, take-append-drop}
 use lib.Ieee.{Float, le, fits}
@@ -235,8 +235,8 @@ allowed_volume c t h = go (type_of c t) h
 
     go : (o : Option TypeData) → T (given o true λ x. eqb x.volume_flag 0 || is_volume x.volume)
         → T (is_volume (given o zero_f λ x. cond (eqb x.volume_flag 0) zero_f x.volume))
-    go none k = volume-zero
-    go (some x) k = flag (eqb x.volume_flag 0) x.volume k
+    go None k = volume-zero
+    go (Some x) k = flag (eqb x.volume_flag 0) x.volume k
 
 -- a list that begins with another is that one and what is behind it
 pub begins : {A : Type 0} (l m : List A) → take (length l) m ≡ l → m ≡ l ++ drop (length l) m

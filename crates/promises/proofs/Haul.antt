@@ -3,7 +3,7 @@ use Prim.Native.Nat.{ℕ}
 use mathlib.Core.Path.{◌≡◌, refl, sym, ap, ap₂, ◌∙◌, subst}
 use mathlib.Core.Bool.{Bool, true, false, not, ◌&&◌, ◌||◌, cond}
 use mathlib.Core.List.{List, [], ◌∷◌, ◌++◌, append-nil}
-use mathlib.Core.Option.{Option, none, some}
+use Rattle.std.specs.Prelude.{Option, None, Some}
 use lib.Dec.{T, eqb, leb, ltb, eqb→eq}
 use lib.ListN.{length}
 use lib.Ieee.{Float}
@@ -71,13 +71,13 @@ module _ {A : Type 0} where
 
     bind_no : (o : Option A) (f : A → List B) → ((x : A) → f x ≡ []) → (◌>>=◌ o f) ≡ []
     unfolding ◌>>=◌
-    bind_no none f h = refl
-    bind_no (some x) f h = h x
+    bind_no None f h = refl
+    bind_no (Some x) f h = h x
 
     pub bind_same : (o : Option A) (f g : A → List B) → ((x : A) → f x ≡ g x) → (◌>>=◌ o f) ≡ (◌>>=◌ o g)
     unfolding ◌>>=◌
-    bind_same none f g h = refl
-    bind_same (some x) f g h = h x
+    bind_same None f g h = refl
+    bind_same (Some x) f g h = h x
 
   pub when-no : (b : Bool) (e : A) → b ≡ false → when b e ≡ []
   unfolding when
@@ -145,9 +145,9 @@ module _ (p : Pair) (h : Held p) where
   unfolding holds_one is_in
   not-one = ap (λ (n : ℕ). not (eqb n Slots.drone_bay || eqb n Slots.fighter_bay || eqb n Slots.cargo)) h
 
-  no_number : slot_number_name p ≡ none
+  no_number : slot_number_name p ≡ None
   unfolding slot_number_name
-  no_number = ap₂ (λ (a b : Bool). cond a (some Names.implantness) (cond b (some Names.boosterness) none)) (not_in Slots.implant refl) (not_in Slots.booster refl)
+  no_number = ap₂ (λ (a b : Bool). cond a (Some Names.implantness) (cond b (Some Names.boosterness) None)) (not_in Slots.implant refl) (not_in Slots.booster refl)
 
 module _ (x : Context) (ps added : List Pair) (held : All Held added) where
   abbrev qs : List Pair

@@ -6,12 +6,13 @@ use native.Mathlib.Omega.{arith}
 use mathlib.Core.Path.{◌≡◌, refl, sym, ap, ap₂, ◌∙◌, subst}
 use mathlib.Core.Bool.{Bool, true, false, not, ◌&&◌, ◌||◌, cond}
 use mathlib.Core.List.{List, [], ◌∷◌, ◌++◌, foldl, foldl-append, append-nil}
-use mathlib.Core.Option.{Option, none, some}
+use Rattle.std.specs.Prelude.{Option, None, Some}
 use mathlib.Core.Logic.{⊎_elim}
 use lib.Dec.{T, eqb, ltb}
 use lib.IntN.{pos}
 use lib.Ieee.{Float}
-use lib.ListN.{length, replicate, length-append, length-replicate, get_or, get_elem?}
+use lib.ListN.{length, replicate, length-append, length-replicate, get_or}
+use Rattle.std.specs.Prelude.{slice_get}
 use borrow.Author.Tests.{ne_eqb, lt-ltb, le-ltb}
 use Rattle.words.specs.Words.{◌>>=◌, each, find, given, sum_of, first_of, table_from, table, from, same}
 use Rattle.words.proofs.Tables.{length-table, get_or-table, table_more, map-table}
@@ -41,12 +42,12 @@ abbrev of : ℕ → Id → Base → Bool
 of i a x = same x.type (pos i) && same x.attribute a
 
 -- none of the types from j on is an earlier one, or a later one than those
-find-before : (i : ℕ) (a : Id) (j n : ℕ) → i < j → find (of i a) (each (from j n) step) ≡ none
+find-before : (i : ℕ) (a : Id) (j n : ℕ) → i < j → find (of i a) (each (from j n) step) ≡ None
 unfolding find each table_from same
 find-before i a j zero h = refl
 find-before i a j (suc n) h = rw (ne_eqb j i (λ e. omega arith)) (find-before i a (suc j) n (omega arith))
 
-find-behind : (i : ℕ) (a : Id) (j n : ℕ) → j + n ≤ i → find (of i a) (each (from j n) step) ≡ none
+find-behind : (i : ℕ) (a : Id) (j n : ℕ) → j + n ≤ i → find (of i a) (each (from j n) step) ≡ None
 unfolding find each table_from same
 find-behind i a j zero h = refl
 find-behind i a j (suc n) h = rw (ne_eqb j i (λ e. omega arith)) (find-behind i a (suc j) n (omega arith))
@@ -62,7 +63,7 @@ find-own i a j (suc n) h k =
     ⊎_elim
     (λ (q : j ≡ i).
     ap (λ (m : ℕ). find (of i a) (each (from m (suc n)) step)) q
-    ∙ ap (λ (o : Option Base). cond (of i a (skill i)) (some (skill i)) (cond (of i a (level i)) (some (level i)) o))
+    ∙ ap (λ (o : Option Base). cond (of i a (skill i)) (Some (skill i)) (cond (of i a (level i)) (Some (level i)) o))
     (find-before i a (suc i) n (omega arith)))
     (λ (q : j < i). rw (ne_eqb j i (λ e. omega arith)) (find-own i a (suc j) n q (omega arith)))
     (eq-or-lt_of_le h)
@@ -79,14 +80,14 @@ unfolding of_skill demands required base_value
 own_demands n i h = ap (λ (look : Id → Option Float). demands (tree []) look) λ k a. values a k
   where
     values : (a : Id) → base_value (chain n) (pos i) a ≡ base_value (tree (step i)) (pos i) a
-    values a = ap (λ (o : Option Base). given o none (λ x. some x.value)) (find-own i a 0 (n - 1) (omega arith) (omega arith))
+    values a = ap (λ (o : Option Base). given o None (λ x. Some x.value)) (find-own i a 0 (n - 1) (omega arith) (omega arith))
 
 last-demands : (n : ℕ) → of_skill (chain n) (pos (n - 1)) ≡ []
 unfolding opened
 last-demands n = ap (λ (look : Id → Option Float). demands (tree []) look) λ k a. values a k
   where
-    values : (a : Id) → base_value (chain n) (pos (n - 1)) a ≡ none
-    values a = ap (λ (o : Option Base). given o none (λ x. some x.value)) (find-behind (n - 1) a 0 (n - 1) (omega arith))
+    values : (a : Id) → base_value (chain n) (pos (n - 1)) a ≡ None
+    values a = ap (λ (o : Option Base). given o None (λ x. Some x.value)) (find-behind (n - 1) a 0 (n - 1) (omega arith))
 
 -- skill i at level 1
 abbrev wanted : ℕ → Demand
@@ -124,10 +125,10 @@ noted-line (suc k) =
     ∙ ap (λ (l : List Demand). note l (wanted k)) (noted-line k)
     ∙ ap (λ (i : ℕ). note (table k wanted) (wanted i)) (sym (zero-add k)) ∙ note-next 0 k
 
-at_line : (k : ℕ) → skill_at (table (suc k) wanted) k ≡ some (pos k)
+at_line : (k : ℕ) → skill_at (table (suc k) wanted) k ≡ Some (pos k)
 unfolding skill_at
 at_line k =
-    ap (λ (l : List Id). get_elem? l k) (map-table (λ (w : Demand). w.0) (suc k) wanted)
+    ap (λ (l : List Id). slice_get l k) (map-table (λ (w : Demand). w.0) (suc k) wanted)
     ∙ elem_table (suc k) (λ i. pos i) k (omega arith)
 
 -- a step: what the skill at the last place demands

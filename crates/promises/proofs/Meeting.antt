@@ -4,10 +4,11 @@ use native.Mathlib.Omega.{arith}
 use mathlib.Core.Path.{◌≡◌, refl, sym, ap, ◌∙◌}
 use mathlib.Core.Bool.{Bool, true, false, not, ◌||◌, cond}
 use mathlib.Core.List.{List, [], ◌∷◌, ◌++◌, foldl, foldl-append, append-nil, append_assoc}
-use mathlib.Core.Option.{Option, none, some}
+use Rattle.std.specs.Prelude.{Option, None, Some}
 use lib.Dec.{T, eqb, nltb→le}
 use lib.IntN.{pos, negsuc}
-use lib.ListN.{length, length-map, take, get_elem?}
+use lib.ListN.{length, length-map, take}
+use Rattle.std.specs.Prelude.{slice_get}
 use lib.Seq.{take_all, take-append-le}
 use borrow.Author.Tests.{eqb-true, eqb-false, eq-eqb, ne_eqb}
 use Rattle.words.specs.Words.{each, any_of, contains, same, given}
@@ -77,7 +78,7 @@ noted_more ds es =
     (h.0, ap ids_of (foldl-append note [] ds es) ∙ fold_ids es (foldl note [] ds) ∙ h.1)
 
 -- past the end
-beyond : {A : Type 0} (l : List A) (n : ℕ) → get_elem? l n ≡ none → length l ≤ n
+beyond : {A : Type 0} (l : List A) (n : ℕ) → slice_get l n ≡ None → length l ≤ n
 beyond [] n e = omega arith
 beyond (x ∷ l) zero e = absurd (let z : ◌≡◌ {A = ℕ} 0 1 = cc in omega arith)
 beyond (x ∷ l) (suc n) e = let h = beyond l n e in omega arith
@@ -91,12 +92,12 @@ module _ (c : Catalogue) (r : Result) where
     where
       go : (o : Option Id) → skill_at (noted (met c r n)) n ≡ o → met c r n ≡ of_result c r ++ each (take n (ids_of (noted (met c r n)))) (of_skill c)
           → met c r n ++ given o [] (of_skill c) ≡ of_result c r ++ each (take (suc n) (ids_of (noted (met c r n ++ given o [] (of_skill c))))) (of_skill c)
-      go none e h =
+      go None e h =
           let ids = ids_of (noted (met c r n)) in
           let l = beyond ids n (unfold skill_at in e) in
           let t : take (suc n) ids ≡ take n ids = take_all (suc n) ids (omega arith) ∙ sym (take_all n ids l) in
           rw append-nil (h ∙ ap (λ (k : List Id). of_result c r ++ each k (of_skill c)) (sym t))
-      go (some t) e h =
+      go (Some t) e h =
           let ids = ids_of (noted (met c r n)) in
           let a = elem_at ids n t (unfold skill_at in e) in
           let m = noted_more (met c r n) (of_skill c t) in

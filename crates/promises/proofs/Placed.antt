@@ -6,7 +6,7 @@ use native.Mathlib.Omega.{arith}
 use mathlib.Core.Path.{◌≡◌, sym, subst}
 use mathlib.Core.Bool.{Bool, true, false, ◌&&◌, ◌||◌, cond}
 use mathlib.Core.List.{List, [], ◌∷◌, ◌++◌}
-use mathlib.Core.Option.{Option, none, some}
+use Rattle.std.specs.Prelude.{Option, None, Some}
 use lib.Dec.{T, ltb, ltb→lt, lt→ltb}
 use lib.ListN.{length, get_or}
 use Rattle.words.specs.Words.{◌>>=◌, each, when, unless, only, count_of, sum_of, any_of}
@@ -104,8 +104,8 @@ module _ {A : Type 0} {K : A → A → Type 0} where
   module _ {I : Type 0} where
     pub placed_bind : (o : Option I) {f g : I → List A} → ((x : I) → Placed K (f x) (g x)) → Placed K (◌>>=◌ o f) (◌>>=◌ o g)
     unfolding ◌>>=◌
-    placed_bind none h = done
-    placed_bind (some x) h = h x
+    placed_bind None h = done
+    placed_bind (Some x) h = h x
 
     pub placed_each : (l : List I) {f g : I → List A} → ((x : I) → Placed K (f x) (g x)) → Placed K (each l f) (each l g)
     unfolding each

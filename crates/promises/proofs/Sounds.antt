@@ -7,7 +7,7 @@ use mathlib.Core.Bool.{Bool, true, false, cond, true≢false}
 use mathlib.Core.Logic.{inl, inr}
 use borrow.Author.Tests.{eq-eqb}
 use mathlib.Core.List.{List, [], ◌∷◌, foldl}
-use mathlib.Core.Option.{Option, none, some}
+use Rattle.std.specs.Prelude.{Option, None as Missing, Some}
 use lib.Dec.{T, eqb, ltb→lt}
 use lib.ListN.{length}
 use lib.Ieee.{Float, binary64, fits}
@@ -163,7 +163,7 @@ unfolding amount value given
 result_fits b j id =
     all-find (λ (o : Option Float). T (fits binary64 (given o zero_f (λ v. v)))) (λ (x : Attribute). same x.id id)
     (all-table {P = λ (x : Attribute). T (fits binary64 x.value)} _ (λ i. f64_at-fits b _) 0 _)
-    none (λ (x : Attribute). some x.value) (unfold fits in tt) (λ x h. h)
+    Missing (λ (x : Attribute). Some x.value) (unfold fits in tt) (λ x h. h)
 
 -- ---- a league's entries
 -- what a pair costs under a profile that is not refused
@@ -240,8 +240,8 @@ noted_small (cons {x = d} h hs) k = noted_small hs (note-small d k h)
 
 given-small : (c : Catalogue) (o : Option Id) → All Small (given o [] (of_skill c))
 unfolding given of_skill
-given-small c none = nil
-given-small c (some t) = demands-small c _
+given-small c Missing = nil
+given-small c (Some t) = demands-small c _
 
 met-small : (c : Catalogue) (r : Result) (n : ℕ) → All Small (met c r n)
 unfolding met of_result

@@ -5,7 +5,7 @@ use native.Mathlib.Omega.{arith}
 use mathlib.Core.Path.{◌≡◌, refl, sym, ap, ap₂, subst, ◌∙◌}
 use mathlib.Core.Bool.{Bool, true, false, not, cond}
 use mathlib.Core.List.{List, [], ◌∷◌, ◌++◌, map}
-use mathlib.Core.Option.{some}
+use Rattle.std.specs.Prelude.{Some}
 use mathlib.Core.Logic.{◌⊎◌, inl, inr, ◌↔◌}
 use lib.Dec.{T, ltb, leb, nltb→le}
 use lib.ListN.{length, take, drop}
@@ -143,7 +143,7 @@ module _ (c : Catalogue) (fit : List ℕ) (result : ℕ) (s : Fit.Sound fit) (be
   abbrev after : ℕ → Training
   after k = steps ws k first
 
-  there : result_at f result ≡ some (result_of fit result)
+  there : result_at f result ≡ Some (result_of fit result)
   there = result-some fit result below
 
   once : Once (ids_in ws)
@@ -161,7 +161,7 @@ module _ (c : Catalogue) (fit : List ℕ) (result : ℕ) (s : Fit.Sound fit) (be
   reached : (k : ℕ) → trained_by c result k f ≡ trained_as f (after k)
   reached k = trained-steps c result k f (result_of fit result) there
 
-  still : (t : Training) → result_at (trained_as f t) result ≡ some (result_of fit result)
+  still : (t : Training) → result_at (trained_as f t) result ≡ Some (result_of fit result)
   still t = unfold result_at in there
 
   list_after_lem : (k : ℕ) → skill_list c (trained_by c result k f) result ≡ list_at f result (after k) ws

@@ -7,11 +7,13 @@ use mathlib.Core.Path.{◌≡◌, refl, sym, ap, ◌∙◌, subst}
 use mathlib.Core.Bool.{Bool, true, false, not, ◌||◌, cond}
 use mathlib.Core.List.Memᴰ
 use mathlib.Core.List.{List, [], ◌∷◌, ◌++◌, foldl, foldl-append, map, append-nil, Memᴰ}
-use mathlib.Core.Option.{Option, none, some, some-injective}
+use Rattle.std.proofs.lemmas.Option.{same_Some}
+use Rattle.std.specs.Prelude.{Option, None, Some}
 use mathlib.Core.Logic.{◌⊎◌, ◌↔◌, inl, inr}
 use lib.Dec.{T, eqb→eq, eqb_refl, nltb→le}
 use lib.IntN.{pos, negsuc}
-use lib.ListN.{length, get_elem?}
+use lib.ListN.{length}
+use Rattle.std.specs.Prelude.{slice_get}
 use Rattle.catalogue.specs.Catalogue.{Id, Catalogue}
 use Rattle.fit.specs.Fit.{Result}
 use Rattle.words.specs.Words.{given, same, contains, any_of}
@@ -35,8 +37,8 @@ same_refl (negsuc a) = eqb_refl a
 max-is : (a b : ℕ) → (max a b ≡ a) ⊎ (max a b ≡ b)
 max-is a b = elim (dec_le a b) [ yes h ↦ inr (omega arith) | no h ↦ inl (omega arith) ]
 
-none≢some : {t : Id} → ◌≡◌ {A = Option Id} none (some t) → ⊥
-none≢some e = let z : ◌≡◌ {A = ℕ} 0 1 = cc in omega arith
+None≢Some : {t : Id} → ◌≡◌ {A = Option Id} None (Some t) → ⊥
+None≢Some e = let z : ◌≡◌ {A = ℕ} 0 1 = cc in omega arith
 
 -- ---- one demand noted
 abbrev Has : List Demand → Id → ℕ → Type 0
@@ -94,18 +96,18 @@ note-from (w ∷ ws) d x m = go (same w.0 d.0) (same-eq w.0 d.0) (note-from ws d
     go false i f (Memᴰ.tail m) = later (f m)
 
 -- the order: a place that is taken stays as it is
-note-at : (ws : List Demand) (d : Demand) (n : ℕ) (t : Id) → skill_at ws n ≡ some t → skill_at (note ws d) n ≡ some t
+note-at : (ws : List Demand) (d : Demand) (n : ℕ) (t : Id) → skill_at ws n ≡ Some t → skill_at (note ws d) n ≡ Some t
 unfolding note skill_at
-note-at [] d n t e = absurd (none≢some e)
+note-at [] d n t e = absurd (None≢Some e)
 note-at (w ∷ ws) d zero t e = go (same w.0 d.0)
   where
-    go : (b : Bool) → get_elem? (map (λ (x : Demand). x.0) (cond b ((w.0, max w.1 d.1) ∷ ws) (w ∷ note ws d))) zero ≡ some t
+    go : (b : Bool) → slice_get (map (λ (x : Demand). x.0) (cond b ((w.0, max w.1 d.1) ∷ ws) (w ∷ note ws d))) zero ≡ Some t
     go true = e
     go false = e
 note-at (w ∷ ws) d (suc n) t e = go (same w.0 d.0) (note-at ws d n t e)
   where
-    go : (b : Bool) → get_elem? (map (λ (x : Demand). x.0) (note ws d)) n ≡ some t
-        → get_elem? (map (λ (x : Demand). x.0) (cond b ((w.0, max w.1 d.1) ∷ ws) (w ∷ note ws d))) (suc n) ≡ some t
+    go : (b : Bool) → slice_get (map (λ (x : Demand). x.0) (note ws d)) n ≡ Some t
+        → slice_get (map (λ (x : Demand). x.0) (cond b ((w.0, max w.1 d.1) ∷ ws) (w ∷ note ws d))) (suc n) ≡ Some t
     go true h = e
     go false h = h
 
@@ -163,7 +165,7 @@ fold_from (d ∷ ds) ws x m = later (fold_from ds (note ws d) x m)
     later (inl m) = first (note-from ws d x m)
     later (inr m) = inr (Memᴰ.tail m)
 
-fold_at : (ds ws : List Demand) (n : ℕ) (t : Id) → skill_at ws n ≡ some t → skill_at (foldl note ws ds) n ≡ some t
+fold_at : (ds ws : List Demand) (n : ℕ) (t : Id) → skill_at ws n ≡ Some t → skill_at (foldl note ws ds) n ≡ Some t
 fold_at [] ws n t e = e
 fold_at (d ∷ ds) ws n t e = fold_at ds (note ws d) n t (note-at ws d n t e)
 
@@ -176,7 +178,7 @@ pub noted-from : (ds : List Demand) (x : Demand) → Memᴰ x (noted ds) → Mem
 unfolding noted
 noted-from ds x m = elim (fold_from ds [] x m) [ inl n ↦ absurd (Memᴰ.not-nil n) | inr n ↦ n ]
 
-pub noted-at : (ds es : List Demand) (n : ℕ) (t : Id) → skill_at (noted ds) n ≡ some t → skill_at (noted (ds ++ es)) n ≡ some t
+pub noted-at : (ds es : List Demand) (n : ℕ) (t : Id) → skill_at (noted ds) n ≡ Some t → skill_at (noted (ds ++ es)) n ≡ Some t
 unfolding noted
 noted-at ds es n t e = rw foldl-append (fold_at es (foldl note [] ds) n t e)
 
@@ -185,21 +187,21 @@ unfolding noted
 noted-once ds = fold_once ds [] tt
 
 -- ---- places of the order
-at_mem : (ws : List Demand) (n : ℕ) (t : Id) → skill_at ws n ≡ some t → (l : ℕ) × Memᴰ (t, l) ws
+at_mem : (ws : List Demand) (n : ℕ) (t : Id) → skill_at ws n ≡ Some t → (l : ℕ) × Memᴰ (t, l) ws
 unfolding skill_at
-at_mem [] n t e = absurd (none≢some e)
-at_mem (w ∷ ws) zero t e = (w.1, Memᴰ.head (ap (λ (x : Id). (x, w.1)) (sym (some-injective _ _ e))))
+at_mem [] n t e = absurd (None≢Some e)
+at_mem (w ∷ ws) zero t e = (w.1, Memᴰ.head (ap (λ (x : Id). (x, w.1)) (sym (same_Some _ _ e))))
 at_mem (w ∷ ws) (suc n) t e = let h = at_mem ws n t e in (h.0, Memᴰ.tail h.1)
 
-mem_at : (t : Id) (l : ℕ) (ws : List Demand) → Memᴰ (t, l) ws → (n : ℕ) × (n < length ws) × (skill_at ws n ≡ some t)
+mem_at : (t : Id) (l : ℕ) (ws : List Demand) → Memᴰ (t, l) ws → (n : ℕ) × (n < length ws) × (skill_at ws n ≡ Some t)
 unfolding skill_at
-mem_at t l ws (Memᴰ.head e) = (zero, suc-le-suc zero-le, ap some (ap (λ (x : Demand). x.0) (sym e)))
+mem_at t l ws (Memᴰ.head e) = (zero, suc-le-suc zero-le, ap Some (ap (λ (x : Demand). x.0) (sym e)))
 mem_at t l ws (Memᴰ.tail {xs = xs} m) = let h = mem_at t l xs m in (suc h.0, suc-le-suc h.1, h.2)
 
 -- where a place is taken, so are those before it
-at_before : (ws : List Demand) (i n : ℕ) (t : Id) → i ≤ n → skill_at ws n ≡ some t → (u : Id) × (skill_at ws i ≡ some u)
+at_before : (ws : List Demand) (i n : ℕ) (t : Id) → i ≤ n → skill_at ws n ≡ Some t → (u : Id) × (skill_at ws i ≡ Some u)
 unfolding skill_at
-at_before [] i n t h e = absurd (none≢some e)
+at_before [] i n t h e = absurd (None≢Some e)
 at_before (w ∷ ws) zero n t h e = (w.0, refl)
 at_before (w ∷ ws) (suc i) zero t h e = absurd (not-suc-le-zero h)
 at_before (w ∷ ws) (suc i) (suc n) t h e = at_before ws i n t (le_of_suc-le-suc h) e
@@ -220,35 +222,35 @@ module _ (c : Catalogue) (r : Result) where
     where
       go : ((t : Id) (k : ℕ) → Memᴰ (t, k) (met c r n) → Counts c r t k)
           → (o : Option Id) → skill_at (noted (met c r n)) n ≡ o → Memᴰ (s, l) (given o [] (of_skill c)) → Counts c r s l
-      go f none e b = absurd (Memᴰ.not-nil b)
-      go f (some t) e b =
+      go f None e b = absurd (Memᴰ.not-nil b)
+      go f (Some t) e b =
           let h = at_mem (noted (met c r n)) n t e in
           inr (t, counts-wanted t h.0 (f t h.0 (noted-from (met c r n) (t, h.0) h.1)), b)
 
   -- the first n skills of the order have been walked: all that they demand has been met
-  met-closed : (n i : ℕ) (t : Id) → i < n → skill_at (noted (met c r n)) i ≡ some t → (x : Demand) → Memᴰ x (of_skill c t) → Memᴰ x (met c r n)
+  met-closed : (n i : ℕ) (t : Id) → i < n → skill_at (noted (met c r n)) i ≡ Some t → (x : Demand) → Memᴰ x (of_skill c t) → Memᴰ x (met c r n)
   unfolding met given
   met-closed zero i t h e x m = absurd (not-suc-le-zero h)
   met-closed (suc n) i t h e x m = go (λ u k f. met-closed n i u k f x) (skill_at (noted (met c r n)) n) refl e
     where
-      go : ((u : Id) → i < n → skill_at (noted (met c r n)) i ≡ some u → Memᴰ x (of_skill c u) → Memᴰ x (met c r n))
-          → (o : Option Id) → skill_at (noted (met c r n)) n ≡ o → skill_at (noted (met c r n ++ given o [] (of_skill c))) i ≡ some t
+      go : ((u : Id) → i < n → skill_at (noted (met c r n)) i ≡ Some u → Memᴰ x (of_skill c u) → Memᴰ x (met c r n))
+          → (o : Option Id) → skill_at (noted (met c r n)) n ≡ o → skill_at (noted (met c r n ++ given o [] (of_skill c))) i ≡ Some t
           → Memᴰ x (met c r n ++ given o [] (of_skill c))
-      go f none q e =
-          let e' : skill_at (noted (met c r n)) i ≡ some t = rw append-nil at e in
+      go f None q e =
+          let e' : skill_at (noted (met c r n)) i ≡ Some t = rw append-nil at e in
           elim (eq-or-lt_of_le (le_of_suc-le-suc h)) [
-            | inl j ↦ absurd (none≢some (sym q ∙ subst (λ (y : ℕ). skill_at (noted (met c r n)) y ≡ some t) j e'))
+            | inl j ↦ absurd (None≢Some (sym q ∙ subst (λ (y : ℕ). skill_at (noted (met c r n)) y ≡ Some t) j e'))
             | inr k ↦ Memᴰ.append_left [] (f t k e' m)
           ]
-      go f (some u) q e =
+      go f (Some u) q e =
           let rest = of_skill c u in
           elim (eq-or-lt_of_le (le_of_suc-le-suc h)) [
             | inl j ↦
-                let q' = subst (λ (y : ℕ). skill_at (noted (met c r n ++ rest)) y ≡ some u) (sym j) (noted-at (met c r n) rest n u q) in
-                Memᴰ.append_right (met c r n) (subst (λ (y : Id). Memᴰ x (of_skill c y)) (some-injective t u (sym e ∙ q')) m)
+                let q' = subst (λ (y : ℕ). skill_at (noted (met c r n ++ rest)) y ≡ Some u) (sym j) (noted-at (met c r n) rest n u q) in
+                Memᴰ.append_right (met c r n) (subst (λ (y : Id). Memᴰ x (of_skill c y)) (same_Some t u (sym e ∙ q')) m)
             | inr k ↦
                 let v = at_before (noted (met c r n)) i n u (le_of_suc-le-suc h) q in
-                let p = some-injective t v.0 (sym e ∙ noted-at (met c r n) rest i v.0 v.1) in
+                let p = same_Some t v.0 (sym e ∙ noted-at (met c r n) rest i v.0 v.1) in
                 Memᴰ.append_left rest (f v.0 k v.1 (subst (λ (y : Id). Memᴰ x (of_skill c y)) p m))
           ]
 

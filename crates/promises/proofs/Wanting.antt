@@ -6,10 +6,11 @@ use mathlib.Core.Path.{◌≡◌, refl, sym, ap, ◌∙◌, subst}
 use mathlib.Core.Bool.{Bool, true, false, not}
 use mathlib.Core.List.Memᴰ
 use mathlib.Core.List.{List, [], ◌∷◌, Memᴰ}
-use mathlib.Core.Option.{Option, some}
+use Rattle.std.specs.Prelude.{Option, Some}
 use mathlib.Core.Logic.{◌⊎◌, ◌↔◌, inl, inr}
 use lib.Dec.{T, T_not, ltb, ltb→lt, lt→ltb}
-use lib.ListN.{length, get_or, get_elem?}
+use lib.ListN.{length, get_or}
+use Rattle.std.specs.Prelude.{slice_get}
 use Rattle.words.specs.Words.{◌>>=◌, each, when, given, contains}
 use Rattle.catalogue.specs.Catalogue.{Id, Catalogue, catalogue_of}
 use Rattle.fit.specs.Fit.{Result, Fit, all_results, result_at, fit_of}
@@ -113,11 +114,11 @@ module _ (c : Catalogue) (f : Fit) (n : ℕ) where
   skills_of : Result → List Entry
   skills_of r = each (walk_within 512 c r) λ d. when (ltb (level d.0) d.1) (entry d)
 
-  list_is : (r : Result) → result_at f n ≡ some r → skill_list c f n ≡ skills_of r
+  list_is : (r : Result) → result_at f n ≡ Some r → skill_list c f n ≡ skills_of r
   unfolding skill_list entry_of ◌>>=◌ level entry skills_of
   list_is r q = ap (λ (o : Option Result). ◌>>=◌ o λ s. skills_of s) q
 
-  lacks : (r : Result) → result_at f n ≡ some r → T (not (wants_too_many 512 c r)) → (e : Entry) → Memᴰ e (skill_list c f n) ↔ Lacks c f n r e
+  lacks : (r : Result) → result_at f n ≡ Some r → T (not (wants_too_many 512 c r)) → (e : Entry) → Memᴰ e (skill_list c f n) ↔ Lacks c f n r e
   unfolding level entry skills_of
   lacks r q h e = (to, from)
     where
@@ -147,6 +148,6 @@ skill_lists t catalogue fit n buffer h =
     let a = asked t catalogue fit n buffer ((skill_answers t catalogue fit n buffer).answered.0 h) in
     let l = a.inside in
     let r = get_or (all_results f) n f.frame.ship_result in
-    let e : get_elem? (all_results f) n ≡ some r = elem_of f.frame.ship_result (all_results f) n (omega arith) in
+    let e : slice_get (all_results f) n ≡ Some r = elem_of f.frame.ship_result (all_results f) n (omega arith) in
     let few : T (not (wants_too_many 512 c r)) = subst (λ (o : Option Result). T (not (given o false (wants_too_many 512 c)))) e a.few in
     record { result = r; found = e; walk = walk_of 512 c r few; entries = lacks c f n r e few }

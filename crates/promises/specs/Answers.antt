@@ -1,7 +1,7 @@
 -- Document 01, "Refusals in their order", and document 02: what a caller has after a call, and the order of the refusals.
 use Rattle.std.specs.Prelude.{ℕ, ◌+◌, ◌*◌, ◌/◌, ◌%◌, ◌≤◌, ◌<◌, min, ◌≡◌, Bool, false, not, List, [], ◌∷◌, ◌++◌, ◌⊎◌, ◌↔◌, T, eqb, ltb, length, get_or, take, drop}
-use Rattle.std.proofs.Math.Option.{some}
-use Rattle.std.proofs.Math.ListN.{get_elem?}
+use Rattle.std.specs.Prelude.{Some}
+use Rattle.std.specs.Prelude.{slice_get}
 use Rattle.words.specs.Words.{given, table}
 use Rattle.catalogue.specs.Catalogue.{catalogue_of}
 use Rattle.catalogue.specs.Refusals as Catalogue
@@ -113,6 +113,6 @@ pub record Answers (conditions : Conditions) (es : List Entry) (before : List �
   pub nothing : 0 < refusal o → (count o ≡ 0) × (o.buffer ≡ before)
   -- a list has its entries from byte 0 on, and leaves every byte behind them
   pub counted : refusal o ≡ 0 → count o ≡ length es
-  pub entries : refusal o ≡ 0 → (i : ℕ) (e : Entry) → get_elem? es i ≡ some e → entry_at o i ≡ entry_bytes e
+  pub entries : refusal o ≡ 0 → (i : ℕ) (e : Entry) → slice_get es i ≡ Some e → entry_at o i ≡ entry_bytes e
   pub others : refusal o ≡ 0 → (i : ℕ) → 24 * length es ≤ i → get_or o.buffer i 0 ≡ get_or before i 0
   pub length_kept : length o.buffer ≡ length before

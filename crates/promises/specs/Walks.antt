@@ -1,7 +1,7 @@
 -- Document 01, "Skill walk": what the list of wanted skills is, said without a walk, and which entries are made of it.
 use Rattle.std.specs.Prelude.{ℕ, ◌≤◌, ◌<◌, ◌≡◌, cond, ◌↔◌, length}
 use mathlib.Core.List.{List, [], ◌∷◌, ◌++◌, foldl, map, Memᴰ}
-use Rattle.std.proofs.Math.Option.{some}
+use Rattle.std.specs.Prelude.{Some}
 use Rattle.words.specs.Words.{each, contains}
 use Rattle.catalogue.specs.Catalogue.{Id, Catalogue}
 use Rattle.fit.specs.Fit.{Result, Fit, result_at}
@@ -51,6 +51,6 @@ Lacks c f n r e =
 -- the skill list of result number n: the result, the skills that it wants, and the entries made of them
 pub record SkillsOf (c : Catalogue) (f : Fit) (n : ℕ) : Type 0 where
   pub result : Result
-  pub found : result_at f n ≡ some result
+  pub found : result_at f n ≡ Some result
   pub walk : WalkOf c result (wanted_skills c result)
   pub entries : (e : Entry) → Memᴰ e (skill_list c f n) ↔ Lacks c f n result e

@@ -2,7 +2,7 @@
 use Prim.Native.Nat.{ℕ}
 use mathlib.Core.Path.{◌≡◌}
 use mathlib.Core.List.{List, []}
-use mathlib.Core.Option.{none, some}
+use Rattle.std.specs.Prelude.{None, Some}
 use lib.Dec.{ltb}
 use Rattle.words.specs.Words.{◌>>=◌, when, when_above}
 use Rattle.floats.specs.Floats.{to_u}
@@ -24,13 +24,13 @@ module _ (catalogue fit : List ℕ) (c : Count) where
   reported = slots (context_of catalogue fit) c.slot c.name c.used
 
   -- the attribute is there
-  pub slots-is : (id : Id) (available : ℕ) → name_id (catalogue_of catalogue).names c.name ≡ some id
+  pub slots-is : (id : Id) (available : ℕ) → name_id (catalogue_of catalogue).names c.name ≡ Some id
       → available ≡ to_u 32 (amount (result_of fit 0) id)
       → when (ltb available c.used) (on_ship (Slots c.slot c.used available)) ≡ reported
   unfolding slots when_above context_of context fit_of ◌>>=◌
   slots-is id available e q = rw (e, q)
 
   -- it is not
-  pub slots-none : name_id (catalogue_of catalogue).names c.name ≡ none → [] ≡ reported
+  pub slots-none : name_id (catalogue_of catalogue).names c.name ≡ None → [] ≡ reported
   unfolding slots context_of context ◌>>=◌
   slots-none e = rw e

@@ -3,7 +3,7 @@ use Prim.Native.Nat.{ℕ, ◌<◌, ◌≤◌}
 use native.Mathlib.Omega.{arith}
 use mathlib.Core.Path.{◌≡◌, refl}
 use mathlib.Core.Bool.{Bool, true, false, ◌&&◌, cond}
-use mathlib.Core.Option.{none, some}
+use Rattle.std.specs.Prelude.{None, Some}
 use lib.Dec.{eqb, ltb}
 use borrow.Author.Tests.{ne_eqb, ltb-false}
 use Rattle.words.specs.Words.{given}
@@ -16,7 +16,7 @@ slot-given : (code slot : ℕ) → slot < 8 → eqb code slot ≡ given (slot_in
 unfolding slot_in given
 slot-given code slot h = go (ltb code 8) refl
   where
-    go : (b : Bool) → ltb code 8 ≡ b → eqb code slot ≡ given (cond b (some code) none) false (λ s. eqb s slot)
+    go : (b : Bool) → ltb code 8 ≡ b → eqb code slot ≡ given (cond b (Some code) None) false (λ s. eqb s slot)
     go true e = refl
     go false e = let l : 8 ≤ code = ltb-false code 8 e in ne_eqb code slot (apart l)
       where

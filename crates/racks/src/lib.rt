@@ -10,7 +10,6 @@ ghost use Rattle.context.specs.Gathered.{pair_count, pair_at, pairs_of, context_
 ghost use Rattle.racks.specs.Racks as Racks;
 ghost use Rattle.racks.specs.Racks.{row_at, in_rack, on_hardpoint, takes_hardpoint, racks_and_hardpoints};
 
-use catalogue::AttributeId;
 use entry::{Entry, Rule, Target};
 use numbers::{names, slots};
 
@@ -125,7 +124,7 @@ fn report(
 {
     let id = catalogue::attribute_id(catalogue, count.name);
     match id {
-        AttributeId::Known(id) => {
+        Some(id) => {
             let available = floats::to_u32(fit::amount(fit, facts, 0, id));
             let test = count.used > available;
             entry::emit_when(
@@ -138,7 +137,7 @@ fn report(
                 },
             )
         }
-        AttributeId::Unknown => n,
+        None => n,
     }
 }
 

@@ -1,6 +1,6 @@
 -- The rules of resource.rs by whether their names have ids, and that each lists one entry at most.
 use Rattle.std.proofs.Common.{◌≡◌, ℕ, ◌≤◌, List, length, ap₂}
-use mathlib.Core.Option.{none, some}
+use Rattle.std.specs.Prelude.{None, Some}
 use lib.Ieee.{Float}
 use Rattle.words.specs.Words.{◌>>=◌}
 use Rattle.words.proofs.Lengths.{few-when, few-bind}
@@ -18,7 +18,7 @@ use Rattle.context.specs.Gathered.{pairs_of, context_of}
 use Rattle.resource.specs.Resource.{resource, launched, cargo_used, load_of, launched_drones, cargo}
 
 module _ (catalogue fit : List ℕ) {b a : List ℕ} {n k : ℕ} where
-  pub drones-some : {id : Id} {used available : Float} → name_id (catalogue_of catalogue).names Names.max_active_drones ≡ some id
+  pub drones-some : {id : Id} {used available : Float} → name_id (catalogue_of catalogue).names Names.max_active_drones ≡ Some id
       → used ≡ of_nat (launched (pairs_of catalogue fit)) → available ≡ amount (result_of fit 1) id
       → Wrote b n a k (resource Resources.launched_drones used available) → Wrote b n a k (launched_drones (context_of catalogue fit) (pairs_of catalogue fit))
   unfolding launched_drones context_of context fit_of
@@ -26,7 +26,7 @@ module _ (catalogue fit : List ℕ) {b a : List ℕ} {n k : ℕ} where
       wrote-bind (λ i. resource Resources.launched_drones (of_nat (launched (pairs_of catalogue fit))) (amount (result_of fit 1) i)) e
       (wrote-same (ap₂ (resource Resources.launched_drones) u v) w)
 
-  pub cargo-some : {id : Id} {used available : Float} → name_id (catalogue_of catalogue).names Names.capacity ≡ some id
+  pub cargo-some : {id : Id} {used available : Float} → name_id (catalogue_of catalogue).names Names.capacity ≡ Some id
       → used ≡ cargo_used (pairs_of catalogue fit) → available ≡ amount (result_of fit 0) id
       → Wrote b n a k (resource Resources.cargo_bay used available) → Wrote b n a k (cargo (context_of catalogue fit) (pairs_of catalogue fit))
   unfolding cargo context_of context fit_of
@@ -34,8 +34,8 @@ module _ (catalogue fit : List ℕ) {b a : List ℕ} {n k : ℕ} where
       wrote-bind (λ i. resource Resources.cargo_bay (cargo_used (pairs_of catalogue fit)) (amount (result_of fit 0) i)) e
       (wrote-same (ap₂ (resource Resources.cargo_bay) u v) w)
 
-  pub load-some : (kind load output : ℕ) {l o : Id} {used available : Float} → name_id (catalogue_of catalogue).names load ≡ some l
-      → name_id (catalogue_of catalogue).names output ≡ some o → used ≡ amount (result_of fit 0) l → available ≡ amount (result_of fit 0) o
+  pub load-some : (kind load output : ℕ) {l o : Id} {used available : Float} → name_id (catalogue_of catalogue).names load ≡ Some l
+      → name_id (catalogue_of catalogue).names output ≡ Some o → used ≡ amount (result_of fit 0) l → available ≡ amount (result_of fit 0) o
       → Wrote b n a k (resource kind used available) → Wrote b n a k (load_of (context_of catalogue fit) (kind, load, output))
   unfolding context_of context fit_of
   load-some kind load output {l} e g u v w =
@@ -44,24 +44,24 @@ module _ (catalogue fit : List ℕ) {b a : List ℕ} {n k : ℕ} where
       (wrote-bind (λ j. resource kind (ship l) (ship j)) g (wrote-same (ap₂ (resource kind) u v) w))
 
 module _ (catalogue fit : List ℕ) {b : List ℕ} {n : ℕ} where
-  pub drones-none : name_id (catalogue_of catalogue).names Names.max_active_drones ≡ none
+  pub drones-none : name_id (catalogue_of catalogue).names Names.max_active_drones ≡ None
       → Wrote b n b n (launched_drones (context_of catalogue fit) (pairs_of catalogue fit))
   unfolding launched_drones context_of context fit_of
   drones-none e = wrote-bind_none (λ i. resource Resources.launched_drones (of_nat (launched (pairs_of catalogue fit))) (amount (result_of fit 1) i)) e
 
-  pub cargo-none : name_id (catalogue_of catalogue).names Names.capacity ≡ none → Wrote b n b n (cargo (context_of catalogue fit) (pairs_of catalogue fit))
+  pub cargo-none : name_id (catalogue_of catalogue).names Names.capacity ≡ None → Wrote b n b n (cargo (context_of catalogue fit) (pairs_of catalogue fit))
   unfolding cargo context_of context fit_of
   cargo-none e = wrote-bind_none (λ i. resource Resources.cargo_bay (cargo_used (pairs_of catalogue fit)) (amount (result_of fit 0) i)) e
 
-  pub load-none : (kind load output : ℕ) → name_id (catalogue_of catalogue).names load ≡ none
+  pub load-none : (kind load output : ℕ) → name_id (catalogue_of catalogue).names load ≡ None
       → Wrote b n b n (load_of (context_of catalogue fit) (kind, load, output))
   unfolding context_of context fit_of
   load-none kind load output e =
       let ship = amount (result_of fit 0) in
       wrote-bind_none (λ i. ◌>>=◌ (name_id (catalogue_of catalogue).names output) (λ j. resource kind (ship i) (ship j))) e
 
-  pub load-half : (kind load output : ℕ) {l : Id} → name_id (catalogue_of catalogue).names load ≡ some l
-      → name_id (catalogue_of catalogue).names output ≡ none
+  pub load-half : (kind load output : ℕ) {l : Id} → name_id (catalogue_of catalogue).names load ≡ Some l
+      → name_id (catalogue_of catalogue).names output ≡ None
       → Wrote b n b n (load_of (context_of catalogue fit) (kind, load, output))
   unfolding context_of context fit_of
   load-half kind load output {l} e g =

@@ -17,7 +17,6 @@ ghost use Rattle.resource.specs.Rows.{row_of};
 ghost use Rattle.resource.specs.Resource.{is_launched, launched, cargo_volume, cargo_used};
 ghost use Rattle.resource.specs.Resource.{load_of, loads, launched_drones, cargo, resources};
 
-use catalogue::{AttributeId, TypeAnswer};
 use entry::{Entry, Rule, Target};
 use floats::Load;
 use numbers::{names, resources, slots, states};
@@ -128,11 +127,11 @@ fn load_row(
     let used = catalogue::attribute_id(catalogue, row.load);
     let available = catalogue::attribute_id(catalogue, row.output);
     match used {
-        AttributeId::Known(u) => match available {
-            AttributeId::Known(a) => resource(row.kind, load_on_ship(fit, facts, u, a), out, n),
-            AttributeId::Unknown => n,
+        Some(u) => match available {
+            Some(a) => resource(row.kind, load_on_ship(fit, facts, u, a), out, n),
+            None => n,
         },
-        AttributeId::Unknown => n,
+        None => n,
     }
 }
 
@@ -216,13 +215,13 @@ fn launched_drones(
 {
     let max_active = catalogue::attribute_id(catalogue, names::MAX_ACTIVE_DRONES);
     match max_active {
-        AttributeId::Known(id) => resource(
+        Some(id) => resource(
             resources::LAUNCHED_DRONES,
             drones_load(fit, fit::amount(fit, facts, 1, id)),
             out,
             n,
         ),
-        AttributeId::Unknown => n,
+        None => n,
     }
 }
 
@@ -234,8 +233,8 @@ fn room_at(catalogue: &[u8], fit: &[u8], facts: &[u32; 2058], i: usize) -> f64
     let quantity = fit::item_quantity(fit, i);
     let answer = context::type_at(catalogue, fit, facts, i);
     match answer {
-        TypeAnswer::Known(info) => info.volume * floats::of_u32(quantity),
-        TypeAnswer::Unknown => 0.0,
+        Some(info) => info.volume * floats::of_u32(quantity),
+        None => 0.0,
     }
 }
 
@@ -280,13 +279,13 @@ fn cargo(catalogue: &[u8], fit: &[u8], facts: &[u32; 2058], out: &mut [u8], n: u
 {
     let capacity = catalogue::attribute_id(catalogue, names::CAPACITY);
     match capacity {
-        AttributeId::Known(id) => resource(
+        Some(id) => resource(
             resources::CARGO_BAY,
             cargo_load(catalogue, fit, facts, id),
             out,
             n,
         ),
-        AttributeId::Unknown => n,
+        None => n,
     }
 }
 

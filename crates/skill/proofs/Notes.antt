@@ -4,9 +4,10 @@ use native.Mathlib.Decide.{dec_le}
 use native.Mathlib.Omega.{arith}
 use mathlib.Core.Path.{◌≡◌, refl, sym, ap, ◌∙◌, subst}
 use mathlib.Core.List.{List, [], ◌∷◌, ◌++◌, foldl, foldl-append}
-use mathlib.Core.Option.{some}
+use Rattle.std.specs.Prelude.{Some}
 use lib.IntN.{ℤ, pos}
-use lib.ListN.{length, get_or, get_elem?}
+use lib.ListN.{length, get_or}
+use Rattle.std.specs.Prelude.{slice_get}
 use borrow.Author.Tests.{lt-ltb, le-ltb}
 use Rattle.words.specs.Words.{table_from}
 use Rattle.words.proofs.Tables.{map-table}
@@ -96,10 +97,10 @@ module _ {ids : List ℤ} {levels : List ℕ} {len : ℕ} {ds : List Demand} (v 
   unfolding noted zip_to table_from
   noted-full o = v.full o
 
-held-skill : (ids : List ℤ) (levels : List ℕ) (len i : ℕ) → i < len → skill_at (held_of ids levels len) i ≡ some (get_or ids i (pos 0))
+held-skill : (ids : List ℤ) (levels : List ℕ) (len i : ℕ) → i < len → skill_at (held_of ids levels len) i ≡ Some (get_or ids i (pos 0))
 unfolding skill_at zip_to
 held-skill ids levels len i h =
-    ap (λ (l : List Id). get_elem? l i) (map-table (λ (w : Demand). w.0) len (held_at ids levels)) ∙ elem_table len (λ k. get_or ids k (pos 0)) i h
+    ap (λ (l : List Id). slice_get l i) (map-table (λ (w : Demand). w.0) len (held_at ids levels)) ∙ elem_table len (λ k. get_or ids k (pos 0)) i h
 
 module _ (c : Catalogue) (r : Result) {ids : List ℤ} {levels : List ℕ} {len : ℕ} (i : ℕ) (v : Notes [] [] 0 ids levels len (met c r i)) where
   -- one skill of the order walked

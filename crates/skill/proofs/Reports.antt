@@ -4,7 +4,7 @@ use native.Mathlib.Omega.{arith}
 use mathlib.Core.Path.{◌≡◌, refl, sym, ap, ◌∙◌}
 use mathlib.Core.Bool.{false}
 use mathlib.Core.List.{List}
-use mathlib.Core.Option.{Option, some}
+use Rattle.std.specs.Prelude.{Option, Some}
 use lib.Dec.{ltb}
 use lib.ListN.{length}
 use Rattle.words.specs.Words.{◌>>=◌, given}
@@ -33,7 +33,7 @@ pub few-entry : (f : Fit) (n : ℕ) (w : Demand) → length (entry_of f n w) ≤
 unfolding entry_of
 few-entry f n w = few-when (ltb (trained f.skills f.levels w.0) w.1) _
 
-list_of : (c : Catalogue) (f : Fit) (n : ℕ) (r : Result) → result_at f n ≡ some r → skill_list c f n ≡ reported f n (wanted_skills c r)
+list_of : (c : Catalogue) (f : Fit) (n : ℕ) (r : Result) → result_at f n ≡ Some r → skill_list c f n ≡ reported f n (wanted_skills c r)
 unfolding skill_list ◌>>=◌
 list_of c f n r e = rw e
 

@@ -4,7 +4,7 @@ use native.Mathlib.Numerals.{add-one}
 use mathlib.Core.Path.{◌≡◌, refl, sym, ap, ap₂, ◌∙◌}
 use mathlib.Core.Bool.{Bool, false, not}
 use mathlib.Core.List.{List, [], ◌∷◌, ◌++◌}
-use mathlib.Core.Option.{Option, none, some}
+use Rattle.std.specs.Prelude.{Option, None, Some}
 use lib.Dec.{eqb}
 use lib.ListN.{get_or, take}
 use lib.IntN.{ℤ}
@@ -59,15 +59,15 @@ unfolding any_of table_from differs
 name_level = column (λ i. (get_or rows i none_of).level) (λ i. (get_or REQUIRED i (0, 0)).1) refl
 
 -- ---- rows that count
-pub no_skill : {x : Option Id} (y : Option Id) → x ≡ none → requirement x y ≡ []
+pub no_skill : {x : Option Id} (y : Option Id) → x ≡ None → requirement x y ≡ []
 unfolding ◌>>=◌
 no_skill y e = rw e
 
-pub no_level : {x y : Option Id} {s : Id} → x ≡ some s → y ≡ none → requirement x y ≡ []
+pub no_level : {x y : Option Id} {s : Id} → x ≡ Some s → y ≡ None → requirement x y ≡ []
 unfolding ◌>>=◌
 no_level e f = rw (e, f)
 
-pub both-known : {x y : Option Id} {s l : Id} → x ≡ some s → y ≡ some l → requirement x y ≡ (s, l) ∷ []
+pub both-known : {x y : Option Id} {s l : Id} → x ≡ Some s → y ≡ Some l → requirement x y ≡ (s, l) ∷ []
 unfolding ◌>>=◌
 both-known e f = rw (e, f)
 
@@ -88,11 +88,11 @@ pub read : (a b : ℤ) → SFits w32 a → SFits w32 b → ◌≡◌ {A = Requir
 read a b f g = pair_eq (to_z-of_z w32 a f) (to_z-of_z w32 b g)
 
 module _ (look : Id → Option Float) (r : Requirement) where
-  pub asked-one : {v : Float} {o : Option Float} → look r.0 ≡ some v → o ≡ look r.1 → demand v o ∷ [] ≡ demand_of look r
+  pub asked-one : {v : Float} {o : Option Float} → look r.0 ≡ Some v → o ≡ look r.1 → demand v o ∷ [] ≡ demand_of look r
   unfolding demand_of ◌>>=◌
   asked-one {v} {o} e f = rw e (ap (λ (x : Option Float). demand v x ∷ []) f)
 
-  pub asked-none : look r.0 ≡ none → [] ≡ demand_of look r
+  pub asked-none : look r.0 ≡ None → [] ≡ demand_of look r
   unfolding demand_of ◌>>=◌
   asked-none e = rw e
 

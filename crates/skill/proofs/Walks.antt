@@ -6,7 +6,7 @@ use native.Mathlib.Omega.{arith}
 use mathlib.Core.Path.{◌≡◌, refl, ap, ◌∙◌}
 use mathlib.Core.Bool.{Bool, true, false, cond}
 use mathlib.Core.List.{List, [], ◌∷◌, ◌++◌, foldl, foldl-append, append-nil}
-use mathlib.Core.Option.{Option, none, some}
+use Rattle.std.specs.Prelude.{Option, None, Some}
 use lib.ListN.{length}
 use Rattle.words.specs.Words.{given, same}
 use Rattle.catalogue.specs.Catalogue.{Id, Catalogue}
@@ -42,7 +42,7 @@ unfolding noted
 noted-longer ds es = rw foldl-append (fold_longer es (foldl note [] ds))
 
 -- ---- the walk
-past_end : (ws : List Demand) (n : ℕ) → length ws ≤ n → skill_at ws n ≡ none
+past_end : (ws : List Demand) (n : ℕ) → length ws ≤ n → skill_at ws n ≡ None
 unfolding skill_at
 past_end [] n h = refl
 past_end (w ∷ ws) zero h = absurd (not-suc-le-zero h)
@@ -55,7 +55,7 @@ module _ (c : Catalogue) (r : Result) where
   met-first = refl
 
   -- a skill of the order is walked
-  pub met_next : (n : ℕ) (t : Id) → skill_at (noted (met c r n)) n ≡ some t → met c r (n + 1) ≡ met c r n ++ of_skill c t
+  pub met_next : (n : ℕ) (t : Id) → skill_at (noted (met c r n)) n ≡ Some t → met c r (n + 1) ≡ met c r n ++ of_skill c t
   unfolding met given
   met_next n t e = rw add-one (ap (λ (o : Option Id). met c r n ++ given o [] (of_skill c)) e)
 

@@ -9,8 +9,6 @@ use Rattle.fit.specs.Fit.{result_of}
 use Rattle.skill.specs.Skill.{Requirement, Demand, note, wanted_skills, wants_too_many}
 use Rattle.skill.specs.declared.Walk.{Walk}
 use Rattle.skill.specs.declared.Required.{Required}
-use Rattle.skill.specs.declared.Asked.{Asked}
-use Rattle.skill.specs.declared.Asked.TheVariants.{Skill, Nothing}
 
 -- ---- two arrays side by side; x and y stand past their ends
 module _ {A B : Type 0} (x : A) (y : B) where
@@ -36,10 +34,6 @@ held_of ids levels n = zip_to (pos 0) 0 ids levels n
 
 abbrev pub walk_of : Walk → List Demand
 walk_of w = held_of w.ids w.levels w.len
-
-abbrev pub asked_of : Asked → List Demand
-asked_of (Skill id level) = (id, level) ∷ []
-asked_of Nothing = []
 
 -- ---- noting
 -- the first place of an id among the first len, or len

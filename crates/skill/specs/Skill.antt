@@ -1,8 +1,8 @@
 -- validate/skill.rs: `required` of `validate`, `wanted_skills`, `note` and `report`, for one result.
 use Rattle.std.specs.Prelude.{ℕ, zero, suc, max, Bool, cond, ltb, length, Float}
 use mathlib.Core.List.{List, [], ◌∷◌, ◌++◌, foldl, map}
-use Rattle.std.proofs.Math.Option.{Option}
-use Rattle.std.proofs.Math.ListN.{get_elem?}
+use Rattle.std.specs.Prelude.{Option}
+use Rattle.std.specs.Prelude.{slice_get}
 use Rattle.words.specs.Words.{◌>>=◌, each, when, given, same}
 use Rattle.numbers.specs.Names as Names
 use Rattle.numbers.specs.Sizes as Sizes
@@ -82,7 +82,7 @@ noted ds = foldl note [] ds
 
 -- the skill at a place of the order
 unfoldable pub skill_at : List Demand → ℕ → Option Id
-skill_at ws n = get_elem? (map (λ w. w.0) ws) n
+skill_at ws n = slice_get (map (λ w. w.0) ws) n
 
 -- all demands met once the first n skills of the order have been walked
 unfoldable pub met : Catalogue → Result → ℕ → List Demand

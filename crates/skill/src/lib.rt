@@ -1,15 +1,13 @@
 // The skills that one result demands: validate/skill.rs.
 #![tactic(auto)]
 
-ghost use Rattle.std.specs.Prelude.{◌≡◌, [], ◌∷◌, ◌++◌, ◌+◌, ◌<◌, ◌≤◌, length, get_or, set, pos};
+ghost use Rattle.std.specs.Prelude.{◌≡◌, ◌++◌, ◌+◌, ◌<◌, ◌≤◌, length, get_or, set, pos, option_to_list};
 ghost use Rattle.words.specs.Words.{each, table, any_of, same};
 ghost use Rattle.numbers.specs.Sizes as Sizes;
 ghost use Rattle.numbers.specs.Sizes.{most_wanted};
-ghost use Rattle.floats.specs.Values.{value_of};
 ghost use Rattle.catalogue.specs.Catalogue.{catalogue_of, base_count};
 ghost use Rattle.catalogue.specs.Lookups.{base_value};
 ghost use Rattle.catalogue.specs.Sound as Catalogue;
-ghost use Rattle.catalogue.specs.Answers.{id_of};
 ghost use Rattle.catalogue.specs.Walks.{span_value};
 ghost use Rattle.fit.specs.Fit.{fit_of, result_count, result_of};
 ghost use Rattle.fit.specs.Lookups.{value};
@@ -17,12 +15,11 @@ ghost use Rattle.fit.specs.Sound as Fit;
 ghost use Rattle.entry.specs.Wrote.{Wrote, Room};
 ghost use Rattle.skill.specs.Skill as Skill;
 ghost use Rattle.skill.specs.Skill.{requirement, required, demand_of, target_of, entry_of, reported};
-ghost use Rattle.skill.specs.Held.{requirements_in, requirements_of, asked_of, walk_of};
+ghost use Rattle.skill.specs.Held.{requirements_in, requirements_of, walk_of};
 ghost use Rattle.skill.specs.Held.{Placed, New, LevelRises, Noted, Notes, HoldsWanted};
 
-use catalogue::{AttributeId, Span};
+use catalogue::Span;
 use entry::{Entry, Rule, Target};
-use floats::Value;
 use numbers::names;
 use numbers::sizes::MOST_WANTED;
 
@@ -68,13 +65,6 @@ struct Required {
     len: usize,
 }
 
-// What one requirement asks for.
-#[derive(Clone, Copy)]
-enum Asked {
-    Skill(i32, u8),
-    Nothing,
-}
-
 // The skills noted so far, in the order met, each with the highest level asked of it.
 #[derive(Clone, Copy)]
 pub struct Walk {
@@ -88,25 +78,25 @@ fn keep(
     skills: &mut [i32; 6],
     levels: &mut [i32; 6],
     n: usize,
-    skill: AttributeId,
-    level: AttributeId,
+    skill: Option<i32>,
+    level: Option<i32>,
 ) -> usize
     requires { (n < 6) × (length skills.old ≡ 6) × (length levels.old ≡ 6) }
     ensures { let before = requirements_in skills.old levels.old n in
         let after = requirements_in skills.new levels.new result in
-        (after ≡ before ++ requirement (id_of skill) (id_of level)) × (result ≤ n + 1)
+        (after ≡ before ++ requirement skill level) × (result ≤ n + 1)
         × (length skills.new ≡ 6) × (length levels.new ≡ 6) }
 {
     match skill {
-        AttributeId::Known(s) => match level {
-            AttributeId::Known(l) => {
+        Some(s) => match level {
+            Some(l) => {
                 skills[n] = s;
                 levels[n] = l;
                 n + 1
             }
-            AttributeId::Unknown => n,
+            None => n,
         },
-        AttributeId::Unknown => n,
+        None => n,
     }
 }
 
@@ -134,33 +124,33 @@ fn required_of(catalogue: &[u8]) -> Required
 }
 
 // A skill that a value names, at the level that another says; a missing level is 0.
-fn demand(skill: f64, level: Value) -> Asked
-    ensures { asked_of result ≡ Skill.demand skill (value_of level) ∷ [] }
+fn demand(skill: f64, level: Option<f64>) -> (i32, u8)
+    ensures { result ≡ Skill.demand skill level }
 {
-    Asked::Skill(floats::to_i32(skill), floats::to_u8(floats::amount(level)))
+    (floats::to_i32(skill), floats::to_u8(floats::amount(level)))
 }
 
 // What one requirement asks for by the values of a result.
-fn asked_by_result(fit: &[u8], starts: &[u32; 259], res: usize, skill: i32, level: i32) -> Asked
+fn asked_by_result(fit: &[u8], starts: &[u32; 259], res: usize, skill: i32, level: i32) -> Option<(i32, u8)>
     requires { Fit.Sound fit.now × Fit.Starts fit.now starts.now × (res < result_count fit.now + 2) }
-    ensures { asked_of result ≡ demand_of (value (result_of fit.now res)) (skill, level) }
+    ensures { option_to_list result ≡ demand_of (value (result_of fit.now res)) (skill, level) }
 {
     let wanted = fit::value(fit, starts, res, skill);
     match wanted {
-        Value::Given(v) => demand(v, fit::value(fit, starts, res, level)),
-        Value::Missing => Asked::Nothing,
+        Some(v) => Some(demand(v, fit::value(fit, starts, res, level))),
+        None => None,
     }
 }
 
 // What one requirement asks for by the base values of a skill, which stand in a span.
-fn asked_by_skill(catalogue: &[u8], span: Span, skill: i32, level: i32) -> Asked
+fn asked_by_skill(catalogue: &[u8], span: Span, skill: i32, level: i32) -> Option<(i32, u8)>
     requires { Catalogue.Sound catalogue.now × (span.from ≤ span.to) × (span.to ≤ base_count catalogue.now) }
-    ensures { asked_of result ≡ demand_of (span_value catalogue.now span.from span.to) (skill, level) }
+    ensures { option_to_list result ≡ demand_of (span_value catalogue.now span.from span.to) (skill, level) }
 {
     let wanted = catalogue::base_value(catalogue, span, skill);
     match wanted {
-        Value::Given(v) => demand(v, catalogue::base_value(catalogue, span, level)),
-        Value::Missing => Asked::Nothing,
+        Some(v) => Some(demand(v, catalogue::base_value(catalogue, span, level))),
+        None => None,
     }
 }
 
@@ -253,17 +243,17 @@ fn note_asked(
     ids: &mut [i32; MOST_WANTED],
     levels: &mut [u8; MOST_WANTED],
     len: usize,
-    asked: Asked,
+    asked: Option<(i32, u8)>,
 ) -> usize
     requires { (len ≤ most_wanted + 1) × (length ids.old ≡ most_wanted) × (length levels.old ≡ most_wanted) }
-    ensures { Notes ids.old levels.old len ids.new levels.new result (asked_of asked) }
+    ensures { Notes ids.old levels.old len ids.new levels.new result (option_to_list asked) }
 {
     if MOST_WANTED < len {
         return len;
     }
     match asked {
-        Asked::Skill(id, level) => note(ids, levels, len, id, level),
-        Asked::Nothing => len,
+        Some((id, level)) => note(ids, levels, len, id, level),
+        None => len,
     }
 }
 

@@ -3,13 +3,12 @@ use Prim.Native.Nat.{ℕ, ◌+◌, ◌≤◌}
 use mathlib.Core.Path.{◌≡◌, refl, sym, ap, ◌∙◌}
 use mathlib.Core.Bool.{Bool, true, false, not, ◌&&◌, ◌||◌, cond}
 use mathlib.Core.List.{List, []}
-use mathlib.Core.Option.{none, some}
+use Rattle.std.specs.Prelude.{None, Some}
 use lib.Dec.{eqb, leb, ltb}
 use Rattle.words.specs.Words.{◌>>=◌, table, when, when_any, any_of, given, same}
 use Rattle.numbers.specs.Slots as Slots
 use Rattle.numbers.specs.Categories as Categories
 use Rattle.catalogue.specs.Catalogue.{Id}
-use Rattle.catalogue.specs.Answers.{info_of}
 use Rattle.entry.specs.declared.Entry.{Entry}
 use Rattle.entry.specs.declared.Rule.{Rule}
 use Rattle.entry.specs.declared.Rule.TheVariants.{WrongSlot, NotAModule, NotADrone, NotAFighter, NotAnImplant, SlotTaken, WrongSlotIndex}
@@ -21,7 +20,6 @@ use Rattle.context.specs.Gathered.{slot_in, pair_count, pair_at, pairs_of}
 use Rattle.context.proofs.Pairs.{pairs-table}
 use Rattle.context.proofs.Types.{passes}
 use Rattle.slot.specs.declared.Item.{Item}
-use Rattle.slot.specs.declared.Expected.TheVariants.{Index, Nothing}
 use Rattle.slot.specs.Slot.{wrong_slot, not_a_module, not_a_drone, not_a_fighter, not_an_implant, slot_taken, wrong_slot_index}
 use Rattle.slot.specs.AtPair.{expects, Holds, Checked}
 
@@ -30,7 +28,7 @@ slot-shown : (code : ℕ) (t : ℕ → Bool) (e : ℕ → Entry) → when (ltb c
 unfolding slot_in ◌>>=◌ when
 slot-shown code t e = go (ltb code 8)
   where
-    go : (b : Bool) → when (b && t code) (e code) ≡ ◌>>=◌ (cond b (some code) none) (λ s. when (t s) (e s))
+    go : (b : Bool) → when (b && t code) (e code) ≡ ◌>>=◌ (cond b (Some code) None) (λ s. when (t s) (e s))
     go true = refl
     go false = refl
 
@@ -41,10 +39,10 @@ module _ (item : Item) where
 
   -- what the type is, if it is there
   abbrev pub is_of : Id → Bool
-  is_of category = given (info_of item.answer) false (λ x. same x.category category)
+  is_of category = given item.answer false (λ x. same x.category category)
 
   abbrev pub is_racked : Bool
-  is_racked = given (info_of item.answer) false (λ x. is_module_category x.category)
+  is_racked = given item.answer false (λ x. is_module_category x.category)
 
   abbrev told : Rule → Entry
   told rule = on_item item.position rule
@@ -58,32 +56,32 @@ module _ (item : Item) where
 
     pub not-a_module_is : when (leb item.slot Slots.service && not is_racked) (told NotAModule) ≡ not_a_module x p
     unfolding not_a_module is_fitted is_module_category same
-    not-a_module_is = rw (h.slot, passes is_module_category refl (info_of item.answer) h.category, h.position)
+    not-a_module_is = rw (h.slot, passes is_module_category refl item.answer h.category, h.position)
 
     pub not-a_drone_is : when (eqb item.slot Slots.drone_bay && not (is_of Categories.drone)) (told NotADrone)
         ≡ not_a_drone x p
     unfolding not_a_drone is_in same
-    not-a_drone_is = rw (h.slot, passes (λ c. same c Categories.drone) refl (info_of item.answer) h.category, h.position)
+    not-a_drone_is = rw (h.slot, passes (λ c. same c Categories.drone) refl item.answer h.category, h.position)
 
     pub not-a_fighter_is : {t : Bool} → t ≡ eqb item.slot Slots.fighter_tube || eqb item.slot Slots.fighter_bay
         → when (t && not (is_of Categories.fighter)) (told NotAFighter) ≡ not_a_fighter x p
     unfolding not_a_fighter is_fighter_slot is_in same
-    not-a_fighter_is e = rw (e, h.slot, passes (λ c. same c Categories.fighter) refl (info_of item.answer) h.category, h.position)
+    not-a_fighter_is e = rw (e, h.slot, passes (λ c. same c Categories.fighter) refl item.answer h.category, h.position)
 
     pub not-an_implant_is : {t : Bool} → t ≡ eqb item.slot Slots.implant || eqb item.slot Slots.booster
         → when (t && not (is_of Categories.implant)) (told NotAnImplant) ≡ not_an_implant x p
     unfolding not_an_implant is_in same
-    not-an_implant_is e = rw (e, h.slot, passes (λ c. same c Categories.implant) refl (info_of item.answer) h.category, h.position)
+    not-an_implant_is e = rw (e, h.slot, passes (λ c. same c Categories.implant) refl item.answer h.category, h.position)
 
     pub slot-taken_is : when item.taken (told SlotTaken) ≡ slot_taken x ps p
     unfolding slot_taken when_any
     slot-taken_is = rw (h.position, h.taken)
 
-    pub index_is : {index : ℕ} → item.expected ≡ Index index → when true (told (WrongSlotIndex index)) ≡ wrong_slot_index x p
+    pub index_is : {index : ℕ} → item.expected ≡ Some index → when true (told (WrongSlotIndex index)) ≡ wrong_slot_index x p
     unfolding expects when
     index_is e = rw h.position (sym (ap (expects p) e) ∙ h.expected)
 
-    pub index-none : item.expected ≡ Nothing → [] ≡ wrong_slot_index x p
+    pub index-none : item.expected ≡ None → [] ≡ wrong_slot_index x p
     unfolding expects
     index-none e = sym (ap (expects p) e) ∙ h.expected
 

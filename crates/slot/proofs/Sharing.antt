@@ -63,8 +63,8 @@ told-next {at} {j} {there} {k} {any} {b} passes e h = go any b (eqb j at) refl h
     one : b ≡ true → k ≡ 1
     one p = e ∙ ap (λ (x : Bool). cond x 1 0) p
 
-    none : b ≡ false → k ≡ 0
-    none p = e ∙ ap (λ (x : Bool). cond x 1 0) p
+    None : b ≡ false → k ≡ 0
+    None p = e ∙ ap (λ (x : Bool). cond x 1 0) p
 
     told : (y : Bool) → min 1 (j + 1 - at) ≤ there + k → ltb (min 1 (j + 1 - at)) (there + k) ≡ y → Told at (j + 1) (there + k) y
     told y p q = record { own = p; other = q }
@@ -81,9 +81,9 @@ told-next {at} {j} {there} {k} {any} {b} passes e h = go any b (eqb j at) refl h
     go false true true p q r = no (omega (arith, h.own, one p, ltb-false (min 1 (j - at)) there q, eqb-true j at r))
     go false false true p q r = no (omega (arith, h.own, one (passes (eqb-true j at r)), ltb-false (min 1 (j - at)) there q, eqb-true j at r))
     go true true false p q r = yes (omega (arith, h.own, one p, eqb-false j at r))
-    go true false false p q r = yes (omega (arith, ltb-true (min 1 (j - at)) there q, none p, eqb-false j at r))
+    go true false false p q r = yes (omega (arith, ltb-true (min 1 (j - at)) there q, None p, eqb-false j at r))
     go false true false p q r = yes (omega (arith, h.own, one p, eqb-false j at r))
-    go false false false p q r = no (omega (arith, h.own, ltb-false (min 1 (j - at)) there q, none p, eqb-false j at r))
+    go false false false p q r = no (omega (arith, h.own, ltb-false (min 1 (j - at)) there q, None p, eqb-false j at r))
 
 -- all things passed
 pub told-all : {at n there : ℕ} {any : Bool} → at < n → Told at n there any → ltb 1 there ≡ any

@@ -1,10 +1,10 @@
 -- validate/slot.rs: what the code holds of the names, of where pairs sit and of a pair, and what it tells of the pair.
 use Rattle.std.specs.Prelude.{ℕ, ◌+◌, ◌*◌, ◌<◌, ◌≤◌, ◌≡◌, ◌&&◌, List, [], ◌∷◌, pos, get_or}
+use Rattle.std.specs.Prelude.{Option, None, Some}
 use Rattle.words.specs.Words.{when, any_of, given}
 use Rattle.numbers.specs.Names as Names
 use Rattle.catalogue.specs.Catalogue.{catalogue_of}
 use Rattle.catalogue.specs.Lookups.{name_id}
-use Rattle.catalogue.specs.Answers.{id_of, info_of}
 use Rattle.fit.specs.Fit.{item_at}
 use Rattle.entry.specs.declared.Entry.{Entry}
 use Rattle.entry.specs.declared.Rule.TheVariants.{WrongSlotIndex, SubsystemTaken}
@@ -13,15 +13,13 @@ use Rattle.context.specs.Context.{Pair, Context, on}
 use Rattle.context.specs.Gathered.{slot_in, pair_count}
 use Rattle.slot.specs.declared.Ids.{Ids}
 use Rattle.slot.specs.declared.Item.{Item}
-use Rattle.slot.specs.declared.Expected.{Expected}
-use Rattle.slot.specs.declared.Expected.TheVariants.{Index, Nothing}
 use Rattle.slot.specs.Slot.{holds_one, shares_slot, wrong_slot_index, subsystem_taken}
 
 -- the attributes that the checks look up
 pub record Named (catalogue : List ℕ) (ids : Ids) : Type 0 where
-  pub implantness : id_of ids.implantness ≡ name_id (catalogue_of catalogue).names Names.implantness
-  pub boosterness : id_of ids.boosterness ≡ name_id (catalogue_of catalogue).names Names.boosterness
-  pub part : id_of ids.part ≡ name_id (catalogue_of catalogue).names Names.sub_system_slot
+  pub implantness : ids.implantness ≡ name_id (catalogue_of catalogue).names Names.implantness
+  pub boosterness : ids.boosterness ≡ name_id (catalogue_of catalogue).names Names.boosterness
+  pub part : ids.part ≡ name_id (catalogue_of catalogue).names Names.sub_system_slot
 
 -- a slot and an index as one number, which is that of no others
 pub record Sits (slot index place : ℕ) : Type 0 where
@@ -36,15 +34,15 @@ abbrev pub Places : (fit places : List ℕ) → Type 0
 Places fit places = Placed (pair_count fit) fit places
 
 -- the entry of a pair that should have another index
-unfoldable pub expects : Pair → Expected → List Entry
-expects p Nothing = []
-expects p (Index index) = on p (WrongSlotIndex index) ∷ []
+unfoldable pub expects : Pair → Option ℕ → List Entry
+expects p None = []
+expects p (Some index) = on p (WrongSlotIndex index) ∷ []
 
 -- an item holds what the checks look at of a pair
 pub record Holds (x : Context) (ps : List Pair) (p : Pair) (item : Item) : Type 0 where
   pub position : item.position ≡ p.position
   pub slot : item.slot ≡ p.slot
-  pub category : given (info_of item.answer) (pos 0) (λ x. x.category) ≡ p.category
+  pub category : given item.answer (pos 0) (λ x. x.category) ≡ p.category
   pub rack : slot_in item.rack ≡ p.rack
   pub taken : item.taken ≡ (holds_one p && any_of (shares_slot p) ps)
   pub expected : expects p item.expected ≡ wrong_slot_index x p

@@ -1,6 +1,6 @@
 -- validate/slot.rs, the eight checks of an item. The racks and the hardpoints of the ship, which the Rust counts before, stand in `racks`.
 use Rattle.std.specs.Prelude.{ℕ, Bool, false, not, ◌&&◌, ◌||◌, cond, List, ◌++◌, eqb, Float}
-use Rattle.std.proofs.Math.Option.{Option, none, some}
+use Rattle.std.specs.Prelude.{Option, None, Some}
 use Rattle.std.specs.Float.Ieee.{eq}
 use Rattle.words.specs.Words.{◌>>=◌, each, when, when_any, given, same}
 use Rattle.numbers.specs.Names as Names
@@ -18,7 +18,7 @@ use Rattle.context.specs.Context.{Pair, Context, is_fitted, is_in, is_fighter_sl
 -- ---- checks that look at one item
 -- the name of an implant's or a booster's own slot number
 unfoldable pub slot_number_name : Pair → Option ℕ
-slot_number_name p = cond (is_in Slots.implant p) (some Names.implantness) (cond (is_in Slots.booster p) (some Names.boosterness) none)
+slot_number_name p = cond (is_in Slots.implant p) (Some Names.implantness) (cond (is_in Slots.booster p) (Some Names.boosterness) None)
 
 module _ (x : Context) (p : Pair) where
   unfoldable pub wrong_slot : List Entry

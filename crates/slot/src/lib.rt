@@ -2,13 +2,11 @@
 #![tactic(auto)]
 
 ghost use Rattle.std.specs.Prelude.{◌≡◌, false, not, ◌&&◌, List, ◌++◌, ℕ, ◌+◌, ◌*◌, ◌<◌, ◌≤◌};
-ghost use Rattle.std.proofs.Math.Option.{none};
+ghost use Rattle.std.specs.Prelude.{None};
 ghost use Rattle.std.specs.Float.Ieee.{eq};
 ghost use Rattle.words.specs.Words.{when, given, any_of, same};
 ghost use Rattle.numbers.specs.Sizes.{most_pairs};
-ghost use Rattle.floats.specs.Values.{value_of};
 ghost use Rattle.catalogue.specs.Lookups.{name_id};
-ghost use Rattle.catalogue.specs.Answers.{id_of, info_of};
 ghost use Rattle.catalogue.specs.Sound as Catalogue;
 ghost use Rattle.fit.specs.Sound as Fit;
 ghost use Rattle.entry.specs.declared.Rule.TheVariants.{SubsystemTaken};
@@ -20,17 +18,16 @@ ghost use Rattle.slot.specs.Slot.{wrong_slot, not_a_module, not_a_drone, not_a_f
 ghost use Rattle.slot.specs.Slot.{holds_one, shares_slot, shares_part, subsystem_taken, slot_checks, slot_rules};
 ghost use Rattle.slot.specs.AtPair.{Named, Sits, Places, Holds, Checked, expects};
 
-use catalogue::{AttributeId, TypeAnswer};
+use catalogue::TypeInfo;
 use entry::{Entry, Rule, Target};
-use floats::Value;
 use numbers::{categories, names, slots};
 
 // The attributes that the checks look up by name.
 #[derive(Clone, Copy)]
 struct Ids {
-    implantness: AttributeId,
-    boosterness: AttributeId,
-    part: AttributeId,
+    implantness: Option<i32>,
+    boosterness: Option<i32>,
+    part: Option<i32>,
 }
 
 // The attributes, looked up once for all pairs.
@@ -111,11 +108,11 @@ fn slot_taken(fit: &[u8], places: &[u32; 256], i: usize) -> bool
 }
 
 // The attribute in which an implant or a booster names its slot.
-fn slot_number(catalogue: &[u8], fit: &[u8], ids: Ids, i: usize) -> AttributeId
+fn slot_number(catalogue: &[u8], fit: &[u8], ids: Ids, i: usize) -> Option<i32>
     requires { Fit.Sound fit.now × Named catalogue.now ids × (i < pair_count fit.now) }
     ensures { let x = context_of catalogue.now fit.now in
         let p = pair_at catalogue.now fit.now i in
-        id_of result ≡ given (slot_number_name p) none (name_id x.names) }
+        result ≡ given (slot_number_name p) None (name_id x.names) }
 {
     let slot = fit::item_slot(fit, i);
     if slot == slots::IMPLANT {
@@ -126,14 +123,7 @@ fn slot_number(catalogue: &[u8], fit: &[u8], ids: Ids, i: usize) -> AttributeId
         let id = ids.boosterness;
         return id;
     }
-    AttributeId::Unknown
-}
-
-// The index that an item should have, where it has another.
-#[derive(Clone, Copy)]
-enum Expected {
-    Index(u16),
-    Nothing,
+    None
 }
 
 // An implant and a booster sit in a numbered slot of their own, which the item names itself.
@@ -143,34 +133,34 @@ fn wrong_slot_index(
     facts: &[u32; 2058],
     ids: Ids,
     i: usize,
-) -> Expected
+) -> Option<u16>
     requires { Gathered catalogue.now fit.now facts.now × Named catalogue.now ids × (i < pair_count fit.now) }
     ensures { let x = context_of catalogue.now fit.now in
         let p = pair_at catalogue.now fit.now i in
         expects p result ≡ wrong_slot_index x p }
 {
     let number = slot_number(catalogue, fit, ids, i);
-    let AttributeId::Known(id) = number else {
-        return Expected::Nothing;
+    let Some(id) = number else {
+        return None;
     };
     let value = fit::value(fit, facts, i + 2, id);
-    let Value::Given(v) = value else {
-        return Expected::Nothing;
+    let Some(v) = value else {
+        return None;
     };
     let expected = floats::to_u16(v);
     if expected == fit::item_index(fit, i) {
-        return Expected::Nothing;
+        return None;
     }
-    Expected::Index(expected)
+    Some(expected)
 }
 
 // Whether a value is that of a part; a NaN is that of none.
-fn is_part(value: Value, part: f64) -> bool
-    ensures { result ≡ given (value_of value) false (λ v. eq v part) }
+fn is_part(value: Option<f64>, part: f64) -> bool
+    ensures { result ≡ given value false (λ v. eq v part) }
 {
     match value {
-        Value::Given(v) => v == part,
-        Value::Missing => false,
+        Some(v) => v == part,
+        None => false,
     }
 }
 
@@ -217,31 +207,31 @@ fn subsystem_taken(catalogue: &[u8], fit: &[u8], facts: &[u32; 2058], ids: Ids, 
         return false;
     }
     let part = ids.part;
-    let AttributeId::Known(id) = part else {
+    let Some(id) = part else {
         return false;
     };
     let value = fit::value(fit, facts, i + 2, id);
-    let Value::Given(part) = value else {
+    let Some(part) = value else {
         return false;
     };
     shares_part(fit, facts, id, part, i)
 }
 
 // Whether a type is of a category. One that the catalogue lacks is of none.
-fn is_of(answer: TypeAnswer, category: i32) -> bool
-    ensures { result ≡ given (info_of answer) false (λ x. same x.category category) }
+fn is_of(answer: Option<TypeInfo>, category: i32) -> bool
+    ensures { result ≡ given answer false (λ x. same x.category category) }
 {
     match answer {
-        TypeAnswer::Known(info) => words::same_id(info.category, category),
-        TypeAnswer::Unknown => false,
+        Some(info) => words::same_id(info.category, category),
+        None => false,
     }
 }
 
 // Whether a type goes into a rack. One that the catalogue lacks does not.
-fn is_module(answer: TypeAnswer) -> bool
-    ensures { result ≡ given (info_of answer) false (λ x. is_module_category x.category) }
+fn is_module(answer: Option<TypeInfo>) -> bool
+    ensures { result ≡ given answer false (λ x. is_module_category x.category) }
 {
-    let TypeAnswer::Known(info) = answer else {
+    let Some(info) = answer else {
         return false;
     };
     context::is_module_category(info.category)
@@ -252,10 +242,10 @@ fn is_module(answer: TypeAnswer) -> bool
 struct Item {
     position: u32,
     slot: u8,
-    answer: TypeAnswer,
+    answer: Option<TypeInfo>,
     rack: u8,
     taken: bool,
-    expected: Expected,
+    expected: Option<u16>,
     covered: bool,
 }
 
@@ -311,7 +301,7 @@ fn push_unless(
     n: usize,
 ) -> usize
     requires { Room n 1 }
-    ensures { let test = there && not (given (info_of item.answer) false (λ x. same x.category category)) in
+    ensures { let test = there && not (given item.answer false (λ x. same x.category category)) in
         Wrote out.old n out.new result (when test (on_item item.position rule)) × (result ≤ n + 1) }
 {
     let answer = item.answer;
@@ -389,8 +379,8 @@ fn expect_index(item: Item, out: &mut [u8], n: usize) -> usize
 {
     let expected = item.expected;
     match expected {
-        Expected::Index(index) => push_when(item, true, Rule::WrongSlotIndex(index), out, n),
-        Expected::Nothing => n,
+        Some(index) => push_when(item, true, Rule::WrongSlotIndex(index), out, n),
+        None => n,
     }
 }
 

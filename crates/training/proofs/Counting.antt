@@ -4,7 +4,7 @@ use native.Mathlib.Omega.{arith}
 use mathlib.Core.Path.{◌≡◌, refl, sym, ap, ap₂, ◌∙◌}
 use mathlib.Core.Bool.{Bool, true, false, not, ◌&&◌, ◌||◌, cond, true≢false}
 use mathlib.Core.List.{List, [], ◌∷◌, ◌++◌}
-use mathlib.Core.Option.{Option, none, some}
+use Rattle.std.specs.Prelude.{Option, None, Some}
 use lib.Dec.{ltb}
 use lib.IntN.{pos}
 use lib.ListN.{length}
@@ -43,7 +43,7 @@ any_found h key id i (suc n) e =
   where
     go : (b : Bool)
         → any_of (same id) (table_from (suc i) n h) ≡ was_found (find (λ j. same (key j) id) (table_from (suc i) n (λ j. j)))
-        → b || any_of (same id) (table_from (suc i) n h) ≡ was_found (cond b (some i) (find (λ j. same (key j) id) (table_from (suc i) n (λ j. j))))
+        → b || any_of (same id) (table_from (suc i) n h) ≡ was_found (cond b (Some i) (find (λ j. same (key j) id) (table_from (suc i) n (λ j. j))))
     go true r = refl
     go false r = r
 
@@ -54,11 +54,11 @@ module _ (b : List ℕ) (id : Id) where
       any_found (λ i. i32_at b (skills_at b + 4 * i)) (key_at (skill_ids b)) id 0 (skill_count b)
       (λ j _ q. part-key b (skills_at b) (skill_count b) j (omega (arith, q)))
 
-  pub listed_found : (i : ℕ) → place_of (skill_ids b) (skill_count b) id ≡ some i → true ≡ contains id (fit_of b).skills
+  pub listed_found : (i : ℕ) → place_of (skill_ids b) (skill_count b) id ≡ Some i → true ≡ contains id (fit_of b).skills
   unfolding given
   listed_found i e = sym (listed_by ∙ ap was_found e)
 
-  pub listed-nowhere : place_of (skill_ids b) (skill_count b) id ≡ none → false ≡ contains id (fit_of b).skills
+  pub listed-nowhere : place_of (skill_ids b) (skill_count b) id ≡ None → false ≡ contains id (fit_of b).skills
   unfolding given
   listed-nowhere e = sym (listed_by ∙ ap was_found e)
 
@@ -115,7 +115,7 @@ module _ (f : Fit) (n : ℕ) where
       go true false q r = ap (λ (x : Bool). length (cond x (own ∷ only unlisted (reported f n ws)) (only unlisted (reported f n ws)))) q ∙ r
       go false b q r = r
 
-  pub count-listed : (c : Catalogue) (r : Result) → result_at f n ≡ some r
+  pub count-listed : (c : Catalogue) (r : Result) → result_at f n ≡ Some r
       → count_of unlisted (skill_list c f n) ≡ count_of (is_new (training_of f)) (wanted_skills c r)
   unfolding skill_list ◌>>=◌
   count-listed c r e = ap (λ (o : Option Result). count_of unlisted (◌>>=◌ o (λ x. reported f n (wanted_skills c x)))) e ∙ count-reported (wanted_skills c r)

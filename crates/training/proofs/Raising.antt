@@ -153,9 +153,9 @@ level-own (i ∷ is) (l ∷ ls) t k p o = go (same i t) refl (lt_z t i) refl (le
         trained s.ids s.levels t ≡ cond x l (trained is ls t) + k)
     go true e y f r = ap (λ (b : Bool). cond b (l + k) (trained is ls t)) e
     go false e true f r =
-        let none = under_first i is (l ∷ ls) t o f in
+        let None = under_first i is (l ∷ ls) t o f in
         let past : cond (same i t) l (trained is ls t) ≡ trained is ls t = ap (λ (b : Bool). cond b l (trained is ls t)) e in
-        let zero_left : trained is ls t ≡ 0 = sym past ∙ none in
+        let zero_left : trained is ls t ≡ 0 = sym past ∙ None in
         ap (λ (b : Bool). cond b k (cond (same i t) l (trained is ls t))) (same_refl t) ∙ omega (arith, zero_left)
     go false e false f r = ap (λ (b : Bool). cond b l (trained (raised is ls t k).ids (raised is ls t k).levels t)) e ∙ r
 

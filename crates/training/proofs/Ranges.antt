@@ -2,7 +2,7 @@
 use Prim.Native.Nat.{ℕ, zero, suc, ◌+◌, ◌*◌, ◌-◌, ◌<◌, max}
 use mathlib.Core.Bool.{Bool, true, false, cond}
 use mathlib.Core.List.{List, [], ◌∷◌, foldl}
-use mathlib.Core.Option.{Option, none, some}
+use Rattle.std.specs.Prelude.{Option, None, Some}
 use lib.IntN.{ℤ}
 use lib.Signed.{lt_z, mag}
 use lib.Ieee.{Float}
@@ -54,8 +54,8 @@ met-range c r zero = asked-range c (value r)
 met-range c r (suc n) = all_join (met-range c r n) (go (skill_at (noted (met c r n)) n))
   where
     go : (o : Option Id) → All Wanted (given o [] (of_skill c))
-    go none = unfold given in nil
-    go (some t) = unfold given of_skill in asked-range c (base_value c t)
+    go None = unfold given in nil
+    go (Some t) = unfold given of_skill in asked-range c (base_value c t)
 
 pub wanted-range : (limit : ℕ) (c : Catalogue) (r : Result) → All Wanted (walk_within limit c r)
 unfolding walk_within noted

@@ -6,7 +6,7 @@ use native.Mathlib.Omega.{arith}
 use mathlib.Core.Path.{◌≡◌, refl, sym, ap, ap₂, ◌∙◌}
 use mathlib.Core.Bool.{Bool, true, false, cond}
 use mathlib.Core.List.{List, [], ◌∷◌, ◌++◌}
-use mathlib.Core.Option.{some}
+use Rattle.std.specs.Prelude.{Some}
 use mathlib.Core.Logic.{◌⊎◌, inl, inr}
 use lib.Dec.{ltb}
 use borrow.Author.Tests.{lt-ltb, le-ltb, ltb-true, ltb-false}
@@ -112,7 +112,7 @@ all-given (w ∷ ws) k s g =
 
 -- ---- steps of a fit
 module _ (c : Catalogue) (n : ℕ) where
-  pub list_of : (f : Fit) (r : Result) → result_at f n ≡ some r → skill_list c f n ≡ reported f n (wanted_skills c r)
+  pub list_of : (f : Fit) (r : Result) → result_at f n ≡ Some r → skill_list c f n ≡ reported f n (wanted_skills c r)
   unfolding skill_list ◌>>=◌
   list_of f r e = rw e
 
@@ -128,20 +128,20 @@ module _ (c : Catalogue) (n : ℕ) where
       go true i = refl
       go false i = i
 
-  pub step_of : (f : Fit) (r : Result) → result_at f n ≡ some r → step c n f ≡ trained_as f (stepped (wanted_skills c r) (training_of f))
+  pub step_of : (f : Fit) (r : Result) → result_at f n ≡ Some r → step c n f ≡ trained_as f (stepped (wanted_skills c r) (training_of f))
   unfolding step
   step_of f r e = ap (step_by f) (list_of f r e) ∙ step_by_lem f (wanted_skills c r)
 
-  pub trained-steps : (k : ℕ) (f : Fit) (r : Result) → result_at f n ≡ some r → trained_by c n k f ≡ trained_as f (steps (wanted_skills c r) k (training_of f))
+  pub trained-steps : (k : ℕ) (f : Fit) (r : Result) → result_at f n ≡ Some r → trained_by c n k f ≡ trained_as f (steps (wanted_skills c r) k (training_of f))
   unfolding trained_by steps
   trained-steps zero f r e = refl
   trained-steps (suc k) f r e =
       let next = trained_as f (stepped (wanted_skills c r) (training_of f)) in
       ap (trained_by c n k) (step_of f r e) ∙ trained-steps k next r (same-result f (stepped (wanted_skills c r) (training_of f)) e)
     where
-      same-result : (f : Fit) (t : Training) → result_at f n ≡ some r → result_at (trained_as f t) n ≡ some r
+      same-result : (f : Fit) (t : Training) → result_at f n ≡ Some r → result_at (trained_as f t) n ≡ Some r
       same-result f t e = unfold result_at in e
 
-  pub trained-turns : (k : ℕ) (f : Fit) (r : Result) → result_at f n ≡ some r → Listed (training_of f)
+  pub trained-turns : (k : ℕ) (f : Fit) (r : Result) → result_at f n ≡ Some r → Listed (training_of f)
       → trained_by c n k f ≡ trained_as f (turns (training_of f) k (wanted_skills c r)).0
   trained-turns k f r e g = trained-steps k f r e ∙ ap (trained_as f) (all-given (wanted_skills c r) k (training_of f) g)

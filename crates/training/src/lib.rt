@@ -18,7 +18,6 @@ ghost use Rattle.training.specs.Training.{training_of, raised, trained_by, train
 ghost use Rattle.training.specs.Turns.{turn, turns, is_new, Listed, held_in, Parted};
 
 use calls::refused;
-use keys::Found;
 use numbers::{refusals, sizes};
 use skill::Walk;
 
@@ -277,8 +276,8 @@ fn is_listed(fit: &[u8], id: i32) -> bool
     let n = fit::skill_count(fit);
     let found = keys::place_of(image::part(fit, 28, 4 * n), n, id);
     match found {
-        Found::At(_) => true,
-        Found::Nothing => false,
+        Some(_) => true,
+        None => false,
     }
 }
 

@@ -4,7 +4,7 @@ use native.Mathlib.Omega.{arith}
 use mathlib.Core.Path.{◌≡◌, refl, sym, ap, ap₂, ◌∙◌}
 use mathlib.Core.Bool.{Bool, true, false, not, ◌||◌}
 use mathlib.Core.List.{List, [], ◌∷◌}
-use mathlib.Core.Option.{Option, none, some}
+use Rattle.std.specs.Prelude.{Option, None, Some}
 use lib.ListN.{length}
 use Rattle.words.specs.Words.{when, each, table, any_of, given, same, contains}
 use Rattle.words.proofs.Lengths.{few-when, few-bind, few-each}
@@ -12,10 +12,8 @@ use Rattle.words.proofs.Tables.{length-table}
 use Rattle.numbers.specs.Categories as Categories
 use Rattle.catalogue.specs.Catalogue.{Id, Catalogue, TypeData}
 use Rattle.catalogue.specs.Lookups.{type_of}
-use Rattle.catalogue.specs.Answers.{info_of, info_of_type}
+use Rattle.catalogue.specs.Answers.{info_of_type}
 use Rattle.catalogue.specs.declared.TypeInfo.{TypeInfo}
-use Rattle.catalogue.specs.declared.TypeAnswer.{TypeAnswer}
-use Rattle.catalogue.specs.declared.TypeAnswer.TheVariants.{Known, Unknown}
 use Rattle.entry.specs.declared.Rule.TheVariants.{NotAMode, NotASkill}
 use Rattle.entry.specs.Entries.{on_ship}
 use Rattle.entry.specs.Wrote.{Wrote}
@@ -37,45 +35,45 @@ contains-four a x y z w = or_four (same a x) (same a y) (same a z) (same a w)
 
 -- what a lookup of a type answers, and a test of its category and group, by whether it is there
 abbrev told : Option TypeData → Option TypeInfo
-told o = given o none (λ x. some (info_of_type x))
+told o = given o None (λ x. Some (info_of_type x))
 
 module _ (test : Id → Id → Bool) where
   abbrev tested : Option TypeData → Bool
   tested o = given o false (λ x. test x.category x.group)
 
-  known : (info : TypeInfo) (o : Option TypeData) → some info ≡ told o → test info.category info.group ≡ tested o
+  known : (info : TypeInfo) (o : Option TypeData) → Some info ≡ told o → test info.category info.group ≡ tested o
   unfolding given
-  known info none q = absurd (clash q)
+  known info None q = absurd (clash q)
     where
-      clash : some info ≡ none → ⊥
+      clash : Some info ≡ None → ⊥
       clash q = let y : ◌≡◌ {A = ℕ} 0 1 = cc in omega arith
-  known info (some x) q = let h : info ≡ info_of_type x = cc in rw h
+  known info (Some x) q = let h : info ≡ info_of_type x = cc in rw h
 
-  unknown : (o : Option TypeData) → none ≡ told o → false ≡ tested o
+  unknown : (o : Option TypeData) → None ≡ told o → false ≡ tested o
   unfolding given
-  unknown none q = refl
-  unknown (some x) q = absurd (clash q)
+  unknown None q = refl
+  unknown (Some x) q = absurd (clash q)
     where
-      clash : none ≡ some (info_of_type x) → ⊥
+      clash : None ≡ Some (info_of_type x) → ⊥
       clash q = let y : ◌≡◌ {A = ℕ} 0 1 = cc in omega arith
 
   -- z is the id as the lookup was told it
-  module _ (c : Catalogue) {z id : Id} {answer : TypeAnswer} (e : z ≡ id) (found : info_of answer ≡ told (type_of c z)) where
-    pub test_known : {info : TypeInfo} → answer ≡ Known info → test info.category info.group ≡ tested (type_of c id)
-    test_known {info} h = known info (type_of c id) (sym (ap info_of h) ∙ found ∙ ap (λ (y : Id). told (type_of c y)) e)
+  module _ (c : Catalogue) {z id : Id} {answer : Option TypeInfo} (e : z ≡ id) (found : answer ≡ told (type_of c z)) where
+    pub test_known : {info : TypeInfo} → answer ≡ Some info → test info.category info.group ≡ tested (type_of c id)
+    test_known {info} h = known info (type_of c id) (sym h ∙ found ∙ ap (λ (y : Id). told (type_of c y)) e)
 
-    pub test_unknown : answer ≡ Unknown → false ≡ tested (type_of c id)
-    test_unknown h = unknown (type_of c id) (sym (ap info_of h) ∙ found ∙ ap (λ (y : Id). told (type_of c y)) e)
+    pub test_unknown : answer ≡ None → false ≡ tested (type_of c id)
+    test_unknown h = unknown (type_of c id) (sym h ∙ found ∙ ap (λ (y : Id). told (type_of c y)) e)
 
 -- ---- the skills
 by-type : (o : Option TypeData) → given (told o) false (λ x. same x.category Categories.skill) ≡ given o false (λ x. same x.category Categories.skill)
 unfolding given
-by-type none = refl
-by-type (some x) = refl
+by-type None = refl
+by-type (Some x) = refl
 
 -- rule 21 of a skill: z and y are the id as the lookup and the entry were told it
-pub skill-told : (c : Catalogue) (answer : TypeAnswer) {z y id : Id} → z ≡ id → y ≡ id → info_of answer ≡ told (type_of c z)
-    → when (not (given (info_of answer) false (λ x. same x.category Categories.skill))) (on_ship (NotASkill y)) ≡ not_a_skill_at c id
+pub skill-told : (c : Catalogue) (answer : Option TypeInfo) {z y id : Id} → z ≡ id → y ≡ id → answer ≡ told (type_of c z)
+    → when (not (given answer false (λ x. same x.category Categories.skill))) (on_ship (NotASkill y)) ≡ not_a_skill_at c id
 unfolding is_skill
 skill-told c answer {z} {y} {id} e f h =
     ap₂ (λ (t : Bool) (i : Id). when (not t) (on_ship (NotASkill i)))
@@ -110,11 +108,11 @@ skills-four c fit i v w x y z =
 
 -- ---- the mode
 module _ (c : Catalogue) (mode : Option Id) where
-  pub mode-none : {b : List ℕ} {n : ℕ} → mode ≡ none → Wrote b n b n (not_a_mode c mode)
+  pub mode-none : {b : List ℕ} {n : ℕ} → mode ≡ None → Wrote b n b n (not_a_mode c mode)
   unfolding not_a_mode
   mode-none e = wrote-bind_none _ e
 
-  pub mode-some : {b a : List ℕ} {n k : ℕ} (m : Id) (t : Bool) → mode ≡ some m → t ≡ is_mode c m
+  pub mode-some : {b a : List ℕ} {n k : ℕ} (m : Id) (t : Bool) → mode ≡ Some m → t ≡ is_mode c m
       → Wrote b n a k (when (not t) (on_ship NotAMode)) → Wrote b n a k (not_a_mode c mode)
   unfolding not_a_mode
   mode-some m t e q w = wrote-bind _ e (wrote-same (ap (λ (s : Bool). when (not s) (on_ship NotAMode)) q) w)

@@ -1,6 +1,6 @@
 -- calculate/mod.rs, `is_hull` to `is_skill`, and validate/mod.rs, `kind`.
 use Rattle.std.specs.Prelude.{Bool, false, not, ◌||◌, List}
-use Rattle.std.proofs.Math.Option.{Option}
+use Rattle.std.specs.Prelude.{Option}
 use Rattle.words.specs.Words.{◌>>=◌, each, when, given, same, contains}
 use Rattle.numbers.specs.Categories as Categories
 use Rattle.numbers.specs.Groups as Groups

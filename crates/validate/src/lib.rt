@@ -8,7 +8,6 @@ ghost use Rattle.numbers.specs.Groups as Groups;
 ghost use Rattle.numbers.specs.Sizes.{most_skills, most_pairs};
 ghost use Rattle.catalogue.specs.Catalogue.{catalogue_of};
 ghost use Rattle.catalogue.specs.Sound as Catalogue;
-ghost use Rattle.catalogue.specs.Answers.{info_of};
 ghost use Rattle.fit.specs.Fit.{skill_count, mode_of, fit_of};
 ghost use Rattle.fit.specs.Sound as Fit;
 ghost use Rattle.entry.specs.declared.Rule.TheVariants.{NotAHull, NotASkill};
@@ -19,9 +18,8 @@ ghost use Rattle.validate.specs.Kind.{is_hull_kind, is_hull, is_mode, not_a_mode
 ghost use Rattle.validate.specs.Skills.{OfSkills};
 ghost use Rattle.validate.specs.Validate.{hull_rules, list_with, list_of, most_entries};
 
-use catalogue::TypeAnswer;
+use catalogue::TypeInfo;
 use entry::{Entry, Rule, Target};
-use fit::ModeAnswer;
 use numbers::{categories, groups, sizes};
 
 // No list has more entries: the mode, the skills, 12 resources, 6 racks, 2 hardpoints; and of each pair 8 by slot.rs, 8 by item.rs.
@@ -56,8 +54,8 @@ pub fn is_hull(catalogue: &[u8], fit: &[u8], facts: &[u32; 2058]) -> bool
 {
     let answer = context::ship_type(catalogue, fit, facts);
     match answer {
-        TypeAnswer::Known(info) => is_hull_kind(info.category, info.group),
-        TypeAnswer::Unknown => false,
+        Some(info) => is_hull_kind(info.category, info.group),
+        None => false,
     }
 }
 
@@ -68,19 +66,19 @@ fn is_mode(catalogue: &[u8], id: i32) -> bool
 {
     let mut none = [0u32; 0];
     let answer = catalogue::type_of(catalogue, id, &mut none);
-    let TypeAnswer::Known(info) = answer else {
+    let Some(info) = answer else {
         return false;
     };
     words::same_id(info.group, groups::SHIP_MODIFIERS)
 }
 
 // Whether a type is a skill, by what the lookup answered. One that the catalogue lacks is none.
-fn is_skill(answer: TypeAnswer) -> bool
-    ensures { result ≡ given (info_of answer) false (λ x. same x.category Categories.skill) }
+fn is_skill(answer: Option<TypeInfo>) -> bool
+    ensures { result ≡ given answer false (λ x. same x.category Categories.skill) }
 {
     match answer {
-        TypeAnswer::Known(info) => words::same_id(info.category, categories::SKILL),
-        TypeAnswer::Unknown => false,
+        Some(info) => words::same_id(info.category, categories::SKILL),
+        None => false,
     }
 }
 
@@ -90,7 +88,7 @@ fn not_a_mode(catalogue: &[u8], fit: &[u8], out: &mut [u8], n: usize) -> usize
         Wrote out.old n out.new result (not_a_mode (catalogue_of catalogue.now) mode) × (result ≤ n + 1) }
 {
     let answer = fit::mode(fit);
-    let ModeAnswer::Mode(mode) = answer else {
+    let Some(mode) = answer else {
         return n;
     };
     entry::emit_when(
@@ -105,9 +103,9 @@ fn not_a_mode(catalogue: &[u8], fit: &[u8], out: &mut [u8], n: usize) -> usize
 }
 
 // Rule 21 of a skill, by what the lookup answered of its type.
-fn unless_skill(id: i32, answer: TypeAnswer, out: &mut [u8], n: usize) -> usize
+fn unless_skill(id: i32, answer: Option<TypeInfo>, out: &mut [u8], n: usize) -> usize
     requires { Room n 1 }
-    ensures { let skill = given (info_of answer) false (λ x. same x.category Categories.skill) in
+    ensures { let skill = given answer false (λ x. same x.category Categories.skill) in
         Wrote out.old n out.new result (when (not skill) (on_ship (NotASkill id))) × (result ≤ n + 1) }
 {
     entry::emit_when(

@@ -5,7 +5,7 @@ use mathlib.Core.Path.{sym, subst}
 use mathlib.Core.Bool.{Bool, true, false, cond}
 use mathlib.Core.List.Memᴰ
 use mathlib.Core.List.{List, [], ◌∷◌, ◌++◌, Memᴰ}
-use mathlib.Core.Option.{Option, none, some}
+use Rattle.std.specs.Prelude.{Option, None, Some}
 use lib.Dec.{T}
 use lib.ListN.{length, get_or, drop}
 use Rattle.words.specs.Words.{◌>>=◌, each, when, unless, find, given, table_from}
@@ -56,8 +56,8 @@ module _ {A : Type 0} {P : A → Type 0} where
   module _ {I : Type 0} where
     pub all-bind : (o : Option I) {f : I → List A} → ((x : I) → All P (f x)) → All P (◌>>=◌ o f)
     unfolding ◌>>=◌
-    all-bind none h = nil
-    all-bind (some x) h = h x
+    all-bind None h = nil
+    all-bind (Some x) h = h x
 
     pub all-each : (l : List I) {f : I → List A} → ((x : I) → All P (f x)) → All P (each l f)
     unfolding each
@@ -76,6 +76,6 @@ module _ {A : Type 0} {P : A → Type 0} where
   all-find R t nil b f n s = n
   all-find R t (cons {x} {l} p h) b f n s = go (t x) (all-find R t h b f n s)
     where
-      go : (c : Bool) → R (given (find t l) b f) → R (given (cond c (some x) (find t l)) b f)
+      go : (c : Bool) → R (given (find t l) b f) → R (given (cond c (Some x) (find t l)) b f)
       go true k = s x p
       go false k = k

@@ -5,8 +5,8 @@ use native.Mathlib.Omega.{arith}
 use mathlib.Core.Path.{◌≡◌, refl, sym, ap, ◌∙◌, subst}
 use mathlib.Core.Bool.{Bool, true, false, ◌||◌, cond}
 use mathlib.Core.List.{List, ◌∷◌}
-use mathlib.Core.Option.{none, some}
-use lib.ListN.{get_elem?}
+use Rattle.std.specs.Prelude.{None, Some}
+use Rattle.std.specs.Prelude.{slice_get}
 use Rattle.words.specs.Words.{table_from, table, any_of, sum_of}
 use Rattle.words.proofs.Tables.{any-more}
 
@@ -47,22 +47,22 @@ module _ {A : Type 0} where
       let q : n + 2 ≡ suc (suc n) = omega arith in
       ap (λ (m : ℕ). table m f) q ∙ ap (λ (l : List A). f 0 ∷ f 1 ∷ l) (table-later 2 0 n f)
 
-  elem_from : (i n : ℕ) (f : ℕ → A) (j : ℕ) → j < n → get_elem? (table_from i n f) j ≡ some (f (i + j))
+  elem_from : (i n : ℕ) (f : ℕ → A) (j : ℕ) → j < n → slice_get (table_from i n f) j ≡ Some (f (i + j))
   unfolding table_from
   elem_from i zero f j h = absurd (not-suc-le-zero h)
-  elem_from i (suc n) f zero h = ap (λ (k : ℕ). some (f k)) (sym (add-zero i))
+  elem_from i (suc n) f zero h = ap (λ (k : ℕ). Some (f k)) (sym (add-zero i))
   elem_from i (suc n) f (suc j) h =
       let q : suc i + j ≡ i + suc j = omega arith in
-      elem_from (suc i) n f j (le_of_suc-le-suc h) ∙ ap (λ (k : ℕ). some (f k)) q
+      elem_from (suc i) n f j (le_of_suc-le-suc h) ∙ ap (λ (k : ℕ). Some (f k)) q
 
-  pub elem_table : (n : ℕ) (f : ℕ → A) (j : ℕ) → j < n → get_elem? (table n f) j ≡ some (f j)
-  elem_table n f j h = let q : 0 + j ≡ j = omega arith in elem_from 0 n f j h ∙ ap (λ (k : ℕ). some (f k)) q
+  pub elem_table : (n : ℕ) (f : ℕ → A) (j : ℕ) → j < n → slice_get (table n f) j ≡ Some (f j)
+  elem_table n f j h = let q : 0 + j ≡ j = omega arith in elem_from 0 n f j h ∙ ap (λ (k : ℕ). Some (f k)) q
 
-  past_from : (i n : ℕ) (f : ℕ → A) (j : ℕ) → n ≤ j → get_elem? (table_from i n f) j ≡ none
+  past_from : (i n : ℕ) (f : ℕ → A) (j : ℕ) → n ≤ j → slice_get (table_from i n f) j ≡ None
   unfolding table_from
   past_from i zero f j h = refl
   past_from i (suc n) f zero h = absurd (not-suc-le-zero h)
   past_from i (suc n) f (suc j) h = past_from (suc i) n f j (le_of_suc-le-suc h)
 
-  pub past_table : (n : ℕ) (f : ℕ → A) (j : ℕ) → n ≤ j → get_elem? (table n f) j ≡ none
+  pub past_table : (n : ℕ) (f : ℕ → A) (j : ℕ) → n ≤ j → slice_get (table n f) j ≡ None
   past_table n f j h = past_from 0 n f j h

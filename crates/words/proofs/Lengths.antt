@@ -4,7 +4,7 @@ use native.Mathlib.Nat.{mul-suc}
 use native.Mathlib.Omega.{arith}
 use mathlib.Core.Bool.{Bool, true, false, ◌&&◌}
 use mathlib.Core.List.{List, [], ◌∷◌}
-use mathlib.Core.Option.{Option, none, some}
+use Rattle.std.specs.Prelude.{Option, None, Some}
 use lib.ListN.{length, length-append}
 use lib.Dec.{ltb}
 use Rattle.words.specs.Words.{◌>>=◌, each, when, unless, when_any, when_above, any_of}
@@ -28,8 +28,8 @@ module _ {A B : Type 0} where
   module _ (f : A → List B) (c : ℕ) (h : (x : A) → length (f x) ≤ c) where
     pub few-bind : (o : Option A) → length (◌>>=◌ o f) ≤ c
     unfolding ◌>>=◌
-    few-bind none = omega arith
-    few-bind (some x) = h x
+    few-bind None = omega arith
+    few-bind (Some x) = h x
 
     pub few-each : (l : List A) → length (each l f) ≤ c * length l
     unfolding each

@@ -6,7 +6,7 @@ use native.Mathlib.Omega.{arith}
 use mathlib.Core.Path.{◌≡◌, refl, sym, ap, ◌∙◌}
 use mathlib.Core.Bool.{Bool, true, false, ◌||◌, ◌&&◌, cond}
 use mathlib.Core.List.{List, [], ◌∷◌, ◌++◌, map, append-nil, foldl, foldl-append}
-use mathlib.Core.Option.{Option, none, some}
+use Rattle.std.specs.Prelude.{Option, None, Some}
 use mathlib.Core.Logic.{⊎_elim}
 use mathlib.Mathlib.Data.Bool.Basic.{or-eq-false-eq-eq-false-and-eq-false}
 use lib.ListN.{length, length-append, get_or}
@@ -61,27 +61,27 @@ module _ {A B : Type 0} where
 
 -- ---- searches
 module _ {A : Type 0} (t : A → Bool) where
-  find-from : (i n : ℕ) (f : ℕ → A) → find t (table_from i n f) ≡ given (find (λ j. t (f j)) (from i n)) none (λ j. some (f j))
+  find-from : (i n : ℕ) (f : ℕ → A) → find t (table_from i n f) ≡ given (find (λ j. t (f j)) (from i n)) None (λ j. Some (f j))
   unfolding table_from find given
   find-from i zero f = refl
   find-from i (suc n) f = go (t (f i)) (find-from (suc i) n f)
     where
-      go : (b : Bool) → find t (table_from (suc i) n f) ≡ given (find (λ j. t (f j)) (from (suc i) n)) none (λ j. some (f j))
-          → cond b (some (f i)) (find t (table_from (suc i) n f)) ≡ given (cond b (some i) (find (λ j. t (f j)) (from (suc i) n))) none (λ j. some (f j))
+      go : (b : Bool) → find t (table_from (suc i) n f) ≡ given (find (λ j. t (f j)) (from (suc i) n)) None (λ j. Some (f j))
+          → cond b (Some (f i)) (find t (table_from (suc i) n f)) ≡ given (cond b (Some i) (find (λ j. t (f j)) (from (suc i) n))) None (λ j. Some (f j))
       go true h = refl
       go false h = h
 
   -- a search through a table is one for the first number that passes
-  pub find-table : (n : ℕ) (f : ℕ → A) → find t (table n f) ≡ given (find (λ j. t (f j)) (from 0 n)) none (λ j. some (f j))
+  pub find-table : (n : ℕ) (f : ℕ → A) → find t (table n f) ≡ given (find (λ j. t (f j)) (from 0 n)) None (λ j. Some (f j))
   find-table n f = find-from 0 n f
 
-  none_from : (i n : ℕ) (f : ℕ → A) → ((j : ℕ) → i ≤ j → j < i + n → t (f j) ≡ false) → find t (table_from i n f) ≡ none
+  none_from : (i n : ℕ) (f : ℕ → A) → ((j : ℕ) → i ≤ j → j < i + n → t (f j) ≡ false) → find t (table_from i n f) ≡ None
   unfolding table_from find
   none_from i zero f h = refl
   none_from i (suc n) f h = rw (h i (omega arith) (omega arith)) (none_from (suc i) n f (λ j p q. h j (omega (arith, p)) (omega (arith, q))))
 
   at_from : (i n : ℕ) (f : ℕ → A) (r : ℕ) → i ≤ r → r < i + n → ((j : ℕ) → i ≤ j → j < r → t (f j) ≡ false) → t (f r) ≡ true
-      → find t (table_from i n f) ≡ some (f r)
+      → find t (table_from i n f) ≡ Some (f r)
   unfolding table_from find
   at_from i zero f r a b h e = absurd (bad a b)
     where
@@ -89,15 +89,15 @@ module _ {A : Type 0} (t : A → Bool) where
       bad a b = omega arith
   at_from i (suc n) f r a b h e =
       ⊎_elim
-      (λ (q : i ≡ r). let g : t (f i) ≡ true = ap (λ (k : ℕ). t (f k)) q ∙ e in rw g (ap (λ (k : ℕ). some (f k)) q))
+      (λ (q : i ≡ r). let g : t (f i) ≡ true = ap (λ (k : ℕ). t (f k)) q ∙ e in rw g (ap (λ (k : ℕ). Some (f k)) q))
       (λ (q : i < r).
       rw (h i (omega arith) q) (at_from (suc i) n f r q (omega arith) (λ j p l. h j (omega (arith, p)) l) e))
       (eq-or-lt_of_le a)
 
-  pub find_none : (n : ℕ) (f : ℕ → A) → ((j : ℕ) → j < n → t (f j) ≡ false) → find t (table n f) ≡ none
+  pub find_none : (n : ℕ) (f : ℕ → A) → ((j : ℕ) → j < n → t (f j) ≡ false) → find t (table n f) ≡ None
   find_none n f h = none_from 0 n f (λ j p q. h j (omega (arith, q)))
 
-  pub find_at : (n : ℕ) (f : ℕ → A) (r : ℕ) → r < n → ((j : ℕ) → j < r → t (f j) ≡ false) → t (f r) ≡ true → find t (table n f) ≡ some (f r)
+  pub find_at : (n : ℕ) (f : ℕ → A) (r : ℕ) → r < n → ((j : ℕ) → j < r → t (f j) ≡ false) → t (f r) ≡ true → find t (table n f) ≡ Some (f r)
   find_at n f r a h e = at_from 0 n f r (omega arith) (omega (arith, a)) (λ j p q. h j q) e
 
   false-from : (i n : ℕ) (f : ℕ → A) → any_of t (table_from i n f) ≡ false → (j : ℕ) → i ≤ j → j < i + n → t (f j) ≡ false
@@ -141,16 +141,16 @@ module _ {A : Type 0} (t : A → Bool) where
   any_none f = refl
 
 -- what is made of what is made
-pub given_made : {A B C : Type 0} (o : Option A) (g : A → B) (z : C) (h : B → C) → given (given o none (λ x. some (g x))) z h ≡ given o z (λ x. h (g x))
+pub given_made : {A B C : Type 0} (o : Option A) (g : A → B) (z : C) (h : B → C) → given (given o None (λ x. Some (g x))) z h ≡ given o z (λ x. h (g x))
 unfolding given
-given_made none g z h = refl
-given_made (some x) g z h = refl
+given_made None g z h = refl
+given_made (Some x) g z h = refl
 
 -- what is made of the element that a search finds
 pub find-made : {A B : Type 0} (t : A → Bool) (g : A → B) (n : ℕ) (f : ℕ → A)
-    → given (find t (table n f)) none (λ x. some (g x)) ≡ given (find (λ j. t (f j)) (from 0 n)) none (λ j. some (g (f j)))
+    → given (find t (table n f)) None (λ x. Some (g x)) ≡ given (find (λ j. t (f j)) (from 0 n)) None (λ j. Some (g (f j)))
 find-made {A} {B} t g n f =
-    ap (λ (o : Option A). given o none (λ x. some (g x))) (find-table t n f) ∙ given_made (find (λ j. t (f j)) (from 0 n)) f none (λ x. some (g x))
+    ap (λ (o : Option A). given o None (λ x. Some (g x))) (find-table t n f) ∙ given_made (find (λ j. t (f j)) (from 0 n)) f None (λ x. Some (g x))
 
 -- ---- searches for a number
 module _ (t s : ℕ → Bool) where
@@ -163,17 +163,17 @@ module _ (t s : ℕ → Bool) where
   pub find-alike : (n : ℕ) → ((j : ℕ) → j < n → t j ≡ s j) → find t (from 0 n) ≡ find s (from 0 n)
   find-alike n h = alike_from 0 n (λ j q. h j (omega (arith, q)))
 
-below_from : (t : ℕ → Bool) (i n r : ℕ) → find t (from i n) ≡ some r → r < i + n
+below_from : (t : ℕ → Bool) (i n r : ℕ) → find t (from i n) ≡ Some r → r < i + n
 unfolding table_from find
 below_from t i zero r e = absurd (let z : ◌≡◌ {A = ℕ} 0 1 = cc in omega arith)
 below_from t i (suc n) r e = go (t i) e (below_from t (suc i) n r)
   where
-    go : (b : Bool) → cond b (some i) (find t (from (suc i) n)) ≡ some r → (find t (from (suc i) n) ≡ some r → r < suc i + n) → r < i + suc n
+    go : (b : Bool) → cond b (Some i) (find t (from (suc i) n)) ≡ Some r → (find t (from (suc i) n) ≡ Some r → r < suc i + n) → r < i + suc n
     go true q h = let p : i ≡ r = cc in omega arith
     go false q h = omega (arith, h q)
 
 -- what is found is below n
-pub find-below : (t : ℕ → Bool) (n r : ℕ) → find t (from 0 n) ≡ some r → r < n
+pub find-below : (t : ℕ → Bool) (n r : ℕ) → find t (from 0 n) ≡ Some r → r < n
 find-below t n r e = omega (arith, below_from t 0 n r e)
 
 -- a test of what is made of each element

@@ -6,7 +6,7 @@ use native.Mathlib.Omega.{arith}
 use mathlib.Core.Path.{◌≡◌, refl, sym, ap, ◌∙◌}
 use mathlib.Core.Bool.{Bool, true, false, ◌&&◌, cond}
 use mathlib.Core.List.{[], ◌∷◌, ◌++◌, append-nil}
-use mathlib.Core.Option.{Option, none, some}
+use Rattle.std.specs.Prelude.{Option, None, Some}
 use mathlib.Core.Logic.{⊎_elim}
 use Rattle.words.specs.Words.{table_from, table, only, find}
 use Rattle.words.proofs.Steps.{only-append}
@@ -41,17 +41,17 @@ module _ {A : Type 0} (f : ℕ → A) where
 
   -- ---- a search in what is left
   module _ (q : A → Bool) where
-    pub find-done : (i n : ℕ) → n ≤ i → find q (table_from i (n - i) f) ≡ none
+    pub find-done : (i n : ℕ) → n ≤ i → find q (table_from i (n - i) f) ≡ None
     unfolding table_from find
     find-done i n h = let e : n - i ≡ 0 = omega arith in rw e
 
-    pub find-turn : (i n : ℕ) → i < n → find q (table_from i (n - i) f) ≡ cond (q (f i)) (some (f i)) (find q (table_from (i + 1) (n - (i + 1)) f))
+    pub find-turn : (i n : ℕ) → i < n → find q (table_from i (n - i) f) ≡ cond (q (f i)) (Some (f i)) (find q (table_from (i + 1) (n - (i + 1)) f))
     unfolding table_from find
     find-turn i n h = let e : n - i ≡ suc (n - (i + 1)) = omega arith in rw (e, add-one i)
 
   -- ---- a search of the run
   module _ (p q : A → Bool) where
-    none_in : (i n : ℕ) → ((k : ℕ) → i ≤ k → k < i + n → p (f k) ≡ false) → find (λ x. p x && q x) (table_from i n f) ≡ none
+    none_in : (i n : ℕ) → ((k : ℕ) → i ≤ k → k < i + n → p (f k) ≡ false) → find (λ x. p x && q x) (table_from i n f) ≡ None
     unfolding table_from find
     none_in i zero h = refl
     none_in i (suc n) h = rw (h i (omega arith) (omega arith)) (none_in (suc i) n (λ k a b. h k (omega (arith, a)) (omega (arith, b))))
@@ -72,7 +72,7 @@ module _ {A : Type 0} (f : ℕ → A) where
     within i zero m h g = rw zero-add (none_in i m (λ k a b. g k (omega (arith, a)) (omega (arith, b))))
     within i (suc n) m h g =
         let e : suc n + m ≡ suc (n + m) = omega arith in
-        rw (e, h i (omega arith) (omega arith)) (ap (λ (o : Option A). cond (q (f i)) (some (f i)) o)
+        rw (e, h i (omega arith) (omega arith)) (ap (λ (o : Option A). cond (q (f i)) (Some (f i)) o)
         (within (suc i) n m (λ k a b. h k (omega (arith, a)) (omega (arith, b))) (λ k a b. g k (omega (arith, a)) (omega (arith, b)))))
 
     -- of n elements those from i to j pass p: a search for p and q is one for q among them

@@ -1,12 +1,12 @@
 -- The few words that the definitions are written in. A `do` line `x ← e` is Rust's `let Some(x) = e else { skip }`,
 -- `each l λ x. ..` is `for x in l { .. }`, `when b e` is `if b { push(e) }`, `unless b l` is `if b { return }` before l.
 use Rattle.std.specs.Prelude.{ℕ, zero, suc, ◌+◌, Bool, true, false, ◌&&◌, ◌||◌, cond, List, [], ◌∷◌, ◌++◌, length, ℤ, pos, negsuc, eqb, ltb}
-use Rattle.std.proofs.Math.Option.{Option, none, some}
+use Rattle.std.specs.Prelude.{Option, None, Some}
 
 module _ {A B : Type 0} where
   unfoldable pub ◌>>=◌ : Option A → (A → List B) → List B
-  ◌>>=◌ none f = []
-  ◌>>=◌ (some a) f = f a
+  ◌>>=◌ None f = []
+  ◌>>=◌ (Some a) f = f a
 
   unfoldable pub each : List A → (A → List B) → List B
   each [] f = []
@@ -37,8 +37,8 @@ module _ {A : Type 0} where
 
   -- the first that passes
   unfoldable pub find : (A → Bool) → List A → Option A
-  find t [] = none
-  find t (x ∷ l) = cond (t x) (some x) (find t l)
+  find t [] = None
+  find t (x ∷ l) = cond (t x) (Some x) (find t l)
 
   unfoldable pub is_empty : List A → Bool
   is_empty [] = true
@@ -57,8 +57,8 @@ module _ {A B : Type 0} where
 
   -- what is made of a value, or b where there is none
   unfoldable pub given : Option A → B → (A → B) → B
-  given none b f = b
-  given (some a) b f = f a
+  given None b f = b
+  given (Some a) b f = f a
 
 -- an entry that shows what is used, where b holds and more is used than allowed
 unfoldable pub when_above : {B : Type 0} → Bool → (used allowed : ℕ) → (ℕ → B) → List B

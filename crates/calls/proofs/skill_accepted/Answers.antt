@@ -15,8 +15,8 @@ use Rattle.calls.proofs.skill_accepted.Goals as goal
 pub returns-then-result_count-res : goal.returns-then-result_count-res
 returns-then-result_count-res c =
     let a = c.args in
-    let none = no_result_lem a.fit.now a.res (omega (arith, c.result_count.ensures, c.if-result_count-res.true)) in
-    gave_same (sym (answer_true Refusals.no_result _ _ (omega arith) none)) (gave_refused _ Refusals.no_result c.refused.ensures)
+    let None = no_result_lem a.fit.now a.res (omega (arith, c.result_count.ensures, c.if-result_count-res.true)) in
+    gave_same (sym (answer_true Refusals.no_result _ _ (omega arith) None)) (gave_refused _ Refusals.no_result c.refused.ensures)
 
 pub returns-then-walk-gt-MOST_WANTED : goal.returns-then-walk-gt-MOST_WANTED
 returns-then-walk-gt-MOST_WANTED c =

@@ -3,7 +3,7 @@ use borrow.Author.Rules.{rules}
 use Prim.Native.Nat.{◌-◌, ◌≤◌}
 use native.Mathlib.Omega.{arith}
 use mathlib.Core.Path.{◌≡◌, ◌∙◌, refl, sym, ap}
-use mathlib.Core.Option.{some}
+use Rattle.std.specs.Prelude.{Some}
 use lib.Ieee.{Float}
 use mir.Syntax.{w32}
 use mir.Val.{to_z, of_z}
@@ -57,7 +57,7 @@ returns c =
     let l = c.loop-i in
     let e = c.bases-b.ensures in
     let b = c.args.catalogue.now in
-    ap (λ (x : Float). some x) (c.f64_at.ensures ∙ rw (e.0, e.1))
+    ap (λ (x : Float). Some x) (c.f64_at.ensures ∙ rw (e.0, e.1))
     ∙ sym (l.invariant.2 ∙ span_here b l.i c.args.span.to _ c.loop-i-test.true (sym (matches c.before.before) ∙ c.if-is_id.true))
     ∙ ap (span_value b c.args.span.from c.args.span.to) (to_z-of_z w32 c.args.attribute c.ranges.attribute)
 

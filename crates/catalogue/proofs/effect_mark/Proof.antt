@@ -1,12 +1,11 @@
 -- `catalogue::effect_mark` meets its contract: the mark behind the key that is found.
 use mathlib.Core.Path.{◌≡◌, ◌∙◌, sym, ap}
-use mathlib.Core.Option.{Option, none, some}
+use Rattle.std.specs.Prelude.{Option, None, Some}
 use Prim.Native.Nat.{ℕ}
 use mir.Syntax.{w32}
 use mir.ValLaws.{to_z-of_z}
 use Rattle.words.specs.Words.{find, from, same, given}
 use Rattle.words.proofs.Tables.{find-below}
-use Rattle.keys.specs.Keys.{found_of}
 use Rattle.catalogue.specs.Catalogue.{catalogue_of, effect_count, effect_at}
 use Rattle.catalogue.specs.Lookups.{effect_mark}
 use Rattle.catalogue.proofs.Reading.{effects-sorted}
@@ -15,7 +14,7 @@ use borrow.Author.Rules.{rules}
 use Rattle.catalogue.proofs.effect_mark.Statement.{statement}
 use Rattle.catalogue.proofs.effect_mark.Tie as tie
 
-found : (c : tie.After-find_key-found) → let a = c.args in found_of c.find_key-found.result ≡ find
+found : (c : tie.After-find_key-found) → let a = c.args in c.find_key-found.result ≡ find
     (λ j. same (effect_at a.catalogue.now j).id a.id) (from 0 (effect_count a.catalogue.now))
 found c =
     let e = c.effects.ensures in
@@ -28,24 +27,23 @@ find-key-requires c κs =
 
 mark-at-requires : tie.Need-mark_at-requires
 mark-at-requires c κs =
-    (c.requires, find-below _ _ _ (sym (found c.before.before.before) ∙ ap found_of c.in-At.is))
+    (c.requires, find-below _ _ _ (sym (found c.before.before.before) ∙ c.in-Some.is))
 
 -- what is made of the answer of the search
-answer : (c : tie.After-find_key-found) (o : Option ℕ) → found_of
-    c.find_key-found.result ≡ o → let a = c.args in given o none
-    (λ j. some (effect_at a.catalogue.now j).mark) ≡ effect_mark (catalogue_of a.catalogue.now) a.id
+answer : (c : tie.After-find_key-found) (o : Option ℕ) → c.find_key-found.result ≡ o → let a = c.args in given o None
+    (λ j. Some (effect_at a.catalogue.now j).mark) ≡ effect_mark (catalogue_of a.catalogue.now) a.id
 answer c o e =
     let a = c.args in
-    sym (effect-search a.catalogue.now a.id ∙ ap (λ (x : Option ℕ). given x none (λ j. some (effect_at a.catalogue.now j).mark)) (sym (found c) ∙ e))
+    sym (effect-search a.catalogue.now a.id ∙ ap (λ (x : Option ℕ). given x None (λ j. Some (effect_at a.catalogue.now j).mark)) (sym (found c) ∙ e))
 
-returns : tie.Need-returns-in-At
+returns : tie.Need-returns-in-Some
 unfolding given
 returns c =
-    ap some c.mark_at.ensures ∙ answer c.before.before.before.before _ (ap found_of c.in-At.is)
+    ap Some c.mark_at.ensures ∙ answer c.before.before.before.before _ c.in-Some.is
 
-returns-2 : tie.Need-returns-in-Nothing
+returns-2 : tie.Need-returns-in-None
 unfolding given
-returns-2 c = answer c.before.before.before none (ap found_of c.in-Nothing.is)
+returns-2 c = answer c.before.before.before None c.in-None.is
 
 pub effect_mark_spec : {M : Type 1} → statement M
 effect_mark_spec = tie.close (tie.spec (λ c κs. search rules) find-key-requires (λ c. search rules) mark-at-requires (λ c. search rules) (λ c. search rules) returns (λ c. search rules) returns-2)

@@ -4,7 +4,7 @@ use native.Mathlib.Omega.{arith}
 use mathlib.Core.Path.{◌≡◌, ◌∙◌, refl, sym, ap}
 use mathlib.Core.Bool.{false}
 use mathlib.Core.List.{foldl}
-use mathlib.Core.Option.{Option, none}
+use Rattle.std.specs.Prelude.{Option, None}
 use lib.ListN.{length, take, drop}
 use mir.Syntax.{w32}
 use mir.Val.{to_z, of_z}
@@ -13,7 +13,6 @@ use Rattle.words.specs.Words.{same}
 use Rattle.keys.specs.Keys.{Parts}
 use Rattle.catalogue.specs.Catalogue.{catalogue_of, links_at, link_count, link_at}
 use Rattle.catalogue.specs.Lookups.{last_mark, rack_of, hardpoint_of}
-use Rattle.catalogue.specs.Answers.{slot_of}
 use Rattle.catalogue.specs.Walks.{marked, link_marks}
 use Rattle.catalogue.proofs.Reading.{links-sorted}
 use Rattle.catalogue.proofs.Walking.{none_before, none_after, last_to, last_none, last_more, last-all}
@@ -23,8 +22,8 @@ use Rattle.catalogue.proofs.slots_of.Tie as tie
 
 abbrev invariant-loop : tie.invariant-loop-i
 invariant-loop catalogue id hints₀ at n found₀ i₀ hints found i =
-    (i₀ ≤ i) × (i ≤ n) × (slot_of found.rack ≡ last_to catalogue (to_z w32 id) 1 6 i) ×
-    (slot_of found.hardpoint ≡ last_to catalogue (to_z w32 id) 7 8 i) × (length hints ≡ length hints₀)
+    (i₀ ≤ i) × (i ≤ n) × (found.rack ≡ last_to catalogue (to_z w32 id) 1 6 i) ×
+    (found.hardpoint ≡ last_to catalogue (to_z w32 id) 7 8 i) × (length hints ≡ length hints₀)
 
 abbrev decreases-loop : tie.decreases-loop-i
 decreases-loop catalogue id hints₀ at n found₀ i₀ hints found i = n - i
@@ -44,7 +43,7 @@ parts : (c : tie.After-first_key-i invariant-loop decreases-loop) → let s = c.
 parts c = let e = c.links-b.ensures in rw (e.0, e.1, id-is c) at c.first_key-i.ensures
 
 nothing : (c : tie.After-first_key-i invariant-loop decreases-loop) (low high : ℕ) → let s = c.args in
-    none ≡ last_to s.catalogue.now (to_z w32 (of_z w32 s.id)) low high c.first_key-i.result
+    None ≡ last_to s.catalogue.now (to_z w32 (of_z w32 s.id)) low high c.first_key-i.result
 nothing c low high =
     let b = c.args.catalogue.now in
     rw (id-is c) (last_none b c.args.id low high c.first_key-i.result

@@ -6,14 +6,13 @@ use mir.ValLaws.{to_z-of_z}
 use Rattle.words.specs.Words.{◌>>=◌}
 use Rattle.catalogue.specs.Catalogue.{catalogue_of, link_at}
 use Rattle.catalogue.specs.Lookups.{effect_mark}
-use Rattle.catalogue.specs.Answers.{mark_of}
 use borrow.Author.Rules.{rules}
 use Rattle.catalogue.proofs.with_link.Statement.{statement}
 use Rattle.catalogue.proofs.with_link.Tie as tie
 
 -- what the lookup of the link's effect says
 
-told : (c : tie.After-effect_mark-mark) → let a = c.args in mark_of c.effect_mark-mark.result ≡ effect_mark
+told : (c : tie.After-effect_mark-mark) → let a = c.args in c.effect_mark-mark.result ≡ effect_mark
     (catalogue_of a.catalogue.now) (link_at a.catalogue.now a.i).effect
 told c =
     let a = c.args in
@@ -28,16 +27,16 @@ id-at-requires c κs =
     let e = c.links.ensures in
     (omega (arith, e, p.0.size), omega (arith, e, p.1))
 
-returns : tie.Need-returns-in-Known
+returns : tie.Need-returns-in-Some
 unfolding ◌>>=◌
 returns c =
-    let e = sym (told c.before.before.before.before) ∙ ap mark_of c.in-Known.is in
+    let e = sym (told c.before.before.before.before) ∙ c.in-Some.is in
     rw e c.with_mark.ensures
 
-returns-2 : tie.Need-returns-in-Unknown
+returns-2 : tie.Need-returns-in-None
 unfolding ◌>>=◌
 returns-2 c =
-    let e = sym (told c.before.before.before) ∙ ap mark_of c.in-Unknown.is in
+    let e = sym (told c.before.before.before) ∙ c.in-None.is in
     rw e (refl, refl)
 
 pub with_link_spec : {M : Type 1} → statement M

@@ -1,12 +1,12 @@
 -- `context::type_in` meets its contract: by the word that says whether the type is there.
 use mathlib.Core.Path.{ap, sym, ◌∙◌}
-use mathlib.Core.Option.{some}
+use Rattle.std.specs.Prelude.{Some}
 use Rattle.context.specs.Gathered.{type_in}
 use Rattle.context.proofs.type_in.Goals as goal
 
 pub returns-then-is_kept : goal.returns-then-is_kept
 unfolding type_in
-returns-then-is_kept c = rw (sym c.is_kept.ensures ∙ c.if-is_kept.true) (ap some c.info_in.ensures)
+returns-then-is_kept c = rw (sym c.is_kept.ensures ∙ c.if-is_kept.true) (ap Some c.info_in.ensures)
 
 pub returns : goal.returns
 unfolding type_in

@@ -1,5 +1,5 @@
 -- `fit::amount` meets its contract: what is missing reads as 0.
-use mathlib.Core.Option.{Option}
+use Rattle.std.specs.Prelude.{Option}
 use mathlib.Core.Path.{◌∙◌, ap}
 use lib.Ieee.{Float}
 use mir.ValLaws.{to_z-of_z}

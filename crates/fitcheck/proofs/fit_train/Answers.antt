@@ -21,8 +21,8 @@ returns-then-refusal-gt0 c =
     let a = c.args in
     let e = c.image_refusal-refusal.ensures in
     let w = c.refused.ensures ∙ ap (λ (n : ℕ). n * Sizes.word) e in
-    let some : 0 < first_of (image_refusals a.catalogue.now a.fit.now) = omega (arith, e, c.if-refusal-gt0.true) in
-    let f = train_refused a.catalogue.now a.fit.now a.res a.steps a.out.now some in
+    let Some : 0 < first_of (image_refusals a.catalogue.now a.fit.now) = omega (arith, e, c.if-refusal-gt0.true) in
+    let f = train_refused a.catalogue.now a.fit.now a.res a.steps a.out.now Some in
     let g = bytes_same (sym f) (bytes-refused a.out.now _ w) in
     (g.word, g.buffer)
 

@@ -32,8 +32,8 @@ returns c =
     let a = c.args in
     let e = c.number-first.ensures in
     let w = c.refused.ensures ∙ ap (λ (n : ℕ). n * Sizes.word) e in
-    let some : 0 < old_refusal a.old.now = omega (arith, e, c.if-first-gt0.true) in
-    let g = bytes_same (sym (widen_refused a.old.now a.out.now some)) (bytes-refused a.out.now _ w) in
+    let Some : 0 < old_refusal a.old.now = omega (arith, e, c.if-first-gt0.true) in
+    let g = bytes_same (sym (widen_refused a.old.now a.out.now Some)) (bytes-refused a.out.now _ w) in
     (g.word, g.buffer)
 
 wide-size-requires : tie.Need-wide_size-size-requires

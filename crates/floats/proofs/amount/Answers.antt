@@ -3,10 +3,10 @@ use lib.Ieee.{of_bits}
 use Rattle.words.specs.Words.{given}
 use Rattle.floats.proofs.amount.Goals as goal
 
-pub returns-in-Given : goal.returns-in-Given
+pub returns-in-Some : goal.returns-in-Some
 unfolding given
-returns-in-Given c = rw c.in-Given.is
+returns-in-Some c = rw c.in-Some.is
 
-pub returns-in-Missing : goal.returns-in-Missing
+pub returns-in-None : goal.returns-in-None
 unfolding given of_bits
-returns-in-Missing c = rw c.in-Missing.is
+returns-in-None c = rw c.in-None.is

@@ -2,7 +2,7 @@
 use Prim.Native.Nat.{◌-◌}
 use native.Mathlib.Omega.{arith}
 use mathlib.Core.Path.{◌≡◌, sym, ap, ◌∙◌}
-use mathlib.Core.Option.{some}
+use Rattle.std.specs.Prelude.{Some}
 use mir.Syntax.{w32}
 use mir.Val.{to_z, of_z}
 use mir.ValLaws.{to_z-of_z}
@@ -10,7 +10,6 @@ use borrow.Author.Rules.{rules}
 use Rattle.numbers.specs.Names as Names
 use Rattle.catalogue.specs.Catalogue.{catalogue_of}
 use Rattle.catalogue.specs.Lookups.{name_id}
-use Rattle.catalogue.specs.Answers.{id_of}
 use Rattle.entry.proofs.Wrote.{wrote-length}
 use Rattle.context.specs.Context.{context}
 use Rattle.context.specs.Gathered.{context_of, pairs_of}
@@ -29,24 +28,24 @@ decreases-loop catalogue fit facts out₀ n volume capital count m₀ i₀ out m
 
 -- the two ids that were looked up, as the calls after them read them
 volume-id : (d : tie.After-attribute_id-of_capital invariant-loop decreases-loop) → let a = d.args in
-    name_id (catalogue_of a.catalogue.now).names Names.volume ≡ some (to_z w32 (of_z w32 d.in-Known.volume))
+    name_id (catalogue_of a.catalogue.now).names Names.volume ≡ Some (to_z w32 (of_z w32 d.in-Some.volume))
 volume-id d =
-    sym d.attribute_id-of_volume.ensures ∙ ap id_of d.in-Known.is
-    ∙ ap some (sym (to_z-of_z w32 d.in-Known.volume (record { sfits = d.in-Known.known_told-1-own.given.0.1 })))
+    sym d.attribute_id-of_volume.ensures ∙ d.in-Some.is
+    ∙ ap Some (sym (to_z-of_z w32 d.in-Some.volume (record { sfits = d.in-Some.known_told-1-own.given.0.1 })))
 
 capital-id : (t : tie.After-takes_capitals invariant-loop decreases-loop) → let a =
     t.args in
-    name_id (catalogue_of a.catalogue.now).names Names.is_capital_size ≡ some (to_z w32 (of_z w32 t.in-Known-of_capital.capital))
+    name_id (catalogue_of a.catalogue.now).names Names.is_capital_size ≡ Some (to_z w32 (of_z w32 t.in-Some-of_capital.capital))
 capital-id t =
-    sym t.attribute_id-of_capital.ensures ∙ ap id_of t.in-Known-of_capital.is
-    ∙ ap some (sym (to_z-of_z w32 t.in-Known-of_capital.capital (record { sfits = t.in-Known-of_capital.known_told-in-Known-of_capital-1-own.given.0.1 })))
+    sym t.attribute_id-of_capital.ensures ∙ t.in-Some-of_capital.is
+    ∙ ap Some (sym (to_z-of_z w32 t.in-Some-of_capital.capital (record { sfits = t.in-Some-of_capital.known_told-in-Some-of_capital-1-own.given.0.1 })))
 
 returns : tie.Need-returns-in_default invariant-loop decreases-loop
 unfolding context_of context
 returns c =
     let a = c.args in (
       capital_no_volume (context_of a.catalogue.now a.fit.now) (pairs_of a.catalogue.now a.fit.now)
-          (sym c.attribute_id-of_volume.ensures ∙ ap id_of c.in_default.is),
+          (sym c.attribute_id-of_volume.ensures ∙ c.in_default.is),
       omega arith,
     )
 
@@ -55,7 +54,7 @@ unfolding context_of context
 returns-2 c =
     let a = c.args in (
       capital_no_capital (context_of a.catalogue.now a.fit.now) (pairs_of a.catalogue.now a.fit.now) _ (volume-id c.before)
-          (sym c.attribute_id-of_capital.ensures ∙ ap id_of c.in_default-of_capital.is),
+          (sym c.attribute_id-of_capital.ensures ∙ c.in_default-of_capital.is),
       omega arith,
     )
 

@@ -27,11 +27,11 @@ returns-then-not-may_list c =
     let a = c.args in
     let x = context_of a.catalogue.now a.fit.now in
     let p = pair_at a.catalogue.now a.fit.now a.i in
-    let none : any_flagged a.flags.now p.result ≡ false = sym c.may_list.ensures ∙ c.if-not-may_list.true in
+    let None : any_flagged a.flags.now p.result ≡ false = sym c.may_list.ensures ∙ c.if-not-may_list.true in
     restricted_unlisted x p
-    (sym (listed-codes x p ship_types a.types.now c.requires.ship_ids.types_known) ∙ nothing-listed a.flags.now p.result none
+    (sym (listed-codes x p ship_types a.types.now c.requires.ship_ids.types_known) ∙ nothing-listed a.flags.now p.result None
     a.types.now c.requires.ship_ids.types_flagged)
-    (sym (listed-codes x p ship_groups a.groups.now c.requires.ship_ids.groups_known) ∙ nothing-listed a.flags.now p.result none
+    (sym (listed-codes x p ship_groups a.groups.now c.requires.ship_ids.groups_known) ∙ nothing-listed a.flags.now p.result None
     a.groups.now c.requires.ship_ids.groups_flagged)
 
 pub returns : goal.returns

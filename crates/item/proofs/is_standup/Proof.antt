@@ -3,7 +3,6 @@ use mathlib.Core.Path.{◌≡◌, refl, sym, ◌∙◌}
 use Rattle.words.specs.Words.{same}
 use Rattle.numbers.specs.Categories as Categories
 use Rattle.catalogue.specs.Catalogue.{catalogue_of}
-use Rattle.catalogue.specs.Answers.{info_of}
 use Rattle.fit.specs.Fit.{item_at}
 use Rattle.context.specs.Context.{context}
 use Rattle.context.specs.Gathered.{context_of, pair_at}
@@ -22,7 +21,7 @@ told c =
     let a = c.args in
     let t = c.type_at-answer in
     c.is_of.ensures
-    ∙ passes (λ k. same k Categories.structure_module) refl (info_of t.result)
+    ∙ passes (λ k. same k Categories.structure_module) refl t.result
     (told-category (catalogue_of a.catalogue.now) (item_at a.fit.now a.i).type t.ensures)
 
 returns : tie.Need-returns-then-is_of

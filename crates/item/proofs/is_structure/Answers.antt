@@ -3,7 +3,6 @@ use mathlib.Core.Path.{refl, ◌∙◌}
 use Rattle.words.specs.Words.{same}
 use Rattle.numbers.specs.Categories as Categories
 use Rattle.catalogue.specs.Catalogue.{catalogue_of}
-use Rattle.catalogue.specs.Answers.{info_of}
 use Rattle.fit.specs.Fit.{fit_of}
 use Rattle.context.specs.Context.{context}
 use Rattle.context.specs.Gathered.{context_of}
@@ -16,5 +15,5 @@ unfolding is_structure context_of context same
 returns c =
     let a = c.args in
     c.is_of.ensures
-    ∙ passes (λ k. same k Categories.structure) refl (info_of c.ship_type.result)
+    ∙ passes (λ k. same k Categories.structure) refl c.ship_type.result
     (told-category (catalogue_of a.catalogue.now) (fit_of a.fit.now).frame.ship c.ship_type.ensures)

@@ -3,14 +3,12 @@ use Prim.Native.Nat.{◌-◌}
 use mir.Syntax.{w32}
 use native.Mathlib.Omega.{arith}
 use mathlib.Core.Path.{◌≡◌, sym, ap, ◌∙◌}
-use mathlib.Core.Option.{some}
+use Rattle.std.specs.Prelude.{Some}
 use mir.Val.{to_z, of_z}
 use mir.ValLaws.{to_z-of_z}
 use Rattle.numbers.specs.Names as Names
-use Rattle.floats.specs.Values.{value_of}
 use Rattle.catalogue.specs.Catalogue.{catalogue_of}
 use Rattle.catalogue.specs.Lookups.{name_id}
-use Rattle.catalogue.specs.Answers.{id_of}
 use Rattle.fit.specs.Fit.{fit_of}
 use Rattle.entry.proofs.Wrote.{wrote-length}
 use Rattle.context.specs.Context.{context}
@@ -31,16 +29,16 @@ decreases-loop catalogue fit facts out₀ n id ship count m₀ i₀ out m i = co
 
 -- the id that was looked up, as the calls after it read it
 named : (v : tie.After-value-of_ship invariant-loop decreases-loop) → let a = v.args in
-    name_id (catalogue_of a.catalogue.now).names Names.rig_size ≡ some (to_z w32 (of_z w32 v.in-Known.id))
+    name_id (catalogue_of a.catalogue.now).names Names.rig_size ≡ Some (to_z w32 (of_z w32 v.in-Some.id))
 named v =
-    sym v.attribute_id-answer.ensures ∙ ap id_of v.in-Known.is
-    ∙ ap some (sym (to_z-of_z w32 v.in-Known.id (record { sfits = v.in-Known.known_told-1-own.given.0.1 })))
+    sym v.attribute_id-answer.ensures ∙ v.in-Some.is
+    ∙ ap Some (sym (to_z-of_z w32 v.in-Some.id (record { sfits = v.in-Some.known_told-1-own.given.0.1 })))
 
 returns : tie.Need-returns-in_default invariant-loop decreases-loop
 unfolding context_of context
 returns c =
     let a = c.args in
-    let e = sym c.attribute_id-answer.ensures ∙ ap id_of c.in_default.is in
+    let e = sym c.attribute_id-answer.ensures ∙ c.in_default.is in
     (rig-no_name (context_of a.catalogue.now a.fit.now) (pairs_of a.catalogue.now a.fit.now) e, omega arith)
 
 returns-2 : tie.Need-returns-in_default-of_ship invariant-loop decreases-loop
@@ -48,7 +46,7 @@ unfolding context_of context fit_of
 returns-2 c =
     let a = c.args in (
       rig-no_ship (context_of a.catalogue.now a.fit.now) (pairs_of a.catalogue.now a.fit.now) _ (named c.before)
-          (sym c.value-of_ship.ensures ∙ ap value_of c.in_default-of_ship.is),
+          (sym c.value-of_ship.ensures ∙ c.in_default-of_ship.is),
       omega arith,
     )
 
@@ -68,7 +66,7 @@ returns-3 c =
     let l = c.loop-i in
     let w = passed_all c.args.catalogue.now c.args.fit.now _ c.requires.0.fit_sound (omega arith) l.invariant in (
       rig-each (context_of c.args.catalogue.now c.args.fit.now) (pairs_of c.args.catalogue.now c.args.fit.now) _ _
-          (named c.before.before.before.before) (sym c.value-of_ship.ensures ∙ ap value_of c.in-Given.is) w.0,
+          (named c.before.before.before.before) (sym c.value-of_ship.ensures ∙ c.in-Some-of_ship.is) w.0,
       w.1,
     )
 

@@ -63,14 +63,14 @@ pub returns-then-left-eq0 : goal.returns-then-left-eq0
 returns-then-left-eq0 c =
     let keys = c.args.keys.now in
     let n = c.args.n in
-    let none = c.if-left-eq0.true in (
+    let None = c.if-left-eq0.true in (
       parted keys n c.args.i (c.rank-p.ensures ∙ ap rank_of (to_z-of_z w32 c.args.i c.ranges.i))
-          c.loop-left.invariant.0 (omega (arith, none)),
+          c.loop-left.invariant.0 (omega (arith, None)),
       parted keys n c.args.j (c.rank-q.ensures ∙ ap rank_of (to_z-of_z w32 c.args.j c.ranges.j)) c.loop-left.invariant.1
-          (omega (arith, none)),
+          (omega (arith, None)),
       parted keys n c.args.k (c.rank-r.ensures ∙ ap rank_of (to_z-of_z w32 c.args.k c.ranges.k)) c.loop-left.invariant.2
-          (omega (arith, none)),
-      parted keys n c.args.l (c.rank-s.ensures ∙ ap rank_of (to_z-of_z w32 c.args.l c.ranges.l)) c.loop-left.invariant.3 (omega (arith, none)),
+          (omega (arith, None)),
+      parted keys n c.args.l (c.rank-s.ensures ∙ ap rank_of (to_z-of_z w32 c.args.l c.ranges.l)) c.loop-left.invariant.3 (omega (arith, None)),
     )
 
 pub skip-requires : goal.skip-requires

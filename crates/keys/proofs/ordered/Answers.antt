@@ -11,8 +11,8 @@ pub returns-then-n-eq0 : goal.returns-then-n-eq0
 returns-then-n-eq0 c =
     let a = c.args in
     let f : ℕ → ℕ = λ j. biased sign (u32_at a.keys.now (4 * j)) in
-    let none : a.n ≡ 0 = omega (arith, c.if-n-eq0.true) in
-    sym (ap (λ (k : ℕ). in_order (stands false) (table k f)) none ∙ order-none (stands false) f)
+    let None : a.n ≡ 0 = omega (arith, c.if-n-eq0.true) in
+    sym (ap (λ (k : ℕ). in_order (stands false) (table k f)) None ∙ order-none (stands false) f)
 
 pub overflow_sub-h : goal.overflow_sub-h
 overflow_sub-h c = omega arith

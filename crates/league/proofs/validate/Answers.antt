@@ -19,8 +19,8 @@ pub returns-then-profile-eq0 : goal.returns-then-profile-eq0
 returns-then-profile-eq0 c =
     let a = c.args in
     let ps = pairs_of a.catalogue.now a.fit.now in
-    let none = no_prices a.profile.now (omega (arith, c.if-profile-eq0.true)) in (
-      wrote-same (sym (ap (λ (l : List Price). league l a.allowance ps) none ∙ no_profile a.allowance ps)) (wrote_none _ _),
+    let None = no_prices a.profile.now (omega (arith, c.if-profile-eq0.true)) in (
+      wrote-same (sym (ap (λ (l : List Price). league l a.allowance ps) None ∙ no_profile a.allowance ps)) (wrote_none _ _),
       omega arith,
     )
 

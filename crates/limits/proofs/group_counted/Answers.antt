@@ -4,13 +4,12 @@ use lib.IntN.{pos}
 use mir.Syntax.{w32}
 use mir.ValLaws.{to_z-of_z}
 use borrow.Author.Rules.{rules}
-use Rattle.catalogue.specs.Answers.{info_of}
 use Rattle.context.proofs.Types.{when-known, when-missing}
 use Rattle.limits.proofs.group_counted.Goals as goal
 
-pub returns-in-Known : goal.returns-in-Known
-returns-in-Known c =
-    to_z-of_z w32 c.in-Known.info.group (search rules) ∙ when-known (pos 0) (λ x. x.group) (ap info_of c.in-Known.is)
+pub returns-in-Some : goal.returns-in-Some
+returns-in-Some c =
+    to_z-of_z w32 c.in-Some.info.group (search rules) ∙ when-known (pos 0) (λ x. x.group) c.in-Some.is
 
-pub returns-in-Unknown : goal.returns-in-Unknown
-returns-in-Unknown c = when-missing (pos 0) (λ x. x.group) (ap info_of c.in-Unknown.is)
+pub returns-in-None : goal.returns-in-None
+returns-in-None c = when-missing (pos 0) (λ x. x.group) c.in-None.is

@@ -2,7 +2,7 @@
 use Prim.Native.Nat.{◌-◌}
 use native.Mathlib.Omega.{arith}
 use mathlib.Core.Path.{◌≡◌, sym, ap, ◌∙◌}
-use mathlib.Core.Option.{some}
+use Rattle.std.specs.Prelude.{Some}
 use mir.Syntax.{w32}
 use mir.Val.{to_z, of_z}
 use mir.ValLaws.{to_z-of_z}
@@ -10,7 +10,6 @@ use borrow.Author.Rules.{rules}
 use Rattle.words.specs.Words.{each}
 use Rattle.catalogue.specs.Catalogue.{catalogue_of}
 use Rattle.catalogue.specs.Lookups.{name_id}
-use Rattle.catalogue.specs.Answers.{id_of}
 use Rattle.entry.proofs.Wrote.{wrote-same, wrote-length}
 use Rattle.context.specs.Context.{context}
 use Rattle.context.specs.Gathered.{context_of, pairs_of}
@@ -30,14 +29,14 @@ decreases-loop catalogue fit facts groups states k out₀ n row id count m₀ i�
 
 -- the id that was looked up, as the calls after it read it
 named : (h : tie.After-pair_count-count invariant-loop decreases-loop) → let a = h.args in
-    name_id (catalogue_of a.catalogue.now).names (row_at a.k).2 ≡ some (to_z w32 (of_z w32 h.in-Known.id))
+    name_id (catalogue_of a.catalogue.now).names (row_at a.k).2 ≡ Some (to_z w32 (of_z w32 h.in-Some.id))
 named h =
     let a = h.args in
     let answer = h.attribute_id-answer in
-    let looked : id_of answer.result ≡ name_id (catalogue_of a.catalogue.now).names (code_row a.k).name = answer.ensures in
+    let looked : answer.result ≡ name_id (catalogue_of a.catalogue.now).names (code_row a.k).name = answer.ensures in
     ap (λ (r : Row). name_id (catalogue_of a.catalogue.now).names r.name) (sym (row_is a.k))
-    ∙ sym looked ∙ ap id_of h.in-Known.is
-    ∙ ap some (sym (to_z-of_z w32 h.in-Known.id (record { sfits = h.in-Known.known_told-1-own.given.0.1 })))
+    ∙ sym looked ∙ h.in-Some.is
+    ∙ ap Some (sym (to_z-of_z w32 h.in-Some.id (record { sfits = h.in-Some.known_told-1-own.given.0.1 })))
 
 returns : tie.Need-returns-in_default invariant-loop decreases-loop
 unfolding context_of context
@@ -45,7 +44,7 @@ returns c =
     let a = c.args in (
       group-no_name (context_of a.catalogue.now a.fit.now) (pairs_of a.catalogue.now a.fit.now) (row_at a.k)
           (ap (λ (r : Row). name_id (catalogue_of a.catalogue.now).names r.name) (sym (row_is a.k))
-          ∙ sym c.attribute_id-answer.ensures ∙ ap id_of c.in_default.is),
+          ∙ sym c.attribute_id-answer.ensures ∙ c.in_default.is),
       omega arith,
     )
 
@@ -73,7 +72,7 @@ unfolding context_of context
 returns-2 c =
     let a = c.args in
     let ps = pairs_of a.catalogue.now a.fit.now in
-    let id = to_z w32 (of_z w32 c.in-Known.id) in
+    let id = to_z w32 (of_z w32 c.in-Some.id) in
     let w = passed_all a.catalogue.now a.fit.now _ c.requires.0.0.fit_sound (omega arith) c.loop-i.invariant in (
       group-each (context_of a.catalogue.now a.fit.now) ps (row_at a.k) id (named c.before.before)
           (wrote-same (ap (λ (r : Row). each ps (group_limit_at r.limit r.lowest id ps)) (row_is a.k)) w.0),

@@ -2,7 +2,7 @@
 use Prim.Native.Nat.{◌-◌}
 use native.Mathlib.Omega.{arith}
 use mathlib.Core.Path.{◌≡◌, sym, ap, ◌∙◌}
-use mathlib.Core.Option.{some}
+use Rattle.std.specs.Prelude.{Some}
 use mir.Syntax.{w32}
 use mir.Val.{to_z, of_z}
 use mir.ValLaws.{to_z-of_z}
@@ -10,7 +10,6 @@ use borrow.Author.Rules.{rules}
 use Rattle.numbers.specs.Names as Names
 use Rattle.catalogue.specs.Catalogue.{catalogue_of}
 use Rattle.catalogue.specs.Lookups.{name_id}
-use Rattle.catalogue.specs.Answers.{id_of}
 use Rattle.entry.proofs.Wrote.{wrote-length}
 use Rattle.context.specs.Context.{context}
 use Rattle.context.specs.Gathered.{context_of, pairs_of}
@@ -29,17 +28,17 @@ decreases-loop catalogue fit facts out₀ n id count m₀ i₀ out m i = count -
 
 -- the id that was looked up, as the calls after it read it
 named : (h : tie.After-pair_count-count invariant-loop decreases-loop) → let a = h.args in
-    name_id (catalogue_of a.catalogue.now).names Names.max_type_fitted ≡ some (to_z w32 (of_z w32 h.in-Known.id))
+    name_id (catalogue_of a.catalogue.now).names Names.max_type_fitted ≡ Some (to_z w32 (of_z w32 h.in-Some.id))
 named h =
-    sym h.attribute_id-answer.ensures ∙ ap id_of h.in-Known.is
-    ∙ ap some (sym (to_z-of_z w32 h.in-Known.id (record { sfits = h.in-Known.known_told-1-own.given.0.1 })))
+    sym h.attribute_id-answer.ensures ∙ h.in-Some.is
+    ∙ ap Some (sym (to_z-of_z w32 h.in-Some.id (record { sfits = h.in-Some.known_told-1-own.given.0.1 })))
 
 returns : tie.Need-returns-in_default invariant-loop decreases-loop
 unfolding context_of context
 returns c =
     let a = c.args in (
       type-no_name (context_of a.catalogue.now a.fit.now) (pairs_of a.catalogue.now a.fit.now)
-          (sym c.attribute_id-answer.ensures ∙ ap id_of c.in_default.is),
+          (sym c.attribute_id-answer.ensures ∙ c.in_default.is),
       omega arith,
     )
 

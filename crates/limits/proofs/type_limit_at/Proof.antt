@@ -6,7 +6,6 @@ use mir.Syntax.{w32}
 use mir.Val.{to_z, of_z}
 use mir.ValLaws.{to_z-of_z}
 use Rattle.words.specs.Words.{count_of}
-use Rattle.floats.specs.Values.{value_of}
 use Rattle.fit.specs.Fit.{result_of}
 use Rattle.fit.specs.Lookups.{value}
 use Rattle.context.specs.Gathered.{pair_at, pairs_of}
@@ -19,7 +18,7 @@ use Rattle.limits.proofs.type_limit_at.Tie as tie
 -- the value that was looked up, under the id itself
 
 told : (c : tie.After-value-answer) → let a = c.args in
-    value_of c.value-answer.result ≡ value (result_of a.fit.now (a.i + 2)) a.id
+    c.value-answer.result ≡ value (result_of a.fit.now (a.i + 2)) a.id
 told c =
     c.value-answer.ensures ∙ ap (value (result_of c.args.fit.now (c.args.i + 2))) (to_z-of_z w32 c.args.id c.ranges.id)
 
@@ -27,12 +26,12 @@ returns : tie.Need-returns-in_default
 returns c = λ catalogue.
     let a = c.args in
     type-missing a.id (pairs_of catalogue a.fit.now) (pair_at catalogue a.fit.now a.i)
-    (sym (told c.before) ∙ ap value_of c.in_default.is)
+    (sym (told c.before) ∙ c.in_default.is)
 
 returns-2 : tie.Need-returns-then-not-is_fitted_at
 returns-2 c = λ catalogue.
     let a = c.args in
-    type-unfitted a.id (pairs_of catalogue a.fit.now) (pair_at catalogue a.fit.now a.i) (sym (told c.before.before.before) ∙ ap value_of c.in-Given.is)
+    type-unfitted a.id (pairs_of catalogue a.fit.now) (pair_at catalogue a.fit.now a.i) (sym (told c.before.before.before) ∙ c.in-Some.is)
     (sym (c.is_fitted_at.ensures catalogue) ∙ c.if-not-is_fitted_at.true)
 
 returns-3 : tie.Need-returns
@@ -42,7 +41,7 @@ returns-3 c = λ catalogue.
     let p = pair_at catalogue a.fit.now a.i in
     let z : to_z w32 (of_z w32 c.item_type-type_id.result) ≡ p.type =
     to_z-of_z w32 c.item_type-type_id.result (record { sfits = c.item_type-type_id.type_inv }) ∙ c.item_type-type_id.ensures in
-    type-fitted a.id ps p (sym (told c.before.before.before.before.before.before.before.before.before.before) ∙ ap value_of c.in-Given.is)
+    type-fitted a.id ps p (sym (told c.before.before.before.before.before.before.before.before.before.before) ∙ c.in-Some.is)
     (sym (c.is_fitted_at.ensures catalogue) ∙ c.if-not-is_fitted_at.false)
     z (c.count_of_type-used.ensures catalogue ∙ ap (λ (y : ℤ). count_of (of_type y) ps) z) c.to_u32-allowed.ensures c.emit_when.ensures
 

@@ -16,8 +16,8 @@ returns-then-not-is_empty c =
     let a = c.args in
     let x = catalogue_of a.catalogue.now in
     let f = fit_of a.fit.now in
-    let some = some-length (list_of x f) (sym c.is_empty.ensures ∙ c.if-not-is_empty.true) in
-    sym (empty-some (whole_list main x f) (omega (arith, some, whole_longer x f)))
+    let Some = some-length (list_of x f) (sym c.is_empty.ensures ∙ c.if-not-is_empty.true) in
+    sym (empty-some (whole_list main x f) (omega (arith, Some, whole_longer x f)))
 
 pub returns : goal.returns
 returns c =

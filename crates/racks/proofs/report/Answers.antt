@@ -6,7 +6,6 @@ use mir.Syntax.{w32}
 use mir.ValLaws.{to_z-of_z}
 use Rattle.words.proofs.Lengths.{few-when}
 use Rattle.floats.specs.Floats.{to_u}
-use Rattle.catalogue.specs.Answers.{id_of}
 use Rattle.fit.specs.Fit.{result_of}
 use Rattle.fit.specs.Lookups.{amount}
 use Rattle.entry.specs.declared.Rule.TheVariants.{Slots}
@@ -15,24 +14,24 @@ use Rattle.entry.proofs.Wrote.{wrote-same, wrote_none}
 use Rattle.racks.proofs.Reports.{slots-is, slots-none}
 use Rattle.racks.proofs.report.Goals as goal
 
-pub returns-in-Known : goal.returns-in-Known
-returns-in-Known c =
+pub returns-in-Some : goal.returns-in-Some
+returns-in-Some c =
     let w = c.emit_when.ensures in
     let a = c.args in
     let available = c.to_u32-available.result in
-    let e : available ≡ to_u 32 (amount (result_of a.fit.now 0) c.in-Known.id) =
+    let e : available ≡ to_u 32 (amount (result_of a.fit.now 0) c.in-Some.id) =
     c.to_u32-available.ensures
     ∙ ap (to_u 32)
-    (c.amount.ensures ∙ ap (amount (result_of a.fit.now 0)) (to_z-of_z w32 c.in-Known.id (record { sfits = c.in-Known.known_told-1-own.given.0.1 }))) in
-    let id = sym c.attribute_id-id.ensures ∙ ap id_of c.in-Known.is in (
-      wrote-same (slots-is a.catalogue.now a.fit.now a.count c.in-Known.id available id e) w,
+    (c.amount.ensures ∙ ap (amount (result_of a.fit.now 0)) (to_z-of_z w32 c.in-Some.id (record { sfits = c.in-Some.known_told-1-own.given.0.1 }))) in
+    let id = sym c.attribute_id-id.ensures ∙ c.in-Some.is in (
+      wrote-same (slots-is a.catalogue.now a.fit.now a.count c.in-Some.id available id e) w,
       omega (arith, w.count, few-when (ltb available a.count.used) (on_ship (Slots a.count.slot a.count.used available))),
     )
 
-pub returns-in-Unknown : goal.returns-in-Unknown
-returns-in-Unknown c =
+pub returns-in-None : goal.returns-in-None
+returns-in-None c =
     let a = c.args in
-    let unknown = sym c.attribute_id-id.ensures ∙ ap id_of c.in-Unknown.is in (
+    let unknown = sym c.attribute_id-id.ensures ∙ c.in-None.is in (
       wrote-same (slots-none a.catalogue.now a.fit.now a.count unknown) (wrote_none _ _),
       omega arith,
     )

@@ -5,31 +5,30 @@ use lib.IntN.{pos}
 use lib.ListN.{length-set}
 use mir.Syntax.{w32}
 use mir.ValLaws.{to_z-of_z}
-use Rattle.catalogue.specs.Answers.{id_of}
 use Rattle.skill.proofs.Zips.{zip_puts, zip_stays}
 use Rattle.skill.proofs.Requirements.{both-known, no_skill, no_level}
 use borrow.Author.Rules.{rules}
 use Rattle.skill.proofs.keep.Goals as goal
 
-pub returns-in-Known-level : goal.returns-in-Known-level
-returns-in-Known-level c =
+pub returns-in-Some-level : goal.returns-in-Some-level
+returns-in-Some-level c =
     let a = c.args in
-    let known = both-known (ap id_of c.in-Known.is) (ap id_of c.in-Known-level.is) in (
-      zip_puts (pos 0) (pos 0) a.skills.now a.levels.now a.n known (to_z-of_z w32 c.in-Known.s (search rules)) (to_z-of_z w32 c.in-Known-level.l (search rules))
+    let known = both-known c.in-Some.is c.in-Some-level.is in (
+      zip_puts (pos 0) (pos 0) a.skills.now a.levels.now a.n known (to_z-of_z w32 c.in-Some.s (search rules)) (to_z-of_z w32 c.in-Some-level.l (search rules))
           (omega (arith, c.requires.0, c.requires.1)) (omega (arith, c.requires.0, c.requires.2)),
       omega arith,
       length-set a.skills.now a.n _ ∙ c.requires.1,
       length-set a.levels.now a.n _ ∙ c.requires.2,
     )
 
-pub returns-in-Unknown-level : goal.returns-in-Unknown-level
-returns-in-Unknown-level c =
+pub returns-in-None-level : goal.returns-in-None-level
+returns-in-None-level c =
     let a = c.args in
-    let none_kept = no_level (ap id_of c.in-Known.is) (ap id_of c.in-Unknown-level.is) in
+    let none_kept = no_level c.in-Some.is c.in-None-level.is in
     (zip_stays (pos 0) (pos 0) a.skills.now a.levels.now a.n none_kept, omega arith, c.requires.1, c.requires.2)
 
-pub returns-in-Unknown : goal.returns-in-Unknown
-returns-in-Unknown c =
+pub returns-in-None : goal.returns-in-None
+returns-in-None c =
     let a = c.args in
-    let none_kept = no_skill (id_of a.level) (ap id_of c.in-Unknown.is) in
+    let none_kept = no_skill a.level c.in-None.is in
     (zip_stays (pos 0) (pos 0) a.skills.now a.levels.now a.n none_kept, omega arith, c.requires.1, c.requires.2)

@@ -5,13 +5,13 @@ use Rattle.slot.specs.Slot.{wrong_slot_index}
 use Rattle.slot.proofs.Checks.{checked, index_is, index-none}
 use Rattle.slot.proofs.expect_index.Goals as goal
 
-pub returns-in-Index : goal.returns-in-Index
-returns-in-Index c =
+pub returns-in-Some : goal.returns-in-Some
+returns-in-Some c =
     let a = c.args in
     checked (λ x ps p. wrong_slot_index x p) c.push_when.ensures
-    (λ x ps p h. index_is a.item x h c.in-Index.is)
+    (λ x ps p h. index_is a.item x h c.in-Some.is)
 
-pub returns-in-Nothing : goal.returns-in-Nothing
-returns-in-Nothing c =
+pub returns-in-None : goal.returns-in-None
+returns-in-None c =
     let a = c.args in
-    checked (λ x ps p. wrong_slot_index x p) (wrote_none _ _, omega arith) (λ x ps p h. index-none a.item x h c.in-Nothing.is)
+    checked (λ x ps p. wrong_slot_index x p) (wrote_none _ _, omega arith) (λ x ps p h. index-none a.item x h c.in-None.is)

@@ -6,11 +6,11 @@ use lib.ListN.{length, length-set}
 use Rattle.slot.proofs.Sharing.{sits_as, placed_next}
 use Rattle.slot.proofs.places.Goals as goal
 
-none : (k : ℕ) → k < 0 → ⊥
-none k h = omega arith
+None : (k : ℕ) → k < 0 → ⊥
+None k h = omega arith
 
 pub loop-i-init : goal.loop-i-init
-loop-i-init c = (omega arith, refl, λ k h. absurd (none k h))
+loop-i-init c = (omega arith, refl, λ k h. absurd (None k h))
 
 pub offset_bounds-places-i : goal.offset_bounds-places-i
 offset_bounds-places-i c = omega arith

@@ -3,12 +3,11 @@ use Prim.Native.Nat.{◌+◌}
 use native.Mathlib.Omega.{arith}
 use mathlib.Core.Path.{◌≡◌, sym, ap, ◌∙◌}
 use mathlib.Core.Bool.{false}
-use mathlib.Core.Option.{Option}
+use Rattle.std.specs.Prelude.{Option}
 use lib.Ieee.{Float, eq}
 use mir.Syntax.{w32}
 use mir.ValLaws.{to_z-of_z}
 use Rattle.words.specs.Words.{given}
-use Rattle.floats.specs.Values.{value_of}
 use Rattle.fit.specs.Fit.{result_of}
 use Rattle.fit.specs.Lookups.{value}
 use Rattle.context.specs.Gathered.{pair_at}
@@ -35,7 +34,7 @@ pub returns : goal.returns
 returns c =
     let a = c.args in
     let read = value (result_of a.fit.now (a.j + 2)) in
-    let v : value_of c.value.result ≡ read a.id = c.value.ensures ∙ ap read (to_z-of_z w32 a.id c.ranges.id) in
+    let v : c.value.result ≡ read a.id = c.value.ensures ∙ ap read (to_z-of_z w32 a.id c.ranges.id) in
     let e : c.is_part.result ≡ given (read a.id) false (λ v. eq v a.part) =
     c.is_part.ensures ∙ ap (λ (o : Option Float). given o false (λ v. eq v a.part)) v in
     λ catalogue.

@@ -2,7 +2,7 @@
 use Prim.Native.Nat.{ℕ}
 use mathlib.Core.Path.{sym, ap, ap₂, ◌∙◌}
 use mathlib.Core.List.{List}
-use mathlib.Core.Option.{Option, none}
+use Rattle.std.specs.Prelude.{Option, None}
 use borrow.Author.Rules.{rules}
 use Rattle.words.specs.Words.{given}
 use Rattle.catalogue.specs.Catalogue.{Id, Name}
@@ -16,7 +16,7 @@ use Rattle.slot.proofs.slot_number.Tie as tie
 -- the id of a name
 
 abbrev id-by : Option ℕ → List Name → Option Id
-id-by name names = given name none (name_id names)
+id-by name names = given name None (name_id names)
 
 abbrev pair : tie.Start → Pair
 pair s = pair_at s.args.catalogue.now s.args.fit.now s.args.i

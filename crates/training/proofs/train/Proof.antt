@@ -21,8 +21,8 @@ use Rattle.training.proofs.train.Tie as tie
 returns : tie.Need-returns-then-result_count-res
 returns c =
     let a = c.args in
-    let none = no_result_lem a.fit.now a.res (omega (arith, c.result_count.ensures, c.if-result_count-res.true)) in
-    bytes_same (sym (output-true Refusals.no_result _ _ (omega arith) none)) (bytes-refused _ Refusals.no_result c.refused.ensures)
+    let None = no_result_lem a.fit.now a.res (omega (arith, c.result_count.ensures, c.if-result_count-res.true)) in
+    bytes_same (sym (output-true Refusals.no_result _ _ (omega arith) None)) (bytes-refused _ Refusals.no_result c.refused.ensures)
 
 -- what a walk that was made says
 module _ (c : tie.After-wanted_skills-walk) where

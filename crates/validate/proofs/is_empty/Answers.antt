@@ -20,8 +20,8 @@ returns-then-not-no_rule_broken c =
     let catalogue = a.catalogue.now in
     let fit = a.fit.now in
     let on = on-hull_length catalogue fit (sym c.is_hull-on_hull.ensures ∙ c.if-not-on_hull.false) in
-    let some = some-length (hull_rules (context_of catalogue fit) (pairs_of catalogue fit)) (sym c.no_rule_broken.ensures ∙ c.if-not-no_rule_broken.true) in
-    sym (empty-some (list_of (catalogue_of catalogue) (fit_of fit)) (omega (arith, on, some)))
+    let Some = some-length (hull_rules (context_of catalogue fit) (pairs_of catalogue fit)) (sym c.no_rule_broken.ensures ∙ c.if-not-no_rule_broken.true) in
+    sym (empty-some (list_of (catalogue_of catalogue) (fit_of fit)) (omega (arith, on, Some)))
 
 pub returns : goal.returns
 returns c =
@@ -29,5 +29,5 @@ returns c =
     let catalogue = a.catalogue.now in
     let fit = a.fit.now in
     let on = on-hull_length catalogue fit (sym c.is_hull-on_hull.ensures ∙ c.if-not-on_hull.false) in
-    let none = empty-length (hull_rules (context_of catalogue fit) (pairs_of catalogue fit)) (sym c.no_rule_broken.ensures ∙ c.if-not-no_rule_broken.false) in
-    empty-count (list_of (catalogue_of catalogue) (fit_of fit)) c.kind.result (omega (arith, on, none, wrote_count c.kind.ensures.0))
+    let None = empty-length (hull_rules (context_of catalogue fit) (pairs_of catalogue fit)) (sym c.no_rule_broken.ensures ∙ c.if-not-no_rule_broken.false) in
+    empty-count (list_of (catalogue_of catalogue) (fit_of fit)) c.kind.result (omega (arith, on, None, wrote_count c.kind.ensures.0))

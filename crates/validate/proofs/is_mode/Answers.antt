@@ -24,6 +24,6 @@ returns-in_default c =
 pub returns : goal.returns
 unfolding is_mode test
 returns c =
-    let info = c.in-Known.info in
+    let info = c.in-Some.info in
     c.same_id.ensures ∙ ap (λ (z : ℤ). same z Groups.ship_modifiers) (to_z-of_z w32 info.group (search rules))
-    ∙ test_known test (catalogue_of c.args.catalogue.now) (to_z-of_z w32 c.args.id c.ranges.id) c.type_of-answer.ensures c.in-Known.is
+    ∙ test_known test (catalogue_of c.args.catalogue.now) (to_z-of_z w32 c.args.id c.ranges.id) c.type_of-answer.ensures c.in-Some.is
