@@ -5,12 +5,15 @@ use mathlib.Core.Path.{◌≡◌, refl, sym, ap, ◌∙◌, subst}
 use mathlib.Core.Bool.{Bool, true, false}
 use mathlib.Core.List.{List, [], ◌∷◌, ◌++◌}
 use native.Mathlib.Nat.{zero-add}
+use Rattle.std.specs.Prelude.{Result, Err}
 use lib.ListN.{length, take, drop, length-append}
 use lib.Seq.{take-append_seam}
 use borrow.Author.Tests.{lt-ltb, le-ltb}
 use Rattle.words.specs.Words.{each, first_of}
 use Rattle.numbers.specs.Sizes as Sizes
 use Rattle.numbers.specs.Refusals as Refusals
+use Rattle.numbers.specs.Refused.{number}
+use Rattle.numbers.specs.declared.refusals.Refusal.{Refusal}
 use Rattle.image.specs.Bytes.{put}
 use Rattle.image.proofs.Stores.{put-parts}
 use Rattle.entry.specs.declared.Entry.{Entry}
@@ -21,7 +24,8 @@ use Rattle.entry.proofs.Wrote.{wrote_count, wrote-written}
 use Rattle.lists.specs.Terms.{Terms}
 use Rattle.calls.specs.Answers.{Answer, Refused, answer_by, answer, too_short, input_refusals, buffer_refusals}
 use Rattle.calls.specs.Answers.{returned, buffered}
-use Rattle.calls.specs.Gave.{Gave, lent}
+use Rattle.calls.specs.Gave.{Gave, lent, word_of}
+use Rattle.calls.proofs.Results.{holds}
 use Rattle.calls.proofs.First.{Numbered, first-kept, first_past, numbered-inputs}
 
 -- ---- which answer
@@ -58,6 +62,12 @@ gave_same {b} {a} {w} e g = subst (Gave b a w) e g
 pub gave_refused : (b : List ℕ) (n : ℕ) {w : ℕ} → w ≡ n * Sizes.word → Gave b b w (Refused n)
 unfolding returned buffered
 gave_refused b n e = record { word = e; buffer = refl }
+
+-- a check's refusal that is passed on
+pub gave_first : (b : List ℕ) {r : Result ℕ Refusal} {e : Refusal} → r ≡ Err e → (l : List (ℕ × Bool)) → number e ≡ first_of l → (m : List (ℕ × Bool)) (es : List Entry)
+    → Gave b b (word_of r) (answer (l ++ m) es)
+gave_first b {e} is l told m es =
+    gave_same (sym (answer_kept l m es (holds e l told))) (gave_refused b (first_of l) (ap word_of is ∙ ap (λ (k : ℕ). k * Sizes.word) told))
 
 bytes-length : (es : List Entry) → length (each es entry_bytes) ≡ 24 * length es
 unfolding each

@@ -2,18 +2,22 @@
 use Prim.Native.Nat.{ℕ, zero, suc, ◌*◌, ◌≤◌, ◌<◌}
 use native.Mathlib.Nat.{zero-add}
 use native.Mathlib.Omega.{arith}
-use mathlib.Core.Path.{◌≡◌, refl, ap, ◌∙◌, subst}
+use mathlib.Core.Path.{◌≡◌, refl, sym, ap, ◌∙◌, subst}
 use mathlib.Core.Bool.{Bool, true, false}
 use mathlib.Core.List.{List, ◌∷◌, ◌++◌}
+use Rattle.std.specs.Prelude.{Result, Err}
 use lib.ListN.{length, drop}
 use borrow.Author.Tests.{lt-ltb, le-ltb}
 use Rattle.words.specs.Words.{first_of}
 use Rattle.numbers.specs.Sizes as Sizes
 use Rattle.numbers.specs.Refusals as Refusals
+use Rattle.numbers.specs.Refused.{number}
+use Rattle.numbers.specs.declared.refusals.Refusal.{Refusal}
 use Rattle.image.specs.Bytes.{put}
 use Rattle.image.proofs.Stores.{put-parts}
 use Rattle.calls.specs.Output.{Output, Withheld, Written, output_by, output, filled, output_word, no_room, room_refusals}
-use Rattle.calls.specs.Gave.{GaveBytes}
+use Rattle.calls.specs.Gave.{GaveBytes, word_of}
+use Rattle.calls.proofs.Results.{holds}
 use Rattle.calls.proofs.First.{Numbered, first-kept, first_past}
 
 -- ---- which answer
@@ -60,6 +64,12 @@ bytes_same {b} {a} {w} e g = subst (GaveBytes b a w) e g
 pub bytes-refused : (b : List ℕ) (n : ℕ) {w : ℕ} → w ≡ n * Sizes.word → GaveBytes b b w (Withheld n)
 unfolding output_word filled
 bytes-refused b n e = record { word = e; buffer = refl }
+
+-- a check's refusal that is passed on
+pub bytes-first : (b : List ℕ) {r : Result ℕ Refusal} {e : Refusal} → r ≡ Err e → (l : List (ℕ × Bool)) → number e ≡ first_of l → (m : List (ℕ × Bool)) (bs : List ℕ)
+    → GaveBytes b b (word_of r) (output (l ++ m) bs)
+bytes-first b {e} is l told m bs =
+    bytes_same (sym (output-kept l m bs (holds e l told))) (bytes-refused b (first_of l) (ap word_of is ∙ ap (λ (k : ℕ). k * Sizes.word) told))
 
 -- stored from byte 0 on, where there is room
 pub bytes-written : (b : List ℕ) {a : List ℕ} {w : ℕ} (bs : List ℕ) → w ≡ length bs → a ≡ put b 0 bs → length bs ≤ length b

@@ -2,10 +2,11 @@
 // and the buffer that an exported call gives. Document 01, "Refusals in their order"; document 02.
 #![tactic(auto)]
 
-ghost use Rattle.std.specs.Prelude.{◌≡◌, List, ◌++◌, ℕ, ◌+◌, ◌*◌, ◌<◌, ◌≤◌, length};
+ghost use Rattle.std.specs.Prelude.{◌≡◌, List, ◌++◌, ℕ, ◌+◌, ◌*◌, ◌^◌, ◌<◌, ◌≤◌, length};
 ghost use Rattle.words.specs.Words.{first_of};
 ghost use Rattle.numbers.specs.Sizes as Sizes;
-ghost use Rattle.numbers.specs.Refusals as Refusals;
+ghost use Rattle.numbers.specs.Refused.{number_of};
+ghost use Rattle.numbers.specs.Reading.{reader_number};
 ghost use Rattle.catalogue.specs.Catalogue.{Catalogue, catalogue_of};
 ghost use Rattle.catalogue.specs.Sound as Catalogue;
 ghost use Rattle.fit.specs.Fit.{fit_of, result_count};
@@ -19,10 +20,11 @@ ghost use Rattle.skill.specs.Held.{walk_of};
 ghost use Rattle.lists.specs.Terms.{Terms, terms, limited, read_by, main};
 ghost use Rattle.lists.specs.Lists.{list_for, most_entries};
 ghost use Rattle.calls.specs.Answers.{answer, image_refusals, page_refusals, input_refusals, buffer_refusals, skill_refusals};
-ghost use Rattle.calls.specs.Gave.{Gave, lent, small_place};
+ghost use Rattle.calls.specs.Gave.{Gave, lent, word_of};
 
 use lists::Asked;
-use numbers::{refusals, sizes};
+use numbers::refusals::Refusal;
+use numbers::sizes;
 use skill::Walk;
 
 // The bytes of the longest list of any fit.
@@ -34,70 +36,62 @@ const SMALL_PLACE: usize = 12288;
 // Of a walk, which holds 512 skills: each is listed once at most.
 const ANY_SKILL_LIST: usize = sizes::ENTRY_SIZE * sizes::MOST_WANTED;
 
-// The word of a refusal. The count beside it is 0.
-pub fn refused(number: u64) -> u64
-    requires { number ≤ Refusals.highest }
-    ensures { result ≡ number * Sizes.word }
+// The word that an exported call returns: a refusal's number in the upper half, or the count.
+pub fn word(answer: Result<usize, Refusal>) -> u64
+    ensures { result ≡ word_of answer }
 {
-    number * sizes::WORD
+    match answer {
+        Ok(count) => count as u64,
+        Err(refusal) => refusal.number() * sizes::WORD,
+    }
 }
 
-// The first of refusals 1 to 6 that holds, or 0.
-pub fn image_refusal(catalogue: &[u8], fit: &[u8]) -> u64
-    ensures { result ≡ first_of (image_refusals catalogue.now fit.now) }
+// Refusals 1 to 6.
+pub fn check_images(catalogue: &[u8], fit: &[u8]) -> Result<(), Refusal>
+    ensures { number_of result ≡ first_of (image_refusals catalogue.now fit.now) }
 {
-    let first = catalogue_refusals::number(catalogue);
-    if 0 < first {
-        return first;
-    }
-    fit_refusals::number(fit)
+    catalogue_refusals::check(catalogue)?;
+    fit_refusals::check(fit)
 }
 
-// The first of refusals 1 to 6 and, for pairs, 13 that holds, or 0. More pairs than the main page takes were refused by 4.
-fn page_refusal(catalogue: &[u8], fit: &[u8], pairs: u32) -> u64
-    ensures { let t = limited pairs 0 main in
-        (result ≡ first_of (page_refusals t catalogue.now fit.now)) × (result ≤ Refusals.highest) }
+// Refusals 1 to 6 and, for pairs, 13. More pairs than the main page takes were refused by 4.
+fn check_page(catalogue: &[u8], fit: &[u8], pairs: u32) -> Result<(), Refusal>
+    ensures { number_of result ≡ first_of (page_refusals (limited pairs 0 main) catalogue.now fit.now) }
 {
-    let first = image_refusal(catalogue, fit);
-    if 0 < first {
-        return first;
-    }
+    check_images(catalogue, fit)?;
     let limit = pairs as usize;
     if limit < fit::pair_count(fit) {
-        return refusals::OVER_LIMIT;
+        return Err(Refusal::OverLimit);
     }
-    0
+    Ok(())
 }
 
-// The first of refusals 1 to 6, 13, 11 and 12 that holds, or 0.
-fn input_refusal(catalogue: &[u8], fit: &[u8], pairs: u32, profile: &[u8]) -> u64
-    ensures { let t = limited pairs 0 (terms profile.now 0) in
-        (result ≡ first_of (input_refusals t catalogue.now fit.now)) × (result ≤ Refusals.highest) }
+// Refusals 1 to 6, 13, 11 and 12.
+fn check_inputs(catalogue: &[u8], fit: &[u8], limit: u32, profile: &[u8]) -> Result<(), Refusal>
+    ensures { let t = limited limit 0 (terms profile.now 0) in
+        number_of result ≡ first_of (input_refusals t catalogue.now fit.now) }
 {
-    let first = page_refusal(catalogue, fit, pairs);
-    if 0 < first {
-        return first;
-    }
-    profile::number(profile)
+    check_page(catalogue, fit, limit)?;
+    profile::check(profile)
 }
 
 // As many entries of a place as were written there, where the buffer has room for them: else none, and no byte of it changes.
-fn copied(count: usize, place: &[u8], out: &mut [u8]) -> u64
+fn copied(count: usize, place: &[u8], out: &mut [u8]) -> Result<usize, Refusal>
     requires { (24 * count ≤ length place.now) × (count ≤ most_entries) }
     ensures { let before = out.old in
         let after = out.new in
         ((es : List Entry) (b : List ℕ) → Wrote b 0 place.now count es → 24 * length es ≤ length b →
-        Gave before after result (lent before es)) }
+        Gave before after (word_of result) (lent before es)) }
 {
     if out.len() / sizes::ENTRY_SIZE < count {
-        return refused(refusals::TOO_SHORT);
+        return Err(Refusal::TooShort);
     }
     image::copy(out, 0, image::part(place, 0, sizes::ENTRY_SIZE * count));
-    count as u64
+    Ok(count)
 }
 
-// A list that a small place holds, for a buffer that may be too short: it is run once, into the place.
-fn small_list(
+// A list that a place of so many bytes holds, for a buffer that may be too short: it is run once, into the place.
+fn placed<const SIZE: usize>(
     asked: Asked,
     catalogue: &[u8],
     fit: &[u8],
@@ -105,62 +99,43 @@ fn small_list(
     facts: &[u32; 2058],
     hints: &mut [u32],
     out: &mut [u8],
-) -> u64
+) -> Result<usize, Refusal>
+    requires size { SIZE < 2 ^ 32 }
     requires gathered { Gathered catalogue.now fit.now facts.now × Profile.Sound profile.now }
-    requires fit_bound { (t : Terms) (c : Catalogue) → 24 * length (list_for t c (fit_of fit.now)) ≤ small_place }
-    ensures { let t = read_by asked.reader (terms profile.now asked.allowance) in
+    requires fit_bound { let t = read_by (reader_number asked.reader) (terms profile.now asked.allowance) in
+        24 * length (list_for t (catalogue_of catalogue.now) (fit_of fit.now)) ≤ SIZE }
+    ensures { let t = read_by (reader_number asked.reader) (terms profile.now asked.allowance) in
         let es = list_for t (catalogue_of catalogue.now) (fit_of fit.now) in
-        Gave out.old out.new result (lent out.old es) }
+        Gave out.old out.new (word_of result) (lent out.old es) }
 {
-    let mut place = [0u8; SMALL_PLACE];
+    let mut place = [0u8; SIZE];
     let count = lists::write(asked, catalogue, fit, profile, facts, hints, &mut place);
     copied(count, &place, out)
 }
 
-// A place for any list.
-fn list_place() -> [u8; 135696]
-    ensures { length result ≡ 135696 }
-{
-    [0; ANY_LIST]
-}
-
-// Any list, for a buffer that may be too short.
-fn large_list(
+// The list call on images and a profile that are accepted. Where the buffer holds any list of the fit, it is written there at once.
+fn list_accepted(
     asked: Asked,
     catalogue: &[u8],
     fit: &[u8],
     profile: &[u8],
-    facts: &[u32; 2058],
-    hints: &mut [u32],
     out: &mut [u8],
-) -> u64
-    requires { Gathered catalogue.now fit.now facts.now × Profile.Sound profile.now }
-    ensures { let t = read_by asked.reader (terms profile.now asked.allowance) in
-        let es = list_for t (catalogue_of catalogue.now) (fit_of fit.now) in
-        Gave out.old out.new result (lent out.old es) }
-{
-    let mut whole = list_place();
-    let count = lists::write(asked, catalogue, fit, profile, facts, hints, &mut whole);
-    copied(count, &whole, out)
-}
-
-// The list call on images and a profile that are accepted. Where the buffer holds any list of the fit, it is written there at once.
-fn list_accepted(asked: Asked, catalogue: &[u8], fit: &[u8], profile: &[u8], out: &mut [u8]) -> u64
+) -> Result<usize, Refusal>
     requires { Catalogue.Sound catalogue.now × Fit.Sound fit.now × Profile.Sound profile.now }
-    ensures { let t = read_by asked.reader (terms profile.now asked.allowance) in
+    ensures { let t = read_by (reader_number asked.reader) (terms profile.now asked.allowance) in
         let es = list_for t (catalogue_of catalogue.now) (fit_of fit.now) in
-        Gave out.old out.new result (lent out.old es) }
+        Gave out.old out.new (word_of result) (lent out.old es) }
 {
     let most = sizes::ENTRY_SIZE * lists::most_entries(fit);
     let mut hints = [0u32; context::LIST_HINTS];
     let facts = context::gather(catalogue, fit, &mut hints);
     if most <= out.len() {
-        return lists::write(asked, catalogue, fit, profile, &facts, &mut hints, out) as u64;
+        return Ok(lists::write(asked, catalogue, fit, profile, &facts, &mut hints, out));
     }
     if most <= SMALL_PLACE {
-        return small_list(asked, catalogue, fit, profile, &facts, &mut hints, out);
+        return placed::<SMALL_PLACE>(asked, catalogue, fit, profile, &facts, &mut hints, out);
     }
-    large_list(asked, catalogue, fit, profile, &facts, &mut hints, out)
+    placed::<ANY_LIST>(asked, catalogue, fit, profile, &facts, &mut hints, out)
 }
 
 // The list call of a reader that there is.
@@ -171,56 +146,58 @@ pub fn read_list(
     profile: &[u8],
     pairs: u32,
     out: &mut [u8],
-) -> u64
-    ensures { let t = read_by asked.reader (limited pairs 0 (terms profile.now asked.allowance)) in
+) -> Result<usize, Refusal>
+    ensures { let t = read_by (reader_number asked.reader) (limited pairs 0 (terms profile.now asked.allowance)) in
         let es = list_for t (catalogue_of catalogue.now) (fit_of fit.now) in
         let refusals = input_refusals t catalogue.now fit.now ++ buffer_refusals out.old es in
-        Gave out.old out.new result (answer refusals es) }
+        Gave out.old out.new (word_of result) (answer refusals es) }
 {
-    let first = input_refusal(catalogue, fit, pairs, profile);
-    if 0 < first {
-        return refused(first);
-    }
+    check_inputs(catalogue, fit, pairs, profile)?;
     list_accepted(asked, catalogue, fit, profile, out)
 }
 
 // The skill list of a walk.
-fn skill_list(fit: &[u8], res: usize, walk: Walk, out: &mut [u8]) -> u64
+fn skill_list(fit: &[u8], res: usize, walk: Walk, out: &mut [u8]) -> Result<usize, Refusal>
     requires { Fit.Sound fit.now × (res < result_count fit.now + 2) × (walk.len ≤ Sizes.most_wanted) }
     ensures { let es = reported (fit_of fit.now) res (walk_of walk) in
-        Gave out.old out.new result (lent out.old es) }
+        Gave out.old out.new (word_of result) (lent out.old es) }
 {
     if ANY_SKILL_LIST <= out.len() {
-        return skill::report(fit, res, walk, out, 0) as u64;
+        return Ok(skill::report(fit, res, walk, out, 0));
     }
     let mut none = [0u8; 0];
     let missing = skill::report(fit, res, walk, &mut none, 0);
     if out.len() / sizes::ENTRY_SIZE < missing {
-        return refused(refusals::TOO_SHORT);
+        return Err(Refusal::TooShort);
     }
-    skill::report(fit, res, walk, out, 0) as u64
+    Ok(skill::report(fit, res, walk, out, 0))
 }
 
 // The skill call on images that are accepted. The walk is the main page's, whatever the limit.
-fn skill_accepted(catalogue: &[u8], fit: &[u8], res: u32, skills: u32, out: &mut [u8]) -> u64
+fn skill_accepted(
+    catalogue: &[u8],
+    fit: &[u8],
+    res: u32,
+    skills: u32,
+    out: &mut [u8],
+) -> Result<usize, Refusal>
     requires { Catalogue.Sound catalogue.now × Fit.Sound fit.now }
     ensures { let c = catalogue_of catalogue.now in
         let f = fit_of fit.now in
         let refusals = skill_refusals (limited 0 skills main) c f res out.old in
-        Gave out.old out.new result (answer refusals (skill_list c f res)) }
+        Gave out.old out.new (word_of result) (answer refusals (skill_list c f res)) }
 {
     let res = res as usize;
     if fit::result_count(fit) + 1 < res {
-        return refused(refusals::NO_RESULT);
+        return Err(Refusal::NoResult);
     }
     let starts = fit::starts(fit);
-    let walk = skill::wanted_skills(catalogue, fit, &starts, res);
-    if sizes::MOST_WANTED < walk.len {
-        return refused(refusals::TOO_MANY_SKILLS);
-    }
+    let Ok(walk) = skill::wanted_skills(catalogue, fit, &starts, res) else {
+        return Err(Refusal::TooManySkills);
+    };
     let limit = skills as usize;
     if limit < walk.len {
-        return refused(refusals::OVER_LIMIT);
+        return Err(Refusal::OverLimit);
     }
     skill_list(fit, res, walk, out)
 }
@@ -233,16 +210,13 @@ pub fn read_skills(
     pairs: u32,
     skills: u32,
     out: &mut [u8],
-) -> u64
+) -> Result<usize, Refusal>
     ensures { let t = limited pairs skills main in
         let c = catalogue_of catalogue.now in
         let f = fit_of fit.now in
         let refusals = page_refusals t catalogue.now fit.now ++ skill_refusals t c f res out.old in
-        Gave out.old out.new result (answer refusals (skill_list c f res)) }
+        Gave out.old out.new (word_of result) (answer refusals (skill_list c f res)) }
 {
-    let refusal = page_refusal(catalogue, fit, pairs);
-    if 0 < refusal {
-        return refused(refusal);
-    }
+    check_page(catalogue, fit, pairs)?;
     skill_accepted(catalogue, fit, res, skills, out)
 }

@@ -17,10 +17,12 @@ use Rattle.image.specs.Bytes.{i32_at}
 use Rattle.image.proofs.Parts.{part-i32}
 use Rattle.keys.specs.Keys.{key_at, Sorted, Parts}
 use Rattle.keys.proofs.Orders.{before-differs, after-differs}
-use Rattle.catalogue.specs.Catalogue.{Id, Link, Base, catalogue_of, link_count, link_at, base_count, base_at}
+use Rattle.catalogue.specs.Catalogue.{Id, Link, Base, catalogue_of, links_at, link_count, link_at, base_count, base_at}
 use Rattle.catalogue.specs.Lookups.{marks, last_mark, base_value}
 use Rattle.catalogue.specs.Walks.{Run, Ends, SpanOf, span_value, marked, link_marks}
 use Rattle.catalogue.specs.declared.Span.{Span}
+use Rattle.catalogue.specs.Sound.{Sound}
+use Rattle.catalogue.proofs.Reading.{links-sorted}
 
 -- ---- one more mark
 module _ (low high : ℕ) (found : Option ℕ) (m : ℕ) where
@@ -94,6 +96,18 @@ module _ (b : List ℕ) (t : Id) where
         ap (λ (l : List Link). foldl (marked low high) None (each l (link_marks (catalogue_of b))))
         (sym (only-skip (link_at b) (λ x. same x.type t) i (link_count b) h e))
         ∙ ap (foldl (marked low high) None) (sym marks-all)
+
+-- the links of a type, from where the search of its block ends on
+module _ (b : List ℕ) (sound : Sound b) (t : Id) (range : mag t < 2147483648) (r : ℕ)
+    (parts : Parts (take (4 * link_count b) (drop (links_at b) b)) (link_count b) t r) (low high : ℕ) where
+  -- none stands before it
+  pub none_found : None ≡ last_to b t low high r
+  none_found = last_none b t low high r (none_before b (links_at b) (link_count b) t range r parts)
+
+  -- and where one of another type stands behind it, or none, all are found
+  pub all_found : (i : ℕ) → r ≤ i → i ≤ link_count b → (i < link_count b → same (link_at b i).type t ≡ false)
+      → last_to b t low high i ≡ last_mark (catalogue_of b) low high t
+  all_found i l h e = last-all b t low high i h (none_after b (links_at b) (link_count b) t range r parts (links-sorted b sound) i l e)
 
 -- ---- the base values of a type
 module _ (b : List ℕ) (i last : ℕ) (a : Id) where

@@ -3,7 +3,7 @@
 
 ghost use Rattle.std.specs.Prelude.{◌≡◌, cond, ◌+◌, ◌*◌, ◌<◌, ◌≤◌, length, take, drop, eqb};
 ghost use mathlib.Core.List.{foldl};
-ghost use Rattle.std.specs.Prelude.{None, Some};
+ghost use Rattle.std.specs.Prelude.{ℕ, pos, None, Some, slice_index_or};
 ghost use Rattle.words.specs.Words.{from, find, given, same};
 ghost use Rattle.image.specs.Bytes.{u32_at, i32_at};
 ghost use Rattle.keys.specs.Keys.{Sorted, Parts};
@@ -18,30 +18,12 @@ ghost use Rattle.catalogue.specs.Walks.{Ends, SpanOf, span_value, in_rack, on_ha
 
 use numbers::{marks, names};
 
-// Refusals 1 to 3, or none.
-#[derive(Clone, Copy)]
-pub enum Verdict {
-    Accepted,
-    BadLength,
-    BadOrder,
-    BadField,
-}
-
 // What a type is. Its volume is 0 where none is given.
 #[derive(Clone, Copy)]
 pub struct TypeInfo {
     pub group: i32,
     pub category: i32,
     pub volume: f64,
-}
-
-// The answers of four types.
-#[derive(Clone, Copy)]
-pub struct FourTypes {
-    pub a: Option<TypeInfo>,
-    pub b: Option<TypeInfo>,
-    pub c: Option<TypeInfo>,
-    pub d: Option<TypeInfo>,
 }
 
 // What a type asks for.
@@ -84,48 +66,43 @@ pub fn names(catalogue: &[u8]) -> Block
     }
 }
 
+// The block behind another, whose records take `width` bytes each; its size stands at a place.
+fn behind(catalogue: &[u8], b: Block, width: usize, size_at: usize) -> Block
+    requires { (b.at + width * b.n ≤ length catalogue.now) × (size_at + 4 ≤ length catalogue.now) }
+    ensures { (result.at ≡ b.at + width * b.n) × (result.n ≡ u32_at catalogue.now size_at) }
+{
+    Block {
+        at: b.at + width * b.n,
+        n: count(catalogue, size_at),
+    }
+}
+
 pub fn effects(catalogue: &[u8]) -> Block
     requires { base_values_at catalogue.now ≤ length catalogue.now }
     ensures { (result.at ≡ effects_at catalogue.now) × (result.n ≡ effect_count catalogue.now) }
 {
-    let b = names(catalogue);
-    Block {
-        at: b.at + 8 * b.n,
-        n: count(catalogue, 4),
-    }
+    behind(catalogue, names(catalogue), 8, 4)
 }
 
 pub fn types(catalogue: &[u8]) -> Block
     requires { base_values_at catalogue.now ≤ length catalogue.now }
     ensures { (result.at ≡ types_at catalogue.now) × (result.n ≡ type_count catalogue.now) }
 {
-    let b = effects(catalogue);
-    Block {
-        at: b.at + 8 * b.n,
-        n: count(catalogue, 8),
-    }
+    behind(catalogue, effects(catalogue), 8, 8)
 }
 
 pub fn links(catalogue: &[u8]) -> Block
     requires { base_values_at catalogue.now ≤ length catalogue.now }
     ensures { (result.at ≡ links_at catalogue.now) × (result.n ≡ link_count catalogue.now) }
 {
-    let b = types(catalogue);
-    Block {
-        at: b.at + 20 * b.n,
-        n: count(catalogue, 12),
-    }
+    behind(catalogue, types(catalogue), 20, 12)
 }
 
 pub fn bases(catalogue: &[u8]) -> Block
     requires { base_values_at catalogue.now ≤ length catalogue.now }
     ensures { (result.at ≡ bases_at catalogue.now) × (result.n ≡ base_count catalogue.now) }
 {
-    let b = links(catalogue);
-    Block {
-        at: b.at + 8 * b.n,
-        n: count(catalogue, 16),
-    }
+    behind(catalogue, links(catalogue), 8, 16)
 }
 
 // The keys of a block.
@@ -140,43 +117,43 @@ pub fn keys_of(catalogue: &[u8], b: Block) -> &[u8]
 
 // Where `hints`, 8,192 or 64 of them, has an id of a block. By the upper bits of a product, which spread ids that are evenly apart.
 fn hint_of(b: Block, id: i32, hints: usize) -> usize {
-    let spread = ((image::bits(id) as u64) * 2654435761 % 4294967296 / 524288) as usize;
+    let spread = (image::bits(id).wrapping_mul(2654435761) / 524288) as usize;
     let k = (spread + b.at % 8192) % 8192;
     if hints < 8192 { k / 128 } else { k }
 }
 
 // Hints at a place.
 fn keep(hints: &mut [u32], k: usize, place: usize) {
-    if k < hints.len() {
-        hints[k] = (place % 4294967296) as u32;
+    if let Some(hint) = hints.get_mut(k) {
+        *hint = (place % 4294967296) as u32;
     }
 }
 
 // How many keys of a block are under an id. A hint says where it stood when it was looked for before; it is tried first and may
 // be anything, so that no answer depends on hints.
+#[inline(never)]
 fn first_key(catalogue: &[u8], b: Block, id: i32, hints: &mut [u32]) -> usize
     requires { (b.at + 4 * b.n ≤ length catalogue.now) × Sorted (take (4 * b.n) (drop b.at catalogue.now)) b.n }
     ensures { Parts (take (4 * b.n) (drop b.at catalogue.now)) b.n id result }
 {
     let keys = keys_of(catalogue, b);
     let k = hint_of(b, id, hints.len());
-    if hints.len() <= k {
+    let Some(hint) = hints.get(k) else {
         return keys::first_from(keys, b.n, id);
-    }
-    let r = keys::first_near(keys, b.n, id, hints[k] as usize);
+    };
+    let r = keys::first_near(keys, b.n, id, *hint as usize);
     keep(hints, k, r);
     r
 }
 
 // Looks for four ids at once, and leaves hints.
-fn seek(catalogue: &[u8], b: Block, i: i32, j: i32, k: i32, l: i32, hints: &mut [u32])
+fn seek(catalogue: &[u8], b: Block, ids: &[i32; 4], hints: &mut [u32])
     requires { (b.at + 4 * b.n ≤ length catalogue.now) × Sorted (take (4 * b.n) (drop b.at catalogue.now)) b.n }
 {
-    let found = keys::four_from(keys_of(catalogue, b), b.n, i, j, k, l);
-    keep(hints, hint_of(b, i, hints.len()), found.a);
-    keep(hints, hint_of(b, j, hints.len()), found.b);
-    keep(hints, hint_of(b, k, hints.len()), found.c);
-    keep(hints, hint_of(b, l, hints.len()), found.d);
+    let found = keys::each_from(keys_of(catalogue, b), b.n, ids);
+    for j in 0..4 {
+        keep(hints, hint_of(b, ids[j], hints.len()), found[j]);
+    }
 }
 
 // Where an id stands among the keys of a block, given how many of them are under it.
@@ -224,11 +201,8 @@ pub fn attribute_id(catalogue: &[u8], name: u32) -> Option<i32>
         return None;
     }
     let b = names(catalogue);
-    let found = find_near(catalogue, b, name as i32, name as usize);
-    match found {
-        Some(i) => Some(id_at(catalogue, b, i)),
-        None => None,
-    }
+    let i = find_near(catalogue, b, name as i32, name as usize)?;
+    Some(id_at(catalogue, b, i))
 }
 
 fn mark_at(catalogue: &[u8], i: usize) -> u8
@@ -244,11 +218,8 @@ pub fn effect_mark(catalogue: &[u8], id: i32, hints: &mut [u32]) -> Option<u8>
     requires { Sound catalogue.now }
     ensures { result ≡ effect_mark (catalogue_of catalogue.now) id }
 {
-    let found = find_key(catalogue, effects(catalogue), id, hints);
-    match found {
-        Some(i) => Some(mark_at(catalogue, i)),
-        None => None,
-    }
+    let i = find_key(catalogue, effects(catalogue), id, hints)?;
+    Some(mark_at(catalogue, i))
 }
 
 // The volume of the type whose value begins at a place.
@@ -258,9 +229,10 @@ fn volume_at(catalogue: &[u8], at: usize) -> f64
 {
     let flag = image::u32_at(catalogue, at + 8);
     if flag == 0 {
-        return 0.0;
+        0.0
+    } else {
+        floats::f32_wide_at(catalogue, at + 12)
     }
-    floats::f32_wide_at(catalogue, at + 12)
 }
 
 fn type_at(catalogue: &[u8], i: usize) -> TypeInfo
@@ -277,10 +249,10 @@ fn type_at(catalogue: &[u8], i: usize) -> TypeInfo
 }
 
 // Looks for four types at once, and leaves hints for `type_of`.
-pub fn seek_types(catalogue: &[u8], i: i32, j: i32, k: i32, l: i32, hints: &mut [u32])
+pub fn seek_types(catalogue: &[u8], ids: &[i32; 4], hints: &mut [u32])
     requires { Sound catalogue.now }
 {
-    seek(catalogue, types(catalogue), i, j, k, l, hints);
+    seek(catalogue, types(catalogue), ids, hints);
 }
 
 // What a type is, given how many types are under its id.
@@ -289,30 +261,24 @@ fn type_found(catalogue: &[u8], id: i32, at: usize) -> Option<TypeInfo>
         Sound catalogue.now × Parts keys (type_count catalogue.now) id at }
     ensures { result ≡ given (type_of (catalogue_of catalogue.now) id) None (λ x. Some (info_of_type x)) }
 {
-    let found = found_at(catalogue, types(catalogue), id, at);
-    match found {
-        Some(i) => Some(type_at(catalogue, i)),
-        None => None,
-    }
+    let i = found_at(catalogue, types(catalogue), id, at)?;
+    Some(type_at(catalogue, i))
 }
 
 // `get_type` of four types, looked for at once.
-pub fn four_types(catalogue: &[u8], i: i32, j: i32, k: i32, l: i32) -> FourTypes
+pub fn four_types(catalogue: &[u8], ids: &[i32; 4]) -> [Option<TypeInfo>; 4]
     requires { Sound catalogue.now }
     ensures { let c = catalogue_of catalogue.now in
-        (result.a ≡ given (type_of c i) None (λ x. Some (info_of_type x)))
-        × (result.b ≡ given (type_of c j) None (λ x. Some (info_of_type x)))
-        × (result.c ≡ given (type_of c k) None (λ x. Some (info_of_type x)))
-        × (result.d ≡ given (type_of c l) None (λ x. Some (info_of_type x))) }
+        (j : ℕ) → j < 4 →
+        slice_index_or result j None ≡ given (type_of c (slice_index_or ids.now j (pos 0))) None (λ x. Some (info_of_type x)) }
 {
     let b = types(catalogue);
-    let found = keys::four_from(keys_of(catalogue, b), b.n, i, j, k, l);
-    FourTypes {
-        a: type_found(catalogue, i, found.a),
-        b: type_found(catalogue, j, found.b),
-        c: type_found(catalogue, k, found.c),
-        d: type_found(catalogue, l, found.d),
+    let found = keys::each_from(keys_of(catalogue, b), b.n, ids);
+    let mut answers = [None; 4];
+    for j in 0..4 {
+        answers[j] = type_found(catalogue, ids[j], found[j]);
     }
+    answers
 }
 
 // `get_type`: what a type is. `hints` are any numbers: where ids stood that were looked for before with the same catalogue.
@@ -339,24 +305,17 @@ fn with_mark(found: SlotMarks, mark: u8) -> SlotMarks
     ensures rack { result.rack ≡ in_rack found.rack mark }
     ensures hardpoint { result.hardpoint ≡ on_hardpoint found.hardpoint mark }
 {
-    if mark < marks::HI_POWER {
-        return found;
-    }
-    if mark <= marks::SERVICE_SLOT {
-        let hardpoint = found.hardpoint;
-        return SlotMarks {
+    match mark {
+        marks::HI_POWER..=marks::SERVICE_SLOT => SlotMarks {
             rack: Some(mark - 1),
-            hardpoint,
-        };
-    }
-    if mark <= marks::LAUNCHER_FITTED {
-        let rack = found.rack;
-        return SlotMarks {
-            rack,
+            ..found
+        },
+        marks::TURRET_FITTED..=marks::LAUNCHER_FITTED => SlotMarks {
             hardpoint: Some(mark - 1),
-        };
+            ..found
+        },
+        _ => found,
     }
-    found
 }
 
 fn with_link(catalogue: &[u8], found: SlotMarks, i: usize, hints: &mut [u32]) -> SlotMarks
@@ -367,18 +326,17 @@ fn with_link(catalogue: &[u8], found: SlotMarks, i: usize, hints: &mut [u32]) ->
         result.hardpoint ≡ foldl on_hardpoint found.hardpoint ms }
 {
     let effect = id_at(catalogue, links(catalogue), i);
-    let mark = effect_mark(catalogue, effect, hints);
-    match mark {
-        Some(m) => with_mark(found, m),
+    match effect_mark(catalogue, effect, hints) {
+        Some(mark) => with_mark(found, mark),
         None => found,
     }
 }
 
 // Looks for the links of four types at once, and leaves hints for `slots_of`.
-pub fn seek_links(catalogue: &[u8], i: i32, j: i32, k: i32, l: i32, hints: &mut [u32])
+pub fn seek_links(catalogue: &[u8], ids: &[i32; 4], hints: &mut [u32])
     requires { Sound catalogue.now }
 {
-    seek(catalogue, links(catalogue), i, j, k, l, hints);
+    seek(catalogue, links(catalogue), ids, hints);
 }
 
 // The slot effects EVE marks an item with, in the order of its links. `hints` as in `type_of`.
@@ -388,19 +346,15 @@ pub fn slots_of(catalogue: &[u8], id: i32, hints: &mut [u32]) -> SlotMarks
     ensures hardpoint { result.hardpoint ≡ hardpoint_of (catalogue_of catalogue.now) id }
 {
     let b = links(catalogue);
-    let at = b.at;
-    let n = b.n;
     let mut found = SlotMarks {
         rack: None,
         hardpoint: None,
     };
-    let mut i = first_key(catalogue, b, id, hints);
-    while i < n {
-        if !is_id(catalogue, at + 4 * i, id) {
+    for i in first_key(catalogue, b, id, hints)..b.n {
+        if !is_id(catalogue, b.at + 4 * i, id) {
             return found;
         }
         found = with_link(catalogue, found, i, hints);
-        i += 1;
     }
     found
 }
@@ -410,16 +364,12 @@ fn run_end(catalogue: &[u8], b: Block, first: usize, id: i32) -> usize
     requires { (b.at + 4 * b.n ≤ length catalogue.now) × (first ≤ b.n) }
     ensures { Ends (λ k. i32_at catalogue.now (b.at + 4 * k)) b.n id first result }
 {
-    let at = b.at;
-    let n = b.n;
-    let mut i = first;
-    while i < n {
-        if !is_id(catalogue, at + 4 * i, id) {
+    for i in first..b.n {
+        if !is_id(catalogue, b.at + 4 * i, id) {
             return i;
         }
-        i += 1;
     }
-    i
+    b.n
 }
 
 // Where the bases of a type stand.
@@ -444,13 +394,10 @@ pub fn base_value(catalogue: &[u8], span: Span, attribute: i32) -> Option<f64>
 {
     let b = bases(catalogue);
     let at = b.at + 4 * b.n;
-    let to = span.to;
-    let mut i = span.from;
-    while i < to {
+    for i in span.from..span.to {
         if is_id(catalogue, at + 12 * i, attribute) {
             return Some(floats::f64_at(catalogue, at + 12 * i + 4));
         }
-        i += 1;
     }
     None
 }

@@ -1,16 +1,23 @@
 // Refusals 1 to 3 of document 01: each is one pass over the whole catalogue.
 #![tactic(auto)]
 
-ghost use Rattle.std.specs.Prelude.{◌≡◌, ℕ, ◌+◌, ◌*◌, ◌^◌, ◌<◌, ◌≤◌, length, ltb};
+ghost use Rattle.std.specs.Prelude.{◌≡◌, ℕ, ◌+◌, ◌*◌, ◌^◌, ◌<◌, ◌≤◌, not, ◌||◌, length, ltb, eqb};
 ghost use Rattle.std.specs.Int.Signed.{lt_z, le_z};
 ghost use Rattle.words.specs.Words.{table, any_of, in_order};
+ghost use Rattle.numbers.specs.Sizes as Sizes;
+ghost use Rattle.numbers.specs.Refused.{number_of};
 ghost use Rattle.image.specs.Bytes.{u32_at, i32_at};
-ghost use Rattle.catalogue.specs.Catalogue.{catalogue_of, bases_at, base_values_at, size_of};
-ghost use Rattle.catalogue.specs.Refusals.{bad_length, bad_order, bad_field, catalogue_refusal};
-ghost use Rattle.catalogue.specs.Answers.{number_of};
+ghost use Rattle.catalogue.specs.Catalogue.{catalogue_of, base_count, bases_at, base_values_at};
+ghost use Rattle.catalogue.specs.Refusals.{bad_order, bad_field, catalogue_refusal};
 
-use catalogue::{Block, Verdict};
-use numbers::{refusals, sizes};
+use catalogue::Block;
+use numbers::refusals::Refusal;
+use numbers::{marks, sizes};
+
+// Bytes of a base: two ids and an f64.
+const BASE_SIZE: usize = 16;
+
+const LAST_MARK: u32 = marks::LAUNCHER_FITTED as u32;
 
 // Where the sizes say that the bases begin. No sum of five sizes of 32 bits wraps.
 pub fn bases_at(catalogue: &[u8]) -> usize
@@ -23,27 +30,26 @@ pub fn bases_at(catalogue: &[u8]) -> usize
         + 8 * catalogue::count(catalogue, 12)
 }
 
-// The length that the sizes say.
-fn size_of(catalogue: &[u8]) -> usize
-    requires { 20 ≤ length catalogue.now }
-    ensures { result ≡ size_of catalogue.now }
+// The length that the sizes say, where a base takes so many bytes.
+fn size_of(catalogue: &[u8], base_size: usize) -> usize
+    requires { (20 ≤ length catalogue.now) × (base_size ≤ 16) }
+    ensures { result ≡ bases_at catalogue.now + base_size * base_count catalogue.now }
 {
-    bases_at(catalogue) + 16 * catalogue::count(catalogue, 16)
+    bases_at(catalogue) + base_size * catalogue::count(catalogue, 16)
 }
 
-// Refusal 1.
-fn bad_length(catalogue: &[u8]) -> bool
-    ensures { result ≡ bad_length catalogue.now }
+// Refusal 1, where a base takes so many bytes.
+pub fn bad_length(catalogue: &[u8], base_size: usize) -> bool
+    requires { base_size ≤ 16 }
+    ensures { let b = catalogue.now in
+        result ≡ (ltb Sizes.most_catalogue_bytes (length b) || not (eqb (length b) (bases_at b + base_size * base_count b))) }
 {
-    if sizes::MOST_CATALOGUE_BYTES < catalogue.len() {
-        return true;
-    }
-    if catalogue.len() < 20 {
-        return true;
-    }
-    catalogue.len() != size_of(catalogue)
+    sizes::MOST_CATALOGUE_BYTES < catalogue.len()
+        || catalogue.len() < 20
+        || catalogue.len() != size_of(catalogue, base_size)
 }
 
+// Three orders, each by a function of its own: a contract over the order's function would be longer than they are.
 fn ascend_unsigned(catalogue: &[u8], b: Block) -> bool
     requires { b.at + 4 * b.n ≤ length catalogue.now }
     ensures { result ≡ in_order ltb (table b.n (λ i. u32_at catalogue.now (b.at + 4 * i))) }
@@ -91,11 +97,8 @@ fn any_above(b: &[u8], at: usize, n: usize, step: usize, limit: u32) -> bool
     ensures { result ≡ any_of (ltb limit) (table n (λ i. u32_at b.now (at + step * i))) }
 {
     let mut found = false;
-    let mut i = 0;
-    while i < n {
-        let x = image::u32_at(b, at + step * i);
-        found = words::either(found, limit < x);
-        i += 1;
+    for i in 0..n {
+        found |= limit < image::u32_at(b, at + step * i);
     }
     found
 }
@@ -105,49 +108,32 @@ pub fn bad_field(catalogue: &[u8]) -> bool
     requires { base_values_at catalogue.now ≤ length catalogue.now }
     ensures { result ≡ bad_field (catalogue_of catalogue.now) }
 {
-    let n = catalogue::names(catalogue);
-    if any_above(catalogue, n.at, n.n, 4, sizes::LAST_NAME) {
+    let names = catalogue::names(catalogue);
+    let effects = catalogue::effects(catalogue);
+    let types = catalogue::types(catalogue);
+    let marks_at = effects.at + 4 * effects.n;
+    let flags_at = types.at + 4 * types.n + 8;
+    if any_above(catalogue, names.at, names.n, 4, sizes::LAST_NAME) {
         return true;
     }
-    let e = catalogue::effects(catalogue);
-    if any_above(catalogue, e.at + 4 * e.n, e.n, 4, 8) {
+    if any_above(catalogue, marks_at, effects.n, 4, LAST_MARK) {
         return true;
     }
-    let t = catalogue::types(catalogue);
-    any_above(
-        catalogue,
-        t.at + 4 * t.n + 8,
-        t.n,
-        16,
-        sizes::LAST_VOLUME_FLAG,
-    )
+    any_above(catalogue, flags_at, types.n, 16, sizes::LAST_VOLUME_FLAG)
 }
 
 // The first refusal of 1 to 3 that holds.
-pub fn verdict(catalogue: &[u8]) -> Verdict
+pub fn check(catalogue: &[u8]) -> Result<(), Refusal>
     ensures { number_of result ≡ catalogue_refusal catalogue.now }
 {
-    if bad_length(catalogue) {
-        return Verdict::BadLength;
+    if bad_length(catalogue, BASE_SIZE) {
+        return Err(Refusal::BadLength);
     }
     if bad_order(catalogue) {
-        return Verdict::BadOrder;
+        return Err(Refusal::BadKeys);
     }
     if bad_field(catalogue) {
-        return Verdict::BadField;
+        return Err(Refusal::BadEntry);
     }
-    Verdict::Accepted
-}
-
-// Its number, or 0.
-pub fn number(catalogue: &[u8]) -> u64
-    ensures { result ≡ catalogue_refusal catalogue.now }
-{
-    let verdict = verdict(catalogue);
-    match verdict {
-        Verdict::Accepted => 0,
-        Verdict::BadLength => refusals::BAD_LENGTH,
-        Verdict::BadOrder => refusals::BAD_KEYS,
-        Verdict::BadField => refusals::BAD_ENTRY,
-    }
+    Ok(())
 }

@@ -1,7 +1,7 @@
 -- What is read of a type lookup's answer by its cases is what is read of the catalogue by whether it has the type.
 use mathlib.Core.Path.{◌≡◌, refl, sym, ap, ◌∙◌}
 use mathlib.Core.Bool.{Bool, true, false}
-use Rattle.std.specs.Prelude.{Option, None, Some}
+use Rattle.std.specs.Prelude.{Option, None, Some, MatchOption}
 use lib.IntN.{pos}
 use Rattle.words.specs.Words.{given}
 use Rattle.floats.specs.Floats.{zero_f}
@@ -29,6 +29,13 @@ module _ {A : Type 0} (missing : A) (read : TypeInfo → A) where
   pub told : (c : Catalogue) (id : Id) {o : Option TypeInfo} → o ≡ answer_of c id
       → given o missing read ≡ given (type_of c id) missing (λ x. read (info_of_type x))
   told c id {o} e = ap (λ (a : Option TypeInfo). given a missing read) e ∙ by-type (type_of c id)
+
+-- what `map_or` and `is_some_and` answer of a value that may be there, where P is what the closure ensures
+pub given-option : {A B : Type 0} (missing : B) (f : A → B) (o : Option A) {r : B} {P : A → Type 0} → ((x : A) → o ≡ Some x → P x → r ≡ f x)
+    → MatchOption o (r ≡ missing) P → r ≡ given o missing f
+unfolding given
+given-option missing f None h m = m
+given-option missing f (Some x) h m = h x refl m
 
 -- whether it is there
 pub told-known : (c : Catalogue) (id : Id) {o : Option TypeInfo} → o ≡ answer_of c id → given o false (λ x. true) ≡ is_known c id

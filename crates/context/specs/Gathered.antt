@@ -1,5 +1,5 @@
 -- `Context::new`: the pairs of two images, and what is gathered of them once per call.
-use Rattle.std.specs.Prelude.{ℕ, ◌+◌, ◌*◌, ◌^◌, ◌<◌, min, ◌≡◌, cond, List, [], ◌∷◌, eqb, ltb, get_or, set, Float}
+use Rattle.std.specs.Prelude.{ℕ, ◌+◌, ◌*◌, ◌^◌, ◌<◌, min, ◌≡◌, Bool, cond, List, [], ◌∷◌, eqb, ltb, get_or, set, Float}
 use Rattle.std.specs.Prelude.{Option, None, Some}
 use Rattle.std.specs.Float.{binary64}
 use Rattle.std.specs.Float.Ieee.{of_bits}
@@ -30,6 +30,10 @@ pairs_of catalogue fit = pairs (catalogue_of catalogue) (fit_of fit)
 
 unfoldable pub context_of : (catalogue fit : List ℕ) → Context
 context_of catalogue fit = context (catalogue_of catalogue) (fit_of fit).frame
+
+-- what a test by pair index answers is what a test of pairs does
+abbrev pub Tests : (ℕ → Bool → Type 0) → (Pair → Bool) → (catalogue fit : List ℕ) → Type 0
+Tests answers t catalogue fit = (i : ℕ) (b : Bool) → i < pair_count fit → answers i b → b ≡ t (pair_at catalogue fit i)
 
 -- a slot in a word: 8 and above stand for none
 unfoldable pub slot_in : ℕ → Option ℕ

@@ -1,14 +1,16 @@
 // What the rules read of a catalogue and a fit, gathered once per call: Rust's `Context::new`.
 #![tactic(auto)]
 
-ghost use Rattle.std.specs.Prelude.{◌≡◌, List, [], ◌∷◌, ℕ, ◌+◌, ◌/◌, ◌%◌, ◌^◌, ◌<◌, eqb, leb, length, get_or};
+ghost use Rattle.std.specs.Prelude.{◌≡◌, List, [], ◌∷◌, ℕ, ◌+◌, ◌/◌, ◌%◌, ◌^◌, ◌<◌, Bool, eqb, leb, length, get_or};
+ghost use Rattle.words.specs.Words.{count_of};
 ghost use Rattle.numbers.specs.Slots as Slots;
 ghost use Rattle.catalogue.specs.Catalogue.{catalogue_of};
 ghost use Rattle.catalogue.specs.Sound as Catalogue;
 ghost use Rattle.fit.specs.Fit.{fit_of};
 ghost use Rattle.fit.specs.Sound as Fit;
-ghost use Rattle.context.specs.Context.{is_fitted, is_in, is_on_hull, is_module_category};
-ghost use Rattle.context.specs.Gathered.{pair_count, pair_at, slot_in, of_halves, info_of_words, info_at, type_in, answer_of};
+ghost use Rattle.context.specs.Context.{Pair, is_fitted, is_in, is_on_hull, is_module_category};
+ghost use Rattle.context.specs.Gathered.{pair_count, pair_at, pairs_of, Tests, slot_in};
+ghost use Rattle.context.specs.Gathered.{of_halves, info_of_words, info_at, type_in, answer_of};
 ghost use Rattle.context.specs.Gathered.{groups_at, knowns_at, place_count, fact_count, Kept, Pairs, Before, Gathered};
 ghost use Rattle.context.specs.Gathered.{fill, list_of_words, Only, TypePut, MarksPut, Below};
 
@@ -60,19 +62,6 @@ fn code(slot: Option<u8>) -> u32
     }
 }
 
-// The lower and the upper half of 64 bits.
-fn low(x: u64) -> u32
-    ensures { result ≡ x % 2 ^ 32 }
-{
-    (x % 4294967296) as u32
-}
-
-fn high(x: u64) -> u32
-    ensures { result ≡ x / 2 ^ 32 }
-{
-    (x / 4294967296) as u32
-}
-
 fn words_of(info: TypeInfo) -> TypeWords
     ensures { info_of_words result.group result.category result.low result.high ≡ info }
 {
@@ -80,8 +69,8 @@ fn words_of(info: TypeInfo) -> TypeWords
     TypeWords {
         group: image::bits(info.group),
         category: image::bits(info.category),
-        low: low(volume),
-        high: high(volume),
+        low: image::low32(volume),
+        high: image::high32(volume),
     }
 }
 
@@ -129,21 +118,17 @@ fn put_marks(facts: &mut [u32], i: usize, marks: SlotMarks)
 fn seek_pairs(catalogue: &[u8], fit: &[u8], i: usize, hints: &mut [u32])
     requires { Catalogue.Sound catalogue.now × Fit.Sound fit.now × (i < pair_count fit.now) }
 {
-    if LIST_HINTS < hints.len() {
+    if LIST_HINTS < hints.len() || i % 4 != 0 || fit::pair_count(fit) < i + 4 {
         return;
     }
-    if i % 4 != 0 {
-        return;
-    }
-    if fit::pair_count(fit) < i + 4 {
-        return;
-    }
-    let a = fit::item_type(fit, i);
-    let b = fit::item_type(fit, i + 1);
-    let c = fit::item_type(fit, i + 2);
-    let d = fit::item_type(fit, i + 3);
-    catalogue::seek_types(catalogue, a, b, c, d, hints);
-    catalogue::seek_links(catalogue, a, b, c, d, hints);
+    let ids = [
+        fit::item_type(fit, i),
+        fit::item_type(fit, i + 1),
+        fit::item_type(fit, i + 2),
+        fit::item_type(fit, i + 3),
+    ];
+    catalogue::seek_types(catalogue, &ids, hints);
+    catalogue::seek_links(catalogue, &ids, hints);
 }
 
 // The facts of pair i, whose type has this id: the marks stand by it, whether the type is there or not.
@@ -166,11 +151,9 @@ fn gather_pairs(catalogue: &[u8], fit: &[u8], hints: &mut [u32], facts: &mut [u3
         Pairs c f (pair_count f) facts.new × Before groups_at facts.old facts.new }
 {
     let n = fit::pair_count(fit);
-    let mut i: usize = 0;
-    while i < n {
+    for i in 0..n {
         seek_pairs(catalogue, fit, i, hints);
         gather_pair(catalogue, fit::item_type(fit, i), i, hints, facts);
-        i += 1;
     }
 }
 
@@ -188,16 +171,14 @@ pub fn gather(catalogue: &[u8], fit: &[u8], hints: &mut [u32]) -> [u32; 2058]
 }
 
 // Modules, subsystems and structure modules.
+#[tactic(auto, unfolding(crate::specs::Context::is_module_category, words::specs::Words::same))]
 pub fn is_module_category(category: i32) -> bool
     ensures { result ≡ is_module_category category }
 {
-    if words::same_id(category, categories::MODULE) {
-        return true;
-    }
-    if words::same_id(category, categories::SUBSYSTEM) {
-        return true;
-    }
-    words::same_id(category, categories::STRUCTURE_MODULE)
+    matches!(
+        category,
+        categories::MODULE | categories::SUBSYSTEM | categories::STRUCTURE_MODULE
+    )
 }
 
 // ---- what was gathered
@@ -219,7 +200,7 @@ fn slot_in(w: u32) -> u8
 fn of_halves(lower: u32, upper: u32) -> f64
     ensures { result ≡ of_halves lower upper }
 {
-    floats::of_bits64((lower as u64) + 4294967296 * (upper as u64))
+    std::num::f64_from_bits_with_nan((lower as u64) + 4294967296 * (upper as u64))
 }
 
 fn info_in(facts: &[u32; 2058], place: usize) -> TypeInfo
@@ -315,4 +296,18 @@ pub fn is_on_hull(fit: &[u8], i: usize) -> bool
     ensures { (catalogue : List ℕ) → result ≡ is_on_hull (pair_at catalogue fit.now i) }
 {
     fit::item_slot(fit, i) <= slots::FIGHTER_BAY
+}
+
+// How many pairs pass a test.
+pub fn count<F: Fn(usize) -> bool>(fit: &[u8], test: F) -> u32
+    requires sound { Fit.Sound fit.now }
+    requires callable { (i : ℕ) → i < pair_count fit.now → F.pre test i }
+    ensures { (catalogue : List ℕ) (t : Pair → Bool) → Tests (F.post test) t catalogue fit.now
+        → result ≡ count_of t (pairs_of catalogue fit.now) }
+{
+    let mut n: u32 = 0;
+    for i in 0..fit::pair_count(fit) {
+        n += words::one_if(test(i));
+    }
+    n
 }

@@ -1,73 +1,84 @@
--- The 24 bytes of an entry: how many they are, and the words that the code makes of them.
-use mathlib.Core.Path.{◌≡◌, refl, ap, ◌∙◌}
-use mathlib.Core.List.{List, [], ◌∷◌, ◌++◌}
+-- The 24 bytes of an entry: how many they are, and a head and words put one after the other.
+use mathlib.Core.Path.{◌≡◌, refl, sym, ap, ◌∙◌}
+use mathlib.Core.List.{List, [], ◌∷◌}
 use Prim.Native.Nat.{ℕ, suc, ◌+◌, ◌*◌, ◌<◌}
+use native.Mathlib.Numerals.{add-one}
 use native.Mathlib.Omega.{arith}
-use lib.ListN.{length}
+use lib.ListN.{length, get_or, set, take}
+use lib.Seq.{length-take-le}
 use Rattle.words.specs.Words.{each}
-use Rattle.image.specs.Bytes.{le}
-use Rattle.image.proofs.Stores.{le-byte}
-use Rattle.entry.specs.declared.Target.{Target}
+use Rattle.words.proofs.Steps.{each_step}
+use Rattle.image.specs.Bytes.{le, put}
+use Rattle.image.proofs.Stores.{put-append}
 use Rattle.entry.specs.declared.Rule.{Rule}
 use Rattle.entry.specs.declared.Rule.TheVariants.{Resource, Slots, WrongSlot, NotAModule, NotADrone, NotAFighter, NotAnImplant}
 use Rattle.entry.specs.declared.Rule.TheVariants.{SlotTaken, WrongSlotIndex, SubsystemTaken, Skill, RigSize, ShipRestricted}
 use Rattle.entry.specs.declared.Rule.TheVariants.{CapitalItem, StructureItem, ShipItem, MaxGroup, MaxType, NotAHull, NotAMode}
 use Rattle.entry.specs.declared.Rule.TheVariants.{NotASkill, Banned, Points, UnknownType}
 use Rattle.entry.specs.declared.Entry.{Entry}
-use Rattle.entry.specs.declared.Packed.{Packed}
 use Rattle.entry.specs.Entries.{fields, place, entry_bytes}
-use Rattle.entry.specs.Packing.{fields_of}
 
--- every payload is four words
-pub sixteen : (r : Rule) → length (each (fields r).2 (le 4)) ≡ 16
-unfolding fields each
-sixteen (Resource k u a) = refl
-sixteen (Slots k u a) = refl
-sixteen (WrongSlot k) = refl
-sixteen NotAModule = refl
-sixteen NotADrone = refl
-sixteen NotAFighter = refl
-sixteen NotAnImplant = refl
-sixteen SlotTaken = refl
-sixteen (WrongSlotIndex n) = refl
-sixteen SubsystemTaken = refl
-sixteen (Skill id n m) = refl
-sixteen (RigSize n m) = refl
-sixteen ShipRestricted = refl
-sixteen CapitalItem = refl
-sixteen StructureItem = refl
-sixteen ShipItem = refl
-sixteen (MaxGroup id k u a) = refl
-sixteen (MaxType id u a) = refl
-sixteen NotAHull = refl
-sixteen NotAMode = refl
-sixteen (NotASkill id) = refl
-sixteen (Banned group) = refl
-sixteen (Points u a) = refl
-sixteen (UnknownType id) = refl
+pub four-words : (r : Rule) → length (fields r).2 ≡ 4
+unfolding fields
+four-words (Resource k u a) = refl
+four-words (Slots k u a) = refl
+four-words (WrongSlot k) = refl
+four-words NotAModule = refl
+four-words NotADrone = refl
+four-words NotAFighter = refl
+four-words NotAnImplant = refl
+four-words SlotTaken = refl
+four-words (WrongSlotIndex n) = refl
+four-words SubsystemTaken = refl
+four-words (Skill id n m) = refl
+four-words (RigSize n m) = refl
+four-words ShipRestricted = refl
+four-words CapitalItem = refl
+four-words StructureItem = refl
+four-words ShipItem = refl
+four-words (MaxGroup id k u a) = refl
+four-words (MaxType id u a) = refl
+four-words NotAHull = refl
+four-words NotAMode = refl
+four-words (NotASkill id) = refl
+four-words (Banned group) = refl
+four-words (Points u a) = refl
+four-words (UnknownType id) = refl
+
+length-words : (ws : List ℕ) → length (each ws (le 4)) ≡ 4 * length ws
+unfolding each
+length-words [] = refl
+length-words (w ∷ ws) = let h = length-words ws in omega arith
 
 pub length-entry_bytes : (e : Entry) → length (entry_bytes e) ≡ 24
 unfolding entry_bytes
-length-entry_bytes e = ap (λ (n : ℕ). suc (suc (suc (suc (suc (suc (suc (suc n)))))))) (sixteen e.rule)
+length-entry_bytes e = ap (λ (n : ℕ). suc (suc (suc (suc (suc (suc (suc (suc n)))))))) (length-words (fields e.rule).2 ∙ ap (λ (n : ℕ). 4 * n) (four-words e.rule))
 
--- three bytes and a zero as a word
-pub first-bytes : (t c s : ℕ) → t < 256 → c < 256 → s < 256 → le 4 (t + 256 * c + 65536 * s) ≡ t ∷ c ∷ s ∷ 0 ∷ []
-first-bytes t c s ht hc hs =
-    let e : t + 256 * c + 65536 * s ≡ t + 256 * (c + 256 * (s + 256 * 0)) = omega arith in
-    ap (λ (x : ℕ). le 4 x) e
-    ∙ le-byte 3 t (c + 256 * (s + 256 * 0)) ht
-    ∙ ap (λ (l : List ℕ). t ∷ l) (le-byte 2 c (s + 256 * 0) hc ∙ ap (λ (l : List ℕ). c ∷ l) (le-byte 1 s 0 hs))
+-- three bytes and a zero, then more
+pub put_head : (l : List ℕ) (at t c s : ℕ) (ws : List ℕ)
+    → put (set (set (set (set l at t) (at + 1) c) (at + 2) s) (at + 3) 0) (at + 4) ws ≡ put l at (t ∷ c ∷ s ∷ 0 ∷ ws)
+put_head l at t c s ws =
+    let two : at + 2 ≡ at + 1 + 1 = omega arith in
+    let three : at + 3 ≡ at + 1 + 1 + 1 = omega arith in
+    let four : at + 4 ≡ at + 1 + 1 + 1 + 1 = omega arith in
+    rw (two, three, four)
 
--- the head: a word of four bytes, and the index
-pub head_bytes : (target : Target) (number index code sub : ℕ) (ws fs : List ℕ) → place target ≡ (number, index)
-    → ws ≡ fs ++ le 4 index → fs ≡ number ∷ code ∷ sub ∷ 0 ∷ [] → ws ≡ (place target).0 ∷ code ∷ sub ∷ 0 ∷ le 4 (place target).1
-head_bytes target number index code sub ws fs t h f = rw t (h ∙ ap (λ (l : List ℕ). l ++ le 4 index) f)
+-- one more word
+pub put_word : (l : List ℕ) (at : ℕ) (ws : List ℕ) (i : ℕ) → i < length ws
+    → put (put l at (each (take i ws) (le 4))) (at + 4 * i) (le 4 (get_or ws i 0)) ≡ put l at (each (take (i + 1) ws) (le 4))
+put_word l at ws i h =
+    let done = each (take i ws) (le 4) in
+    let n : at + 4 * i ≡ at + length done = omega (arith, length-words (take i ws), length-take-le i ws (omega arith)) in
+    ap (λ (k : ℕ). put (put l at done) k (le 4 (get_or ws i 0))) n
+    ∙ sym (put-append l at done (le 4 (get_or ws i 0)))
+    ∙ ap (put l at) (sym (ap (λ (k : ℕ). each (take k ws) (le 4)) (add-one i) ∙ each_step (le 4) ws i 0 h))
 
--- the head and the payload, eight bytes a time
-pub packed_bytes : (e : Entry) (p : Packed) (xs ys zs : List ℕ) → fields_of p ≡ fields e.rule
-    → xs ≡ (place e.target).0 ∷ p.code ∷ p.sub ∷ 0 ∷ le 4 (place e.target).1
-    → ys ≡ le 4 p.w0 ++ le 4 p.w1 → zs ≡ le 4 p.w2 ++ le 4 p.w3 → xs ++ (ys ++ zs) ≡ entry_bytes e
-unfolding entry_bytes each
-packed_bytes e p xs ys zs f hx hy hz =
+-- the head of an entry, then its payload
+pub put_entry : (l m : List ℕ) (at : ℕ) (e : Entry) → m ≡ put l at ((place e.target).0 ∷ (fields e.rule).0 ∷ (fields e.rule).1 ∷ 0 ∷ le 4 (place e.target).1)
+    → put m (at + 8) (each (fields e.rule).2 (le 4)) ≡ put l at (entry_bytes e)
+unfolding entry_bytes
+put_entry l m at e h =
     let t = place e.target in
-    rw (hx, hy, hz) (ap (λ (r : ℕ × ℕ × List ℕ). t.0 ∷ r.0 ∷ r.1 ∷ 0 ∷ le 4 t.1 ++ each r.2 (le 4)) f)
+    let r = fields e.rule in
+    ap (λ (b : List ℕ). put b (at + 8) (each r.2 (le 4))) h
+    ∙ sym (put-append l at (t.0 ∷ r.0 ∷ r.1 ∷ 0 ∷ le 4 t.1) (each r.2 (le 4)))

@@ -1,6 +1,9 @@
 -- Document 01, "Entry": the numbers and the 24 bytes of an entry, and entries written to a buffer.
 use Rattle.std.specs.Prelude.{ℕ, ◌*◌, ◌/◌, ◌%◌, ◌^◌, List, [], ◌∷◌, ◌++◌, length, drop, Float}
 use Rattle.words.specs.Words.{each}
+use Rattle.numbers.specs.Resources as Resources
+use Rattle.numbers.specs.Slots as Slots
+use Rattle.numbers.specs.Limits as Limits
 use Rattle.image.specs.Bytes.{bits32, le}
 use Rattle.floats.specs.Floats.{f64_bits}
 use Rattle.entry.specs.declared.Target.{Target}
@@ -27,9 +30,9 @@ high x = f64_bits x / 2 ^ 32
 
 -- a rule's number, its sub, and the four u32 words of its payload
 unfoldable pub fields : Rule → ℕ × ℕ × List ℕ
-fields (Resource resource used available) = (1, resource, low used ∷ high used ∷ low available ∷ high available ∷ [])
-fields (Slots slot used available) = (2, slot, used ∷ available ∷ 0 ∷ 0 ∷ [])
-fields (WrongSlot expected) = (3, expected, 0 ∷ 0 ∷ 0 ∷ 0 ∷ [])
+fields (Resource resource used available) = (1, Resources.number resource, low used ∷ high used ∷ low available ∷ high available ∷ [])
+fields (Slots slot used available) = (2, Slots.number slot, used ∷ available ∷ 0 ∷ 0 ∷ [])
+fields (WrongSlot expected) = (3, Slots.number expected, 0 ∷ 0 ∷ 0 ∷ 0 ∷ [])
 fields NotAModule = (4, 0, 0 ∷ 0 ∷ 0 ∷ 0 ∷ [])
 fields NotADrone = (5, 0, 0 ∷ 0 ∷ 0 ∷ 0 ∷ [])
 fields NotAFighter = (6, 0, 0 ∷ 0 ∷ 0 ∷ 0 ∷ [])
@@ -43,7 +46,7 @@ fields ShipRestricted = (13, 0, 0 ∷ 0 ∷ 0 ∷ 0 ∷ [])
 fields CapitalItem = (14, 0, 0 ∷ 0 ∷ 0 ∷ 0 ∷ [])
 fields StructureItem = (15, 0, 0 ∷ 0 ∷ 0 ∷ 0 ∷ [])
 fields ShipItem = (16, 0, 0 ∷ 0 ∷ 0 ∷ 0 ∷ [])
-fields (MaxGroup group limit used allowed) = (17, limit, bits32 group ∷ used ∷ allowed ∷ 0 ∷ [])
+fields (MaxGroup group limit used allowed) = (17, Limits.number limit, bits32 group ∷ used ∷ allowed ∷ 0 ∷ [])
 fields (MaxType type used allowed) = (18, 0, bits32 type ∷ used ∷ allowed ∷ 0 ∷ [])
 fields NotAHull = (19, 0, 0 ∷ 0 ∷ 0 ∷ 0 ∷ [])
 fields NotAMode = (20, 0, 0 ∷ 0 ∷ 0 ∷ 0 ∷ [])

@@ -3,10 +3,11 @@
 
 ghost use Rattle.std.specs.Prelude.{◌≡◌, [], ◌∷◌, ◌++◌, ◌+◌, ◌*◌, ◌/◌, ◌%◌, ◌<◌, ◌≤◌, ◌^◌, length};
 ghost use Rattle.words.specs.Words.{when};
-ghost use Rattle.image.specs.Bytes.{bits32, le, put};
-ghost use Rattle.entry.specs.Entries.{low, high, fields, place, entry_bytes};
-ghost use Rattle.entry.specs.Packing.{fields_of};
+ghost use Rattle.image.specs.Bytes.{put};
+ghost use Rattle.entry.specs.Entries.{fields, place, entry_bytes};
 ghost use Rattle.entry.specs.Wrote.{Room, Wrote};
+
+use numbers::{GroupLimit, Resource, SlotKind};
 
 // What an entry is about: the ship, or an item by its pair index.
 #[derive(Clone, Copy)]
@@ -16,15 +17,14 @@ pub enum Target {
 }
 
 // Rust's `Rule` from Resource to NotASkill, in its order and with its fields; then the rules of a league, and the type that is missing.
-// Resources, slots and limits are the numbers of their enums, from 0.
 #[derive(Clone, Copy)]
 pub enum Rule {
     // resource, used, available
-    Resource(u8, f64, f64),
+    Resource(Resource, f64, f64),
     // slot, used, available
-    Slots(u8, u32, u32),
+    Slots(SlotKind, u32, u32),
     // expected slot
-    WrongSlot(u8),
+    WrongSlot(SlotKind),
     NotAModule,
     NotADrone,
     NotAFighter,
@@ -42,7 +42,7 @@ pub enum Rule {
     StructureItem,
     ShipItem,
     // group id, limit, used, allowed
-    MaxGroup(i32, u8, u32, u32),
+    MaxGroup(i32, GroupLimit, u32, u32),
     // type id, used, allowed
     MaxType(i32, u32, u32),
     NotAHull,
@@ -64,132 +64,85 @@ pub struct Entry {
     pub rule: Rule,
 }
 
-// What stands in an entry beside its target: the rule's number, its sub, and the four words of its payload.
-#[derive(Clone, Copy)]
-struct Packed {
-    code: u8,
-    sub: u8,
-    w0: u32,
-    w1: u32,
-    w2: u32,
-    w3: u32,
-}
-
-fn words(code: u8, sub: u8, w0: u32, w1: u32, w2: u32, w3: u32) -> Packed
-    ensures { fields_of result ≡ (code, sub, w0 ∷ w1 ∷ w2 ∷ w3 ∷ []) }
-{
-    Packed {
-        code,
-        sub,
-        w0,
-        w1,
-        w2,
-        w3,
-    }
-}
-
-// A rule that is its number alone.
-fn plain(code: u8) -> Packed
-    ensures { fields_of result ≡ (code, 0, 0 ∷ 0 ∷ 0 ∷ 0 ∷ []) }
-{
-    words(code, 0, 0, 0, 0, 0)
-}
-
-// A rule on a type or a group.
-fn of_id(code: u8, sub: u8, id: i32, a: u32, b: u32) -> Packed
-    ensures { fields_of result ≡ (code, sub, bits32 id ∷ a ∷ b ∷ 0 ∷ []) }
-{
-    words(code, sub, image::bits(id), a, b, 0)
-}
-
-// The two words of 64 bits.
-fn low32(x: u64) -> u32
-    ensures { result ≡ x % 2 ^ 32 }
-{
-    (x % 4294967296) as u32
-}
-
-fn high32(x: u64) -> u32
-    ensures { result ≡ x / 2 ^ 32 }
-{
-    (x / 4294967296) as u32
-}
-
-fn resource(resource: u8, used: f64, available: f64) -> Packed
-    ensures { fields_of result ≡ (1, resource, low used ∷ high used ∷ low available ∷ high available ∷ []) }
-{
-    let u = floats::f64_bits(used);
-    let a = floats::f64_bits(available);
-    words(1, resource, low32(u), high32(u), low32(a), high32(a))
-}
-
-// The rules by their numbers, in Rust's order.
-fn pack(rule: Rule) -> Packed
-    ensures { fields_of result ≡ fields rule }
+// A rule's number, its sub, and the four words of its payload: the rules in Rust's order.
+#[tactic(auto, using(numbers::proofs::Casts::casts), unfolding(crate::specs::Entries::fields))]
+fn pack(rule: Rule) -> (u8, u8, [u32; 4])
+    ensures { result ≡ fields rule }
 {
     match rule {
-        Rule::Resource(kind, used, available) => resource(kind, used, available),
-        Rule::Slots(slot, used, available) => words(2, slot, used, available, 0, 0),
-        Rule::WrongSlot(expected) => words(3, expected, 0, 0, 0, 0),
-        Rule::NotAModule => plain(4),
-        Rule::NotADrone => plain(5),
-        Rule::NotAFighter => plain(6),
-        Rule::NotAnImplant => plain(7),
-        Rule::SlotTaken => plain(8),
-        Rule::WrongSlotIndex(expected) => words(9, 0, expected as u32, 0, 0, 0),
-        Rule::SubsystemTaken => plain(10),
-        Rule::Skill(id, required, level) => of_id(11, 0, id, required as u32, level as u32),
-        Rule::RigSize(ship, item) => words(12, 0, ship as u32, item as u32, 0, 0),
-        Rule::ShipRestricted => plain(13),
-        Rule::CapitalItem => plain(14),
-        Rule::StructureItem => plain(15),
-        Rule::ShipItem => plain(16),
-        Rule::MaxGroup(id, limit, used, allowed) => of_id(17, limit, id, used, allowed),
-        Rule::MaxType(id, used, allowed) => of_id(18, 0, id, used, allowed),
-        Rule::NotAHull => plain(19),
-        Rule::NotAMode => plain(20),
-        Rule::NotASkill(id) => of_id(21, 0, id, 0, 0),
-        Rule::Banned(group) => of_id(24, 0, group, 0, 0),
-        Rule::Points(used, allowed) => words(25, 0, used, allowed, 0, 0),
-        Rule::UnknownType(id) => of_id(26, 0, id, 0, 0),
+        Rule::Resource(kind, used, available) => {
+            let u = floats::f64_bits(used);
+            let a = floats::f64_bits(available);
+            (
+                1,
+                kind as u8,
+                [
+                    image::low32(u),
+                    image::high32(u),
+                    image::low32(a),
+                    image::high32(a),
+                ],
+            )
+        }
+        Rule::Slots(slot, used, available) => (2, slot as u8, [used, available, 0, 0]),
+        Rule::WrongSlot(expected) => (3, expected as u8, [0; 4]),
+        Rule::NotAModule => (4, 0, [0; 4]),
+        Rule::NotADrone => (5, 0, [0; 4]),
+        Rule::NotAFighter => (6, 0, [0; 4]),
+        Rule::NotAnImplant => (7, 0, [0; 4]),
+        Rule::SlotTaken => (8, 0, [0; 4]),
+        Rule::WrongSlotIndex(expected) => (9, 0, [expected as u32, 0, 0, 0]),
+        Rule::SubsystemTaken => (10, 0, [0; 4]),
+        Rule::Skill(id, required, level) => (
+            11,
+            0,
+            [image::bits(id), required as u32, level as u32, 0],
+        ),
+        Rule::RigSize(ship, item) => (12, 0, [ship as u32, item as u32, 0, 0]),
+        Rule::ShipRestricted => (13, 0, [0; 4]),
+        Rule::CapitalItem => (14, 0, [0; 4]),
+        Rule::StructureItem => (15, 0, [0; 4]),
+        Rule::ShipItem => (16, 0, [0; 4]),
+        Rule::MaxGroup(id, limit, used, allowed) => (
+            17,
+            limit as u8,
+            [image::bits(id), used, allowed, 0],
+        ),
+        Rule::MaxType(id, used, allowed) => (18, 0, [image::bits(id), used, allowed, 0]),
+        Rule::NotAHull => (19, 0, [0; 4]),
+        Rule::NotAMode => (20, 0, [0; 4]),
+        Rule::NotASkill(id) => (21, 0, [image::bits(id), 0, 0, 0]),
+        Rule::Banned(group) => (24, 0, [image::bits(group), 0, 0, 0]),
+        Rule::Points(used, allowed) => (25, 0, [used, allowed, 0, 0]),
+        Rule::UnknownType(id) => (26, 0, [image::bits(id), 0, 0, 0]),
     }
 }
 
-// The first four bytes as a word: target, rule, sub, zero.
-fn first(target: u8, code: u8, sub: u8) -> u32
-    ensures { le 4 result ≡ target ∷ code ∷ sub ∷ 0 ∷ [] }
-{
-    (target as u32) + 256 * (code as u32) + 65536 * (sub as u32)
-}
-
-// Two words as one, the first lowest.
-fn two(a: u32, b: u32) -> u64
-    ensures { le 8 result ≡ le 4 a ++ le 4 b }
-{
-    (a as u64) + 4294967296 * (b as u64)
-}
-
-// The first eight bytes as a word: target, rule, sub, zero, pair index.
-fn head(target: Target, code: u8, sub: u8) -> u64
-    ensures { le 8 result ≡ (place target).0 ∷ code ∷ sub ∷ 0 ∷ le 4 (place target).1 }
+// A target's number and its pair index.
+fn place(target: Target) -> (u8, u32)
+    ensures { result ≡ place target }
 {
     match target {
-        Target::Ship => two(first(0, code, sub), 0),
-        Target::Item(index) => two(first(1, code, sub), index),
+        Target::Ship => (0, 0),
+        Target::Item(index) => (1, index),
     }
 }
 
-// The 24 bytes of an entry from a place on.
+// The 24 bytes of an entry from a place on: target, rule, sub, zero, pair index, payload.
 fn write(out: &mut [u8], at: usize, e: Entry)
     requires { at + 24 ≤ length out.old }
     ensures { out.new ≡ put out.old at (entry_bytes e) }
 {
-    let target = e.target;
-    let rule = e.rule;
-    let p = pack(rule);
-    image::put_u64(out, at, head(target, p.code, p.sub));
-    image::put_u64(out, at + 8, two(p.w0, p.w1));
-    image::put_u64(out, at + 16, two(p.w2, p.w3));
+    let (target, index) = place(e.target);
+    let (code, sub, payload) = pack(e.rule);
+    out[at] = target;
+    out[at + 1] = code;
+    out[at + 2] = sub;
+    out[at + 3] = 0;
+    image::put_u32(out, at + 4, index);
+    for (i, word) in payload.iter().enumerate() {
+        image::put_u32(out, at + 8 + 4 * i, *word);
+    }
 }
 
 // Entry number n, where out has room for it, and the number of the next in any case: over an empty slice it counts.
@@ -197,13 +150,10 @@ pub fn emit(out: &mut [u8], n: usize, e: Entry) -> usize
     requires { Room n 1 }
     ensures { Wrote out.old n out.new result (e ∷ []) }
 {
-    let next = n + 1;
     if n < out.len() / 24 {
         write(out, 24 * n, e);
-        next
-    } else {
-        next
     }
+    n + 1
 }
 
 // An entry where a test holds.

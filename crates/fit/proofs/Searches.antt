@@ -1,10 +1,12 @@
 -- What a search through a part of the image finds: a result's value, and a trained level.
-use Prim.Native.Nat.{ℕ, zero, suc, ◌+◌, ◌*◌, ◌<◌}
+use Prim.Native.Nat.{ℕ, zero, suc, ◌+◌, ◌*◌, ◌/◌, ◌<◌}
+use native.Mathlib.Omega.{arith}
 use mathlib.Core.Path.{◌≡◌, refl, sym, ap, ◌∙◌}
 use mathlib.Core.Bool.{Bool, true, false, cond}
 use mathlib.Core.List.{List}
 use Rattle.std.specs.Prelude.{Option, None, Some}
-use lib.ListN.{take, drop}
+use lib.IntN.{ℤ}
+use lib.ListN.{length, take, drop}
 use lib.Signed.{lt_z}
 use lib.Ieee.{Float}
 use Rattle.words.specs.Words.{table_from, from, find, given, same, in_order}
@@ -13,12 +15,12 @@ use Rattle.image.specs.Bytes.{u8_at, i32_at}
 use Rattle.floats.specs.Floats.{f64_at}
 use Rattle.keys.specs.Keys.{key_at, Sorted, place_of}
 use Rattle.keys.proofs.Orders.{ascending_sorted}
-use Rattle.keys.proofs.Parts.{part-key, part-keys}
+use Rattle.keys.proofs.Parts.{part-key, part-keys, place-alike, sorted_alike}
 use Rattle.catalogue.specs.Catalogue.{Id}
 use Rattle.fit.specs.Fit.{fit_of, skill_count, result_count, skills_at, levels_at, values_at, count_at, start_at, attribute_at, result_of}
 use Rattle.fit.specs.Lookups.{value, trained}
 use Rattle.fit.specs.Sound.{Sound, ids_part}
-use Rattle.fit.proofs.Decoded.{attribute-ids, id-at, ids_all}
+use Rattle.fit.proofs.Decoded.{attribute-ids, id-at, ids_all, ids_length, start-within}
 use Rattle.fit.proofs.Soundness.{skill-order, result-order}
 
 level-from : (f : ℕ → Id) (g : ℕ → ℕ) (t : Id) (i n : ℕ) → trained (table_from i n f) (table_from i n g) t ≡ given (find (λ k. same (f k) t) (from i n)) 0 g
@@ -50,20 +52,29 @@ module _ (b : List ℕ) where
       ∙ passed j (find (λ i. same (attribute_at b (start_at b j + i)).id id) (from 0 n))
       ∙ ap (value_at j) (find-alike (λ i. same (attribute_at b (start_at b j + i)).id id) (λ i. same (key_at ids i) id) n (λ i h. ap (λ z. same z id) (sym (id-at b (start_at b j) n i h))))
 
-  module _ (j : ℕ) (id : Id) where
-    -- an id that stands at place i has the value at place i
-    pub value-given : (i : ℕ) → place_of (ids_part b (start_at b j) (count_at b j)) (count_at b j) id ≡ Some i → value (result_of b j) id ≡ Some (f64_at b (values_at b + 8 * (start_at b j + i)))
-    unfolding given
-    value-given i e = value_found j id ∙ ap (value_at j) e
-
-    pub value-missing : place_of (ids_part b (start_at b j) (count_at b j)) (count_at b j) id ≡ None → value (result_of b j) id ≡ None
-    unfolding given
-    value-missing e = value_found j id ∙ ap (value_at j) e
+  -- an id that stands at place i has the value at place i
+  pub value_told : (j : ℕ) (id : Id) {o : Option ℕ} → o ≡ place_of (ids_part b (start_at b j) (count_at b j)) (count_at b j) id
+      → given o None (λ i. Some (f64_at b (values_at b + 8 * (start_at b j + i)))) ≡ value (result_of b j) id
+  value_told j id e = ap (value_at j) e ∙ sym (value_found j id)
 
   pub ids-sorted : Sound b → (j : ℕ) → j < result_count b + 2 → Sorted (ids_part b (start_at b j) (count_at b j)) (count_at b j)
   ids-sorted s j h =
       ascending_sorted (ids_part b (start_at b j) (count_at b j)) (count_at b j)
       (ap (in_order lt_z) (ids_all b (start_at b j) (count_at b j) ∙ sym (attribute-ids b j)) ∙ result-order b s j h)
+
+  -- a search of the part that holds a result's ids, in words of the image
+  module _ (s : Sound b) (j : ℕ) (h : j < result_count b + 2) {l : List ℕ} (e : l ≡ ids_part b (start_at b j) (count_at b j)) where
+    pub ids-count : length l ≡ 4 * count_at b j
+    ids-count = ap length e ∙ ids_length b (start_at b j) (count_at b j) (omega (arith, start-within b s.sized j h))
+
+    many : length l / 4 ≡ count_at b j
+    many = omega (arith, ids-count)
+
+    pub part-sorted : Sorted l (length l / 4)
+    part-sorted = sorted_alike _ _ _ _ e many (ids-sorted s j h)
+
+    pub found_in : {o : Option ℕ} {z : ℤ} (id : Id) → o ≡ place_of l (length l / 4) z → z ≡ id → o ≡ place_of (ids_part b (start_at b j) (count_at b j)) (count_at b j) id
+    found_in id q r = q ∙ place-alike _ _ _ _ e many _ _ r
 
   -- ---- skills
   -- what a search of the skill ids says of a level
@@ -80,17 +91,17 @@ module _ (b : List ℕ) where
       level-from (λ i. i32_at b (skills_at b + 4 * i)) (λ i. u8_at b (levels_at b + i)) id 0 n
       ∙ ap level_at (find-alike (λ i. same (i32_at b (skills_at b + 4 * i)) id) (λ i. same (key_at skill_ids i) id) n (λ i h. ap (λ z. same z id) (sym (part-key b (skills_at b) n i h))))
 
-  module _ (id : Id) where
-    -- a skill that stands at place i has the level at place i
-    pub level-given : (i : ℕ) → place_of skill_ids (skill_count b) id ≡ Some i → trained (fit_of b).skills (fit_of b).levels id ≡ u8_at b (levels_at b + i)
-    unfolding given
-    level-given i e = level-found id ∙ ap level_at e
-
-    pub level-missing : place_of skill_ids (skill_count b) id ≡ None → trained (fit_of b).skills (fit_of b).levels id ≡ 0
-    unfolding given
-    level-missing e = level-found id ∙ ap level_at e
+  -- a skill that stands at place i has the level at place i
+  pub level_told : (id : Id) {o : Option ℕ} → o ≡ place_of skill_ids (skill_count b) id
+      → given o 0 (λ i. u8_at b (levels_at b + i)) ≡ trained (fit_of b).skills (fit_of b).levels id
+  level_told id e = ap level_at e ∙ sym (level-found id)
 
   pub skills-sorted : Sound b → Sorted skill_ids (skill_count b)
   unfolding fit_of
   skills-sorted s =
       ascending_sorted skill_ids (skill_count b) (ap (in_order lt_z) (part-keys b (skills_at b) (skill_count b)) ∙ skill-order b s)
+
+  -- a search of the part that holds the ids
+  pub skills_found : {n : ℕ} {l : List ℕ} {z : ℤ} {o : Option ℕ} → n ≡ skill_count b → l ≡ take (4 * n) (drop (skills_at b) b) → (id : Id) → o ≡ place_of l n z → z ≡ id
+      → o ≡ place_of skill_ids (skill_count b) id
+  skills_found p q id e r = e ∙ place-alike _ _ _ _ (q ∙ ap (λ (k : ℕ). take (4 * k) (drop (skills_at b) b)) p) p _ _ r

@@ -2,4 +2,3 @@ pub mod Fit
 pub mod Refusals
 pub mod Lookups
 pub mod Sound
-pub mod Answers

@@ -11,16 +11,6 @@ ghost use Rattle.fit.specs.Fit.{skills_at, item_at, count_at, start_at, result_o
 ghost use Rattle.fit.specs.Sound.{Sound, Starts, ids_part, values_part};
 ghost use Rattle.fit.specs.Lookups.{value, amount, trained};
 
-
-// What is said of a fit: accepted, or refused by 4, 5 or 6.
-#[derive(Clone, Copy)]
-pub enum Verdict {
-    Accepted,
-    BadSize,
-    BadOrder,
-    BadField,
-}
-
 pub fn ship(fit: &[u8]) -> i32
     requires { Sound fit.now }
     ensures { result ≡ (fit_of fit.now).frame.ship }
@@ -32,11 +22,11 @@ pub fn mode(fit: &[u8]) -> Option<i32>
     requires { Sound fit.now }
     ensures { result ≡ mode_of (fit_of fit.now).frame }
 {
-    let flag = image::u32_at(fit, 20);
-    if flag == 0 {
-        return None;
+    if image::u32_at(fit, 20) == 0 {
+        None
+    } else {
+        Some(image::i32_at(fit, 24))
     }
-    Some(image::i32_at(fit, 24))
 }
 
 pub fn skill_count(fit: &[u8]) -> usize
@@ -66,12 +56,7 @@ pub fn pair_count(fit: &[u8]) -> usize
     requires { Sound fit.now }
     ensures { result ≡ min (item_count fit.now) (result_count fit.now) }
 {
-    let f = layout::items(fit);
-    let r = layout::results(fit);
-    if f < r {
-        return f;
-    }
-    r
+    layout::results(fit).min(layout::items(fit))
 }
 
 pub fn skill_id(fit: &[u8], i: usize) -> i32
@@ -122,15 +107,12 @@ pub fn find_starts(fit: &[u8], s: &mut [u32])
     requires { Sound fit.now × (most_results + 2 < length s.old) }
     ensures { Starts fit.now s.new }
 {
-    let n = layout::results(fit) + 2;
     let first = layout::results_at(fit);
     let mut sum: u32 = 0;
     s[0] = 0;
-    let mut j: usize = 0;
-    while j < n {
+    for j in 0..layout::results(fit) + 2 {
         sum += layout::count_at(fit, first, j) as u32;
-        j += 1;
-        s[j] = sum;
+        s[j + 1] = sum;
     }
 }
 
@@ -144,19 +126,12 @@ pub fn starts(fit: &[u8]) -> [u32; 259]
     s
 }
 
-// An index from 32 bits.
-fn wide(n: u32) -> usize
-    ensures { result ≡ n }
-{
-    n as usize
-}
-
 // How many attributes stand before those of result j.
 fn start_of(starts: &[u32], j: usize) -> usize
     requires { j < length starts.now }
     ensures { result ≡ get_or starts.now j 0 }
 {
-    wide(starts[j])
+    starts[j] as usize
 }
 
 // The part of the caller's bytes that holds what result j has in the block from `first` on, `width` bytes for each attribute.
@@ -166,9 +141,9 @@ fn part_of<'a>(fit: &'a [u8], starts: &[u32], j: usize, first: usize, width: usi
     ensures { let f = fit.now in
         result.now ≡ take (width * count_at f j) (drop (first + width * start_at f j) f) }
 {
-    let a = first + width * start_of(starts, j);
-    let b = first + width * start_of(starts, j + 1);
-    &fit[a..b]
+    let start = start_of(starts, j);
+    let end = start_of(starts, j + 1);
+    &fit[first + width * start..first + width * end]
 }
 
 // Result j's attribute ids.
@@ -193,11 +168,8 @@ pub fn value(fit: &[u8], starts: &[u32], j: usize, id: i32) -> Option<f64>
     ensures { result ≡ value (result_of fit.now j) id }
 {
     let ids = ids_of(fit, starts, j);
-    let found = keys::place_of(ids, ids.len() / 4, id);
-    match found {
-        Some(i) => Some(floats::f64_at(values_of(fit, starts, j), 8 * i)),
-        None => None,
-    }
+    let i = keys::place_of(ids, ids.len() / 4, id)?;
+    Some(floats::f64_at(values_of(fit, starts, j), 8 * i))
 }
 
 // What an attribute of result j reached; one that is missing reads as 0.
@@ -215,8 +187,7 @@ pub fn trained_level(fit: &[u8], id: i32) -> u8
 {
     let n = layout::skills(fit);
     let ids = image::part(fit, 28, 4 * n);
-    let found = keys::place_of(ids, n, id);
-    match found {
+    match keys::place_of(ids, n, id) {
         Some(i) => image::u8_at(fit, layout::levels_at(fit) + i),
         None => 0,
     }

@@ -1,18 +1,19 @@
 // Refusals 4 to 6 of document 01: each is one pass over the whole fit.
 #![tactic(auto)]
 
-ghost use Rattle.std.specs.Prelude.{◌≡◌, not, ◌&&◌, ◌||◌, map, ◌+◌, ◌*◌, ◌<◌, ◌≤◌, eqb, ltb, length};
+ghost use Rattle.std.specs.Prelude.{◌≡◌, ℕ, Bool, not, ◌&&◌, ◌||◌, map, ◌+◌, ◌*◌, ◌<◌, ◌≤◌, eqb, ltb, length};
 ghost use Rattle.std.specs.Int.Signed.{lt_z};
 ghost use Rattle.words.specs.Words.{any_of, in_order, table};
 ghost use Rattle.numbers.specs.Sizes as Sizes;
+ghost use Rattle.numbers.specs.Refused.{number_of};
 ghost use Rattle.image.specs.Bytes.{i32_at};
 ghost use Rattle.fit.specs.Fit.{Item, results_at, items_at, ids_at, item_at, result_of, start_at, fit_of, all_results};
 ghost use Rattle.fit.specs.Refusals.{bad_size, bad_order, bad_item, bad_result, bad_field, fit_refusal};
 ghost use Rattle.fit.specs.Sound.{Sized, in_bay};
-ghost use Rattle.fit.specs.Answers.{number_of};
 
-use fit::{Verdict, layout};
-use numbers::{refusals, sizes, slots, states};
+use fit::layout;
+use numbers::refusals::Refusal;
+use numbers::{sizes, slots, states};
 
 // How many attributes the first n results have.
 fn counted(fit: &[u8], first: usize, n: usize) -> usize
@@ -20,10 +21,8 @@ fn counted(fit: &[u8], first: usize, n: usize) -> usize
     ensures { result ≡ start_at fit.now n }
 {
     let mut sum: usize = 0;
-    let mut j: usize = 0;
-    while j < n {
+    for j in 0..n {
         sum += layout::count_at(fit, first, j);
-        j += 1;
     }
     sum
 }
@@ -54,11 +53,7 @@ fn bad_size(fit: &[u8]) -> bool
     if fit.len() != 36 + 5 * s + 12 * f + 4 * r + 12 * a {
         return true;
     }
-    let n = counted(fit, 28 + 5 * s + 12 * f, r + 2);
-    if n != a {
-        return true;
-    }
-    false
+    counted(fit, 28 + 5 * s + 12 * f, r + 2) != a
 }
 
 // Whether the n attribute ids from number `start` on do not ascend, where all ids begin at `first`.
@@ -83,12 +78,10 @@ fn any_disordered(fit: &[u8]) -> bool
     let first = layout::ids_at(fit);
     let mut bad = false;
     let mut start: usize = 0;
-    let mut j: usize = 0;
-    while j < n {
+    for j in 0..n {
         let k = layout::count_at(fit, results, j);
-        bad = words::either(bad, disordered(fit, first, start, k));
+        bad |= disordered(fit, first, start, k);
         start += k;
-        j += 1;
     }
     bad
 }
@@ -166,21 +159,6 @@ fn bad_item(fit: &[u8], first: usize, i: usize) -> bool
     bad_place(slot, reserved, index)
 }
 
-fn any_bad_item(fit: &[u8]) -> bool
-    requires { Sized fit.now }
-    ensures { result ≡ any_of bad_item (fit_of fit.now).items }
-{
-    let n = layout::items(fit);
-    let first = layout::items_at(fit);
-    let mut bad = false;
-    let mut i: usize = 0;
-    while i < n {
-        bad = words::either(bad, bad_item(fit, first, i));
-        i += 1;
-    }
-    bad
-}
-
 // Result j, where the results begin at `first`.
 fn bad_result(fit: &[u8], first: usize, j: usize) -> bool
     requires { (first ≡ results_at fit.now) × (first + 4 * j + 4 ≤ length fit.now) }
@@ -195,17 +173,14 @@ fn bad_result(fit: &[u8], first: usize, j: usize) -> bool
     reserved != 0
 }
 
-fn any_bad_result(fit: &[u8]) -> bool
-    requires { Sized fit.now }
-    ensures { result ≡ any_of bad_result (all_results (fit_of fit.now)) }
+// Whether any of n is bad. The loop runs to its end, so that it has no branch of its own.
+fn any<F: Fn(usize) -> bool>(n: usize, is_bad: F) -> bool
+    requires { (i : ℕ) → i < n → F.pre is_bad i }
+    ensures { (p : ℕ → Bool) → ((i : ℕ) (r : Bool) → i < n → F.post is_bad i r → r ≡ p i) → result ≡ any_of (λ r. r) (table n p) }
 {
-    let n = layout::results(fit) + 2;
-    let first = layout::results_at(fit);
     let mut bad = false;
-    let mut j: usize = 0;
-    while j < n {
-        bad = words::either(bad, bad_result(fit, first, j));
-        j += 1;
+    for i in 0..n {
+        bad |= is_bad(i);
     }
     bad
 }
@@ -220,37 +195,26 @@ fn bad_field(fit: &[u8]) -> bool
     if bad_mode(flag, mode) {
         return true;
     }
-    if any_bad_item(fit) {
+    let items = layout::items_at(fit);
+    if any(layout::items(fit), |i| bad_item(fit, items, i)) {
         return true;
     }
-    any_bad_result(fit)
+    let results = layout::results_at(fit);
+    any(layout::results(fit) + 2, |j| bad_result(fit, results, j))
 }
 
 // The first refusal that holds of any bytes at all.
-pub fn verdict(fit: &[u8]) -> Verdict
+pub fn check(fit: &[u8]) -> Result<(), Refusal>
     ensures { number_of result ≡ fit_refusal fit.now }
 {
     if bad_size(fit) {
-        return Verdict::BadSize;
+        return Err(Refusal::BadSize);
     }
     if bad_order(fit) {
-        return Verdict::BadOrder;
+        return Err(Refusal::BadIds);
     }
     if bad_field(fit) {
-        return Verdict::BadField;
+        return Err(Refusal::BadField);
     }
-    Verdict::Accepted
-}
-
-// Its number, or 0.
-pub fn number(fit: &[u8]) -> u64
-    ensures { result ≡ fit_refusal fit.now }
-{
-    let verdict = verdict(fit);
-    match verdict {
-        Verdict::Accepted => 0,
-        Verdict::BadSize => refusals::BAD_SIZE,
-        Verdict::BadOrder => refusals::BAD_IDS,
-        Verdict::BadField => refusals::BAD_FIELD,
-    }
+    Ok(())
 }

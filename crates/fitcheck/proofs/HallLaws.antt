@@ -23,7 +23,7 @@ use Rattle.lists.specs.Terms.{main}
 use Rattle.lists.specs.Lists.{whole_list}
 use Rattle.fitcheck.specs.Hall.{fit_count, length_at, fit_start, fit_at, fits, bad_input, Laid, fit_refused, is_clear, is_faulted, share_of, word_of}
 use Rattle.fitcheck.specs.Hall.{HallAnswer, hall_by, hall_call, hall_returned}
-use Rattle.calls.proofs.First.{first_small, first-kept, first_past, numbered-catalogue}
+use Rattle.calls.proofs.First.{first-kept, first_past, numbered-catalogue}
 
 -- ---- where fits stand
 module _ (input : List ℕ) where
@@ -143,10 +143,6 @@ unfolding fits
 word-all c input = refl
 
 -- ---- the hall call
-pub unread_small : (catalogue : List ℕ) → catalogue_refusal catalogue ≤ 6
-unfolding catalogue_refusal
-unread_small catalogue = first_small 6 (catalogue_refusals catalogue) (numbered-catalogue catalogue)
-
 by_number : (k : ℕ) (a : HallAnswer) → 0 < k → hall_returned (hall_by k a) ≡ k * Sizes.word
 unfolding hall_by hall_returned
 by_number zero a h = absurd (omega arith)

@@ -1,20 +1,41 @@
 -- The list call and the skill call, by their readers.
-use Prim.Native.Nat.{ℕ}
+use Prim.Native.Nat.{ℕ, ◌≤◌}
 use native.Mathlib.Omega.{arith}
-use mathlib.Core.Path.{◌≡◌, ◌∙◌}
+use mathlib.Core.Path.{◌≡◌, sym, ap, ◌∙◌}
 use mathlib.Core.Bool.{true, false}
-use mathlib.Core.List.{List, ◌++◌}
+use borrow.Author.Tests.{le-ltb}
+use mathlib.Core.List.{List, ◌∷◌, ◌++◌}
 use Rattle.numbers.specs.Refusals as Refusals
+use Rattle.numbers.specs.Readers as Readers
+use Rattle.numbers.specs.Reading.{reader_number}
+use Rattle.numbers.specs.declared.readers.Reader.{Reader}
 use Rattle.catalogue.specs.Catalogue.{catalogue_of}
 use Rattle.fit.specs.Fit.{fit_of}
 use Rattle.skill.specs.Skill.{skill_list}
-use Rattle.lists.specs.Terms.{Terms}
+use Rattle.entry.specs.declared.Entry.{Entry}
+use Rattle.lists.specs.Terms.{Terms, limited}
 use Rattle.lists.specs.Lists.{list_for}
 use Rattle.calls.specs.Answers.{Refused, answer, page_refusals, input_refusals, buffer_refusals, skill_refusals}
+use Rattle.calls.proofs.Pages.{limits_unread}
 use Rattle.calls.proofs.Giving.{answer_true, answer_false}
 use Rattle.fitcheck.specs.Calls.{no_reader, is_guest, list_call, skill_call}
 
+-- the number of a reader that there is
+few-readers : (r : Reader) → reader_number r ≤ Readers.officer
+few-readers r = grind arith
+
+pub somebody : {n : ℕ} (t : Terms) (r : Reader) → reader_number r ≡ n → t.reader ≡ n → no_reader t ≡ false
+somebody t r e q = le-ltb Readers.officer t.reader (omega (arith, e, q, few-readers r))
+
 -- ---- the list call
+-- no list reads the limit of skills
+pub skills_unread : (t : Terms) (pairs skills more : ℕ) (catalogue fit buffer : List ℕ)
+    → list_call (limited pairs skills t) catalogue fit buffer ≡ list_call (limited pairs more t) catalogue fit buffer
+unfolding list_call
+skills_unread t pairs skills more catalogue fit buffer =
+    ap (λ (es : List Entry). answer ((Refusals.no_reader, no_reader t) ∷ (input_refusals (limited pairs more t) catalogue fit ++ buffer_refusals buffer es)) es)
+    (limits_unread (limited pairs skills t) pairs more (catalogue_of catalogue) (fit_of fit))
+
 module _ (t : Terms) (catalogue fit buffer : List ℕ) where
   pub list_nobody : no_reader t ≡ true → list_call t catalogue fit buffer ≡ Refused Refusals.no_reader
   unfolding list_call

@@ -8,17 +8,13 @@ use Rattle.numbers.specs.Refusals as Refusals
 use Rattle.widening.specs.Old.{old_refusals, old_refusal}
 use Rattle.widening.specs.Widen.{widened}
 use Rattle.calls.specs.Output.{Withheld, Written, output, room_refusals}
-use Rattle.calls.proofs.First.{Numbered, first_small}
+use Rattle.calls.proofs.First.{Numbered}
 use Rattle.calls.proofs.Outputs.{output-kept, output-past, output-short, output-written}
 use Rattle.fitcheck.specs.Widen.{widen_call}
 
 pub numbered-old : (old : List ℕ) → Numbered 3 (old_refusals old)
 unfolding old_refusals
 numbered-old old = (omega arith, omega arith, (omega arith, omega arith, (omega arith, omega arith, tt)))
-
-pub old-small : (old : List ℕ) → old_refusal old ≤ 3
-unfolding old_refusal
-old-small old = first_small 3 (old_refusals old) (numbered-old old)
 
 module _ (old buffer : List ℕ) where
   pub widen_refused : 0 < old_refusal old → widen_call old buffer ≡ Withheld (old_refusal old)

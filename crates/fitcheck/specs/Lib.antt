@@ -1,4 +1,5 @@
 pub mod Calls
 pub mod Hall
+pub mod Standing
 pub mod Widen
 pub mod Train

@@ -5,15 +5,25 @@ ghost use Rattle.image.specs.Bytes.{u32_at};
 ghost use Rattle.catalogue.specs.Catalogue.{catalogue_of};
 ghost use Rattle.catalogue.specs.Sound as Catalogue;
 ghost use Rattle.fitcheck.specs.Hall.{fit_count, length_at, fit_start, fits, bad_input, Laid, share_of, word_of};
+ghost use Rattle.fitcheck.specs.Standing.{share};
 
 use numbers::sizes;
 
-// What one fit adds to the word.
-const CLEAR: u64 = 1;
+// What is said of a fit, by what it adds to the word.
+#[derive(Clone, Copy)]
+pub enum Standing {
+    Clear = 1,
+    Faulted = 256,
+    Refused = 65536,
+}
 
-const FAULTED: u64 = 256;
-
-const REFUSED: u64 = 65536;
+impl Standing {
+    fn share(self) -> usize
+        ensures { (result ≡ share self) × (result ≤ 65536) }
+    {
+        self as usize
+    }
+}
 
 // Fits of one hall name the same types again and again.
 const HINTS: usize = 8192;
@@ -40,10 +50,8 @@ fn fits_end(input: &[u8], n: usize) -> usize
     ensures { result ≡ fit_start input.now (fit_count input.now) }
 {
     let mut at = 4 + 4 * n;
-    let mut i: usize = 0;
-    while i < n {
+    for i in 0..n {
         at += length_at(input, i);
-        i += 1;
     }
     at
 }
@@ -68,40 +76,38 @@ pub fn bad_input(input: &[u8]) -> bool
     false
 }
 
-// What a fit adds, whatever its bytes are.
-fn share(catalogue: &[u8], fit: &[u8], hints: &mut [u32]) -> u64
+// Whatever the bytes of a fit are.
+fn judge(catalogue: &[u8], fit: &[u8], hints: &mut [u32]) -> Standing
     requires { Catalogue.Sound catalogue.now }
-    ensures { (result ≡ share_of (catalogue_of catalogue.now) fit.now) × (result ≤ 65536) }
+    ensures { share result ≡ share_of (catalogue_of catalogue.now) fit.now }
 {
-    if 0 < fit_refusals::number(fit) {
-        return REFUSED; // 4 to 6
+    if fit_refusals::check(fit).is_err() {
+        return Standing::Refused; // 4 to 6
     }
     if fit::item_count(fit) != fit::result_count(fit) {
-        return FAULTED; // whatever is listed: not all of it is read
+        return Standing::Faulted; // whatever is listed: not all of it is read
     }
     let facts = context::gather(catalogue, fit, hints);
     if lists::is_empty(catalogue, fit, &facts, hints) {
-        return CLEAR;
+        return Standing::Clear;
     }
-    FAULTED
+    Standing::Faulted
 }
 
 // The word of a hall whose catalogue and lengths are accepted.
-pub fn word(catalogue: &[u8], input: &[u8]) -> u64
+pub fn word(catalogue: &[u8], input: &[u8]) -> usize
     requires { Catalogue.Sound catalogue.now × Laid input.now }
     ensures { result ≡ word_of (catalogue_of catalogue.now) (fits input.now) }
 {
     let n = size_at(input, 0);
     let mut hints = [0u32; HINTS];
-    let mut word: u64 = 0;
+    let mut word: usize = 0;
     let mut at = 4 + 4 * n;
-    let mut i: usize = 0;
-    while i < n {
+    for i in 0..n {
         let size = length_at(input, i);
         let fit = image::part(input, at, size);
-        word += share(catalogue, fit, &mut hints);
+        word += judge(catalogue, fit, &mut hints).share();
         at += size;
-        i += 1;
     }
     word
 }

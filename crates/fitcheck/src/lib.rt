@@ -6,23 +6,43 @@ mod hall;
 ghost use Rattle.std.specs.Prelude.{◌≡◌};
 ghost use Rattle.lists.specs.Terms.{terms, limited, read_by, main};
 ghost use Rattle.calls.specs.Answers.{returned, buffered};
+ghost use Rattle.calls.specs.Gave.{Gave, GaveBytes, word_of};
 ghost use Rattle.calls.specs.Output.{output_word, filled};
 ghost use Rattle.fitcheck.specs.Calls.{list_call, skill_call};
 ghost use Rattle.fitcheck.specs.Hall.{hall_call, hall_returned};
 ghost use Rattle.fitcheck.specs.Widen.{widen_call};
 ghost use Rattle.fitcheck.specs.Train.{train_call};
 
-use calls::refused;
+use calls::word;
 use lists::Asked;
-use numbers::{readers, refusals, sizes};
+use numbers::readers::Reader;
+use numbers::refusals::Refusal;
+use numbers::sizes;
 
 // The main page's limits, as a call brings them.
 pub const MAIN_PAIRS: u32 = sizes::MOST_PAIRS as u32;
 
 pub const MAIN_SKILLS: u32 = sizes::MOST_WANTED as u32;
 
-// The list call: every rule that a fit breaks, those of a league with it; a guest is not told of skills. A list wants none, and the limit
-// of skills is not read.
+// The list of whoever has the reader's number. A list wants no skill, and the limit of skills is not read.
+fn answer_list(
+    reader: u32,
+    catalogue: &[u8],
+    fit: &[u8],
+    profile: &[u8],
+    allowance: u32,
+    pairs: u32,
+    out: &mut [u8],
+) -> Result<usize, Refusal>
+    ensures { let t = read_by reader (limited pairs 0 (terms profile.now allowance)) in
+        Gave out.old out.new (word_of result) (list_call t catalogue.now fit.now out.old) }
+{
+    let reader = Reader::try_from(reader)?;
+    let asked = Asked { reader, allowance };
+    calls::read_list(asked, catalogue, fit, profile, pairs, out)
+}
+
+// The list call: every rule that a fit breaks, those of a league with it; a guest is not told of skills.
 pub fn fit_list(
     reader: u32,
     catalogue: &[u8],
@@ -37,11 +57,28 @@ pub fn fit_list(
         let call = list_call t catalogue.now fit.now out.old in
         (result ≡ returned call) × (out.new ≡ buffered out.old call) }
 {
-    if readers::OFFICER < reader {
-        return refused(refusals::NO_READER);
+    word(answer_list(reader, catalogue, fit, profile, allowance, pairs, out))
+}
+
+// The skills of a result, which guests are not told of.
+fn answer_skill(
+    reader: u32,
+    catalogue: &[u8],
+    fit: &[u8],
+    res: u32,
+    pairs: u32,
+    skills: u32,
+    out: &mut [u8],
+) -> Result<usize, Refusal>
+    ensures { let t = read_by reader (limited pairs skills main) in
+        Gave out.old out.new (word_of result) (skill_call t catalogue.now fit.now res out.old) }
+{
+    match Reader::try_from(reader)? {
+        Reader::Guest => Err(Refusal::NotForGuests),
+        Reader::Pilot | Reader::Officer => calls::read_skills(
+            catalogue, fit, res, pairs, skills, out,
+        ),
     }
-    let asked = Asked { reader, allowance };
-    calls::read_list(asked, catalogue, fit, profile, pairs, out)
 }
 
 // The skill call: the skills that a result wants and that are trained lower. They are not for guests.
@@ -58,27 +95,37 @@ pub fn fit_skill(
         let call = skill_call t catalogue.now fit.now res out.old in
         (result ≡ returned call) × (out.new ≡ buffered out.old call) }
 {
-    if readers::OFFICER < reader {
-        return refused(refusals::NO_READER);
-    }
-    if reader == readers::GUEST {
-        return refused(refusals::NOT_FOR_GUESTS);
-    }
-    calls::read_skills(catalogue, fit, res, pairs, skills, out)
+    word(answer_skill(reader, catalogue, fit, res, pairs, skills, out))
 }
 
-// The hall call: how many of up to 64 fits are clear, faulted and refused. The catalogue is checked once for all of them.
+// The catalogue is checked once for all fits.
+fn answer_hall(catalogue: &[u8], input: &[u8]) -> Result<usize, Refusal>
+    ensures { word_of result ≡ hall_returned (hall_call catalogue.now input.now) }
+{
+    catalogue_refusals::check(catalogue)?;
+    if hall::bad_input(input) {
+        return Err(Refusal::BadSize);
+    }
+    Ok(hall::word(catalogue, input))
+}
+
+// The hall call: how many of up to 64 fits are clear, faulted and refused.
 pub fn fit_hall(catalogue: &[u8], input: &[u8]) -> u64
     ensures { result ≡ hall_returned (hall_call catalogue.now input.now) }
 {
-    let refusal = catalogue_refusals::number(catalogue);
-    if 0 < refusal {
-        return refused(refusal);
+    word(answer_hall(catalogue, input))
+}
+
+fn answer_widen(old: &[u8], out: &mut [u8]) -> Result<usize, Refusal>
+    ensures { GaveBytes out.old out.new (word_of result) (widen_call old.now out.old) }
+{
+    widening::check(old)?;
+    let size = widening::wide_size(old);
+    if out.len() < size {
+        return Err(Refusal::TooShort);
     }
-    if hall::bad_input(input) {
-        return refused(refusals::BAD_SIZE);
-    }
-    hall::word(catalogue, input)
+    widening::widen(old, out);
+    Ok(size)
 }
 
 // The widening: an old catalogue, whose base values are f32, in the new form.
@@ -86,16 +133,20 @@ pub fn fit_widen(old: &[u8], out: &mut [u8]) -> u64
     ensures { let call = widen_call old.now out.old in
         (result ≡ output_word call) × (out.new ≡ filled out.old call) }
 {
-    let first = widening::number(old);
-    if 0 < first {
-        return refused(first);
-    }
-    let size = widening::wide_size(old);
-    if out.len() < size {
-        return refused(refusals::TOO_SHORT);
-    }
-    widening::widen(old, out);
-    size as u64
+    word(answer_widen(old, out))
+}
+
+fn answer_train(
+    catalogue: &[u8],
+    fit: &[u8],
+    res: u32,
+    steps: u32,
+    out: &mut [u8],
+) -> Result<usize, Refusal>
+    ensures { GaveBytes out.old out.new (word_of result) (train_call catalogue.now fit.now res steps out.old) }
+{
+    calls::check_images(catalogue, fit)?;
+    training::train(catalogue, fit, res, steps, out)
 }
 
 // The training: the fit that so many steps lead to, for one of its results.
@@ -103,11 +154,7 @@ pub fn fit_train(catalogue: &[u8], fit: &[u8], res: u32, steps: u32, out: &mut [
     ensures { let call = train_call catalogue.now fit.now res steps out.old in
         (result ≡ output_word call) × (out.new ≡ filled out.old call) }
 {
-    let refusal = calls::image_refusal(catalogue, fit);
-    if 0 < refusal {
-        return refused(refusal);
-    }
-    training::train(catalogue, fit, res, steps, out)
+    word(answer_train(catalogue, fit, res, steps, out))
 }
 
 // The number of this set of calls and images, in the symbol's name: a caller written for another set does not link.

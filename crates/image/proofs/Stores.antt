@@ -6,7 +6,10 @@ use native.Mathlib.Nat.{suc-add, zero-add, pow-succ', mul_assoc}
 use native.Mathlib.Numerals.{add-one}
 use native.Mathlib.Omega.{arith}
 use lib.ListN.{length, get_or, set, take, drop, length-set, length-append, length-drop, take-append-drop}
-use lib.Seq.{set_at, append_snoc, take-suc, drop-drop, length-take-le}
+use Rattle.std.proofs.lemmas.List.{append_assoc}
+use Rattle.std.proofs.lemmas.Slice.{put_mid-paste}
+use borrow.Rule.Slice.PartMut.{put_mid}
+use lib.Seq.{take_all, paste, set_at, append_snoc, take-suc, drop-drop, length-take-le}
 use Rattle.image.specs.Bytes.{le, put}
 
 pub length-le : (n x : ℕ) → length (le n x) ≡ n
@@ -73,6 +76,21 @@ put-parts l at vs h =
     ap (λ (m : List ℕ). put m at vs) (sym parts)
     ∙ put-between (take at l) (take n (drop at l)) (drop (at + n) l) vs at (length-take-le at l (omega arith)) (length-take-le n (drop at l) d)
 
+-- the library's word for a part that is written over
+pub put-paste : (l : List ℕ) (at : ℕ) (s : List ℕ) (n : ℕ) → at + n ≤ length l → n ≤ length s → paste l at s n ≡ put l at (take n s)
+put-paste l at s n h k =
+    let e = length-take-le n s k in
+    append_assoc (take at l) (take n s) (drop (at + n) l)
+    ∙ ap (λ (j : ℕ). take at l ++ (take n s ++ drop (at + j) l)) (sym e)
+    ∙ sym (put-parts l at (take n s) (omega (arith, e, h)))
+
+-- after a copy into a part
+pub put-part : (l : List ℕ) (at : ℕ) (vs ws : List ℕ) (k : ℕ) → ws ≡ vs → k ≡ length vs → at + length vs ≤ length l → put_mid at k l ws ≡ put l at vs
+put-part l at vs ws k e h room =
+    put_mid-paste at k l ws vs (length vs) e (sym h) refl
+    ∙ put-paste l at vs (length vs) room (omega arith)
+    ∙ ap (put l at) (take_all (length vs) vs (omega arith))
+
 -- three runs of eight bytes, one after the other, are one run
 pub put_three : (l l₁ l₂ l₃ : List ℕ) (at : ℕ) (xs ys zs : List ℕ) → length xs ≡ 8 → length ys ≡ 8
     → l₁ ≡ put l at xs → l₂ ≡ put l₁ (at + 8) ys → l₃ ≡ put l₂ (at + 16) zs → l₃ ≡ put l at (xs ++ (ys ++ zs))
@@ -83,3 +101,5 @@ put_three l l₁ l₂ l₃ at xs ys zs hx hy e₁ e₂ e₃ =
     ∙ sym (put-append (put l at xs) (at + 8) ys zs)
     ∙ ap (λ (k : ℕ). put (put l at xs) k (ys ++ zs)) (omega (arith, hx))
     ∙ sym (put-append l at xs (ys ++ zs))
+
+pub ruleset stores = (put-part, put-paste, length-drop)

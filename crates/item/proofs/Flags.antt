@@ -4,14 +4,13 @@ use native.Mathlib.Nat.{eq-or-lt_of_le}
 use native.Mathlib.Omega.{arith}
 use mathlib.Core.Path.{◌≡◌, refl, sym, ap, ap₂, ◌∙◌}
 use mathlib.Core.Bool.{Bool, true, false, cond, true≢false}
-use mathlib.Core.List.{List, [], ◌∷◌, ◌++◌}
-use Rattle.std.specs.Prelude.{None}
+use mathlib.Core.List.{List, [], ◌∷◌}
+use Rattle.std.specs.Prelude.{Option, None, Some}
 use mathlib.Core.Logic.{⊎_elim}
 use lib.Dec.{ltb}
 use lib.IntN.{pos, negsuc}
 use lib.ListN.{length, get_or, set, length-set}
 use lib.Seq.{get_or-set_same}
-use borrow.Author.Tests.{ltb-true, ltb-false}
 use Rattle.words.specs.Words.{◌>>=◌, each, any_of, find, given, same, table}
 use Rattle.words.proofs.Elements.{or_left, or_right}
 use Rattle.words.proofs.Sames.{same-eq}
@@ -22,9 +21,8 @@ use Rattle.fit.specs.Fit.{Attribute, Result, result_of, count_at, start_at}
 use Rattle.fit.specs.Lookups.{value}
 use Rattle.fit.specs.Sound.{ids_part}
 use Rattle.fit.proofs.Decoded.{attribute-ids, ids_all}
-use Rattle.item.specs.Ids.{id_in, listed_under, listed_in}
+use Rattle.item.specs.Ids.{listed_under, listed_in}
 use Rattle.item.specs.Flags.{flag_of, Flagged, OnlyAdded, any_flagged}
-use Rattle.item.proofs.Codes.{code_some, code_none}
 use Rattle.item.proofs.Marks.{any-map}
 
 -- ---- one flag more
@@ -35,41 +33,59 @@ set_keeps (x ∷ l) zero (suc i) h = h
 set_keeps (x ∷ l) (suc p) zero h = h
 set_keeps (x ∷ l) (suc p) (suc i) h = set_keeps l p i h
 
--- the ids in the codes before k are flagged, and what was flagged before still is
-pub record Flagging (codes : List ℕ) (before flags : List Bool) (k : ℕ) : Type 0 where
-  pub within : k ≤ length codes
+-- the first k ids are flagged, and what was flagged before still is
+pub record Flagging (ids : List (Option Id)) (before flags : List Bool) (k : ℕ) : Type 0 where
   pub long : length flags ≡ 8192
-  pub all : (i : ℕ) → i < k → get_or flags (get_or codes i 0 % 8192) false ≡ true
+  pub all : (i : ℕ) (id : Id) → i < k → get_or ids i None ≡ Some id → flag_of flags id ≡ true
   pub still : (i : ℕ) → get_or before i false ≡ true → get_or flags i false ≡ true
 
-module _ (codes : List ℕ) (before : List Bool) where
-  pub flagging_none : length before ≡ 8192 → Flagging codes before before 0
-  flagging_none e = record { within = omega arith; long = e; all = λ i h. absurd (omega (arith, h)); still = λ i h. h }
+module _ (ids : List (Option Id)) (before : List Bool) where
+  pub flagging_none : length before ≡ 8192 → Flagging ids before before 0
+  flagging_none e = record { long = e; all = λ i id h. absurd (omega (arith, h)); still = λ i h. h }
 
-  pub flagging_more : (flags : List Bool) (k : ℕ) → k < length codes → Flagging codes before flags k
-      → Flagging codes before (set flags (get_or codes k 0 % 8192) true) (k + 1)
-  flagging_more flags k h v =
-      let at = get_or codes k 0 % 8192 in
+  -- the next id, where there is one
+  pub flagging_some : (flags : List Bool) (k : ℕ) (id : Id) → get_or ids k None ≡ Some id → Flagging ids before flags k
+      → Flagging ids before (set flags (bits32 id % 8192) true) (k + 1)
+  unfolding flag_of
+  flagging_some flags k id e v =
+      let at = bits32 id % 8192 in
       let new : get_or (set flags at true) at false ≡ true = get_or-set_same flags at true false (omega (arith, v.long)) in
       record {
-        within = omega arith;
         long = simp length-set v.long;
-        all = λ i q.
+        all = λ i z q s.
             ⊎_elim
-            (λ (e : i ≡ k). ap (λ (j : ℕ). get_or (set flags at true) (get_or codes j 0 % 8192) false) e ∙ new)
-            (λ (l : i < k). set_keeps flags at (get_or codes i 0 % 8192) (v.all i l))
+            (λ (t : i ≡ k).
+            let o : Some z ≡ Some id = sym s ∙ ap (λ (j : ℕ). get_or ids j None) t ∙ e in
+            let p : z ≡ id = cc in
+            ap (λ (y : Id). get_or (set flags at true) (bits32 y % 8192) false) p ∙ new)
+            (λ (l : i < k). set_keeps flags at (bits32 z % 8192) (v.all i z l s))
             (eq-or-lt_of_le (omega (arith, q)));
         still = λ i q. set_keeps flags at i (v.still i q);
       }
 
-  pub flagging_all : (flags : List Bool) (k : ℕ) → length codes ≤ k → Flagging codes before flags k
-      → (length flags ≡ 8192) × Flagged codes flags × OnlyAdded before flags
-  flagging_all flags k h v = (v.long, record { all = λ i q. v.all i (omega (arith, q, h)) }, record { still = v.still })
+  -- where there is none
+  pub flagging_skip : (flags : List Bool) (k : ℕ) → get_or ids k None ≡ None → Flagging ids before flags k → Flagging ids before flags (k + 1)
+  flagging_skip flags k e v =
+      record {
+        long = v.long;
+        all = λ i z q s.
+            ⊎_elim
+            (λ (t : i ≡ k).
+            let o : None ≡ Some z = sym e ∙ ap (λ (j : ℕ). get_or ids j None) (sym t) ∙ s in
+            cc)
+            (λ (l : i < k). v.all i z l s)
+            (eq-or-lt_of_le (omega (arith, q)));
+        still = v.still;
+      }
 
-pub flagged-still : (codes : List ℕ) (before after : List Bool) → Flagged codes before → OnlyAdded before after → Flagged codes after
-flagged-still codes before after f k = record { all = λ i h. k.still (get_or codes i 0 % 8192) (f.all i h) }
+  pub flagging_all : (flags : List Bool) (k : ℕ) → length ids ≤ k → Flagging ids before flags k
+      → (length flags ≡ 8192) × Flagged ids flags × OnlyAdded before flags
+  flagging_all flags k h v = (v.long, record { all = λ i id q. v.all i id (omega (arith, q, h)) }, record { still = v.still })
 
--- ---- the flag of an id
+pub flagged-still : (ids : List (Option Id)) (before after : List Bool) → Flagged ids before → OnlyAdded before after → Flagged ids after
+unfolding flag_of
+flagged-still ids before after f k = record { all = λ i id h e. k.still (bits32 id % 8192) (f.all i id h e) }
+
 bits_signed : (n : ℕ) → n < 2 ^ 32 → bits32 (signed32 n) ≡ n
 unfolding signed32 bits32
 bits_signed n h = go (ltb n (2 ^ 31))
@@ -110,25 +126,17 @@ module _ (flags : List Bool) where
       rw s (no_attribute a h l (or_right (flag_of flags x.id) rest e))
 
   module _ (r : Result) (e : any_flagged flags r ≡ false) where
-    no_value : (a : Id) → flag_of flags a ≡ true → value r a ≡ None
-    unfolding value any_flagged given
-    no_value a h = rw (no_attribute a h r.attributes e)
+    nothing-under : (known : Option Id) → ((id : Id) → known ≡ Some id → flag_of flags id ≡ true) → listed_under r known ≡ None
+    unfolding listed_under value any_flagged given
+    nothing-under None f = refl
+    nothing-under (Some id) f = rw (no_attribute id (f id refl) r.attributes e)
 
-    nothing-under : (code : ℕ) → get_or flags (code % 8192) false ≡ true → listed_under r (id_in code) ≡ []
-    unfolding listed_under ◌>>=◌
-    nothing-under code h = go (ltb code (2 ^ 32)) refl
-      where
-        go : (t : Bool) → ltb code (2 ^ 32) ≡ t → listed_under r (id_in code) ≡ []
-        go true l =
-            let q = ltb-true code (2 ^ 32) l in
-            rw (code_some code q, no_value (signed32 code) (sym (flag_signed flags code q) ∙ h))
-        go false l = rw (code_none code (ltb-false code (2 ^ 32) l))
-
-    nothing-each : (codes : List ℕ) → ((k : ℕ) → k < length codes → get_or flags (get_or codes k 0 % 8192) false ≡ true) → listed_in r codes ≡ []
-    unfolding each
+    nothing-each : (ids : List (Option Id)) → ((k : ℕ) (id : Id) → k < length ids → get_or ids k None ≡ Some id → flag_of flags id ≡ true)
+        → listed_in r ids ≡ []
+    unfolding each ◌>>=◌
     nothing-each [] f = refl
-    nothing-each (code ∷ codes) f =
-        ap₂ (λ (l m : List Id). l ++ m) (nothing-under code (f 0 (omega arith))) (nothing-each codes (λ k h. f (suc k) (omega (arith, h))))
+    nothing-each (known ∷ ids) f =
+        rw (nothing-under known (λ id. f 0 id (omega arith))) (nothing-each ids (λ k id h. f (suc k) id (omega (arith, h))))
 
-    pub nothing-listed : (codes : List ℕ) → Flagged codes flags → listed_in r codes ≡ []
-    nothing-listed codes f = nothing-each codes f.all
+    pub nothing-listed : (ids : List (Option Id)) → Flagged ids flags → listed_in r ids ≡ []
+    nothing-listed ids f = nothing-each ids f.all

@@ -1,81 +1,106 @@
--- What an item lists, id by id, and the two tests of it.
-use Prim.Native.Nat.{ℕ, ◌+◌, ◌<◌, ◌≤◌}
+-- What an item lists, id by id.
+use Prim.Native.Nat.{ℕ, zero, suc, ◌+◌, ◌<◌, ◌≤◌}
+use native.Mathlib.Nat.{not-suc-le-zero, le_of_suc-le-suc}
 use native.Mathlib.Numerals.{add-one}
-use mathlib.Core.Path.{◌≡◌, refl, sym, ap, ap₂, subst, ◌∙◌}
-use mathlib.Core.Bool.{Bool, true, false, not, ◌&&◌, ◌||◌}
-use mathlib.Core.List.{List, [], ◌∷◌, ◌++◌, map}
+use mathlib.Core.Path.{◌≡◌, refl, sym, ap, ap₂, ◌∙◌}
+use mathlib.Core.Bool.{Bool, true, false, ◌&&◌, ◌||◌, cond}
+use mathlib.Core.List.{List, [], ◌∷◌, ◌++◌, map, append-nil}
 use Rattle.std.specs.Prelude.{Option, None, Some}
 use lib.ListN.{length, get_or, take}
 use lib.Seq.{take_all}
 use lib.Ieee.{Float}
-use Rattle.words.specs.Words.{◌>>=◌, each, is_empty, any_of, same, contains}
+use Rattle.words.specs.Words.{◌>>=◌, each, is_empty, any_of, same, contains, given}
 use Rattle.words.proofs.Steps.{each_step}
+use Rattle.words.proofs.Sames.{same_refl}
 use Rattle.floats.specs.Floats.{to_i32}
 use Rattle.catalogue.specs.Catalogue.{Id}
 use Rattle.catalogue.specs.Lookups.{name_id}
 use Rattle.fit.specs.Fit.{Result}
 use Rattle.fit.specs.Lookups.{value}
-use Rattle.item.specs.declared.Listing.{Listing}
 use Rattle.context.specs.Context.{Pair, Context}
+use Rattle.item.specs.declared.Listing.{Listing}
+use Rattle.item.specs.declared.Listing.TheVariants.{Nothing, Others, Ship}
 use Rattle.item.specs.Item.{listed}
-use Rattle.item.specs.Ids.{id_in, IdsOf, listed_under, listed_in, ListingOf}
-
-or_false : (b : Bool) → b ≡ b || false
-or_false true = refl
-or_false false = refl
+use Rattle.item.specs.Ids.{IdsOf, listed_under, listed_in, listing}
 
 or_assoc : (a b c : Bool) → (a || b) || c ≡ a || (b || c)
 or_assoc true b c = refl
 or_assoc false b c = refl
 
--- ---- under one id
+or_true : (a : Bool) → a || true ≡ true
+or_true true = refl
+or_true false = refl
+
+-- ---- the list under some ids
+contains-append : (id : Id) (l m : List Id) → contains id (l ++ m) ≡ contains id l || contains id m
+unfolding contains any_of
+contains-append id [] m = refl
+contains-append id (x ∷ l) m =
+    ap (λ (b : Bool). same id x || b) (contains-append id l m) ∙ sym (or_assoc (same id x) (any_of (same id) l) (any_of (same id) m))
+
+empty_append : (l m : List Id) → is_empty (l ++ m) ≡ is_empty l && is_empty m
+unfolding is_empty
+empty_append [] m = refl
+empty_append (x ∷ l) m = refl
+
 module _ (id : Id) (r : Result) where
-  pub under-unknown : (o : Option Id) → o ≡ None → ListingOf id (listed_under r o) (record { any = false; has = false })
-  unfolding listed_under ◌>>=◌ is_empty contains any_of
-  under-unknown o e = rw e (record { any = refl; has = refl })
+  -- one id that is the one sought
+  pub contains-at : (ids : List (Option Id)) (k : ℕ) → k < length ids → contains id (◌>>=◌ (listed_under r (get_or ids k None)) (λ x. x ∷ [])) ≡ true
+      → contains id (listed_in r ids) ≡ true
+  unfolding each
+  contains-at [] k h e = absurd (not-suc-le-zero h)
+  contains-at (known ∷ ids) zero h e = contains-append id _ (listed_in r ids) ∙ rw e
+  contains-at (known ∷ ids) (suc k) h e =
+      let there = ◌>>=◌ (listed_under r known) (λ x. x ∷ []) in
+      contains-append id there (listed_in r ids) ∙ rw (contains-at ids k (le_of_suc-le-suc h) e) (or_true (contains id there))
 
-  pub under-missing : (o : Option Id) (a : Id) → o ≡ Some a → value r a ≡ None → ListingOf id (listed_under r o) (record { any = false; has = false })
-  unfolding listed_under ◌>>=◌ is_empty contains any_of
-  under-missing o a e q = rw (e, q) (record { any = refl; has = refl })
+  -- the first k ids name no ship, or others
+  pub record Listed (ids : List (Option Id)) (k : ℕ) (found : Listing) : Type 0 where
+    pub no_ship : contains id (listed_in r (take k ids)) ≡ false
+    pub others : found ≡ cond (is_empty (listed_in r (take k ids))) Nothing Others
 
-  pub under-given : (o : Option Id) (a : Id) (v : Float) (h : Bool) → o ≡ Some a → value r a ≡ Some v → h ≡ same id (to_i32 v)
-      → ListingOf id (listed_under r o) (record { any = true; has = h })
-  unfolding listed_under ◌>>=◌ is_empty contains any_of
-  under-given o a v h e q p = rw (e, q) (record { any = refl; has = p ∙ or_false (same id (to_i32 v)) })
+  pub listed_none : (ids : List (Option Id)) → Listed ids 0 Nothing
+  unfolding each contains any_of is_empty
+  listed_none ids = record { no_ship = refl; others = refl }
 
--- ---- one list after another
-module _ (id : Id) where
-  pub listing_none : ListingOf id [] (record { any = false; has = false })
-  unfolding is_empty contains any_of
-  listing_none = record { any = refl; has = refl }
+  module _ (ids : List (Option Id)) (k : ℕ) (h : k < length ids) (found : Listing) (v : Listed ids k found) where
+    abbrev f : Option Id → List Id
+    f known = ◌>>=◌ (listed_under r known) (λ x. x ∷ [])
 
-  any_append : (l m : List Id) → not (is_empty (l ++ m)) ≡ not (is_empty l) || not (is_empty m)
-  unfolding is_empty
-  any_append [] m = refl
-  any_append (x ∷ l) m = refl
+    -- under the next id is nothing
+    pub listed_nothing : listed_under r (get_or ids k None) ≡ None → Listed ids (k + 1) found
+    unfolding ◌>>=◌
+    listed_nothing e =
+        let m : listed_in r (take (k + 1) ids) ≡ listed_in r (take k ids) = rw add-one (each_step f ids k None h ∙ rw e (append-nil _)) in
+        record { no_ship = ap (contains id) m ∙ v.no_ship; others = v.others ∙ ap (λ (l : List Id). cond (is_empty l) Nothing Others) (sym m) }
 
-  has-append : (l m : List Id) → contains id (l ++ m) ≡ contains id l || contains id m
-  unfolding contains any_of
-  has-append [] m = refl
-  has-append (x ∷ l) m = ap (λ (b : Bool). same id x || b) (has-append l m) ∙ sym (or_assoc (same id x) (any_of (same id) l) (any_of (same id) m))
+    -- or another
+    pub listed_other : (other : Id) → listed_under r (get_or ids k None) ≡ Some other → same id other ≡ false → Listed ids (k + 1) Others
+    unfolding ◌>>=◌ contains any_of is_empty
+    listed_other other e q =
+        let l = listed_in r (take k ids) in
+        let m : listed_in r (take (k + 1) ids) ≡ l ++ (other ∷ []) = rw add-one (each_step f ids k None h ∙ rw e) in
+        record {
+          no_ship = ap (contains id) m ∙ contains-append id l (other ∷ []) ∙ rw (v.no_ship, q);
+          others = sym (ap (λ (l : List Id). cond (is_empty l) Nothing Others) m ∙ rw (empty_append l (other ∷ [])) (go (is_empty l)));
+        }
+      where
+        go : (b : Bool) → ◌≡◌ {A = Listing} (cond (b && false) Nothing Others) Others
+        go true = refl
+        go false = refl
 
-  pub listing-append : (l m : List Id) (x y : Listing) (a h : Bool) → ListingOf id l x → ListingOf id m y → a ≡ x.any || y.any
-      → h ≡ x.has || y.has → ListingOf id (l ++ m) (record { any = a; has = h })
-  listing-append l m x y a h p q e g = record {
-    any = e ∙ ap₂ ◌||◌ p.any q.any ∙ sym (any_append l m);
-    has = g ∙ ap₂ ◌||◌ p.has q.has ∙ sym (has-append l m);
-  }
+  -- all ids
+  pub listed_all : (ids : List (Option Id)) (k : ℕ) (found : Listing) → length ids ≤ k → Listed ids k found → found ≡ listing id (listed_in r ids)
+  unfolding listing
+  listed_all ids k found h v =
+      let m = take_all k ids h in
+      let s : contains id (listed_in r ids) ≡ false = rw m at v.no_ship in
+      rw s (rw m at v.others)
 
--- ---- a loop over the ids
-module _ (id : Id) (f : ℕ → List Id) (codes : List ℕ) where
-  pub listing-more : (k : ℕ) (x y : Listing) (a h : Bool) → k < length codes → ListingOf id (each (take k codes) f) x
-      → ListingOf id (f (get_or codes k 0)) y → a ≡ x.any || y.any → h ≡ x.has || y.has
-      → ListingOf id (each (take (k + 1) codes) f) (record { any = a; has = h })
-  listing-more k x y a h q v w e g =
-      rw (add-one k, each_step f codes k 0 q) (listing-append id (each (take k codes) f) (f (get_or codes k 0)) x y a h v w e g)
-
-  pub listing-all : (k : ℕ) (x : Listing) → length codes ≤ k → ListingOf id (each (take k codes) f) x → ListingOf id (each codes f) x
-  listing-all k x h v = rw (take_all k codes h) at v
+  -- the ship is under one of them
+  pub listed_ship : (ids : List (Option Id)) (k : ℕ) → k < length ids → listed_under r (get_or ids k None) ≡ Some id → Ship ≡ listing id (listed_in r ids)
+  unfolding listing ◌>>=◌ contains any_of
+  listed_ship ids k h e = rw (contains-at ids k h (rw (e, same_refl id)))
 
 -- ---- the ids of a table's names
 each_map : {A B C : Type 0} (f : A → B) (g : B → List C) (l : List A) → each (map f l) g ≡ each l (λ x. g (f x))
@@ -83,27 +108,25 @@ unfolding each
 each_map f g [] = refl
 each_map {A} {B} {C} f g (x ∷ l) = ap (λ (r : List C). g (f x) ++ r) (each_map f g l)
 
-pub listed-codes : (x : Context) (p : Pair) (rows codes : List ℕ) → IdsOf x.names rows codes → listed_in p.result codes ≡ listed x p rows
-unfolding listed listed_under
-listed-codes x p rows codes e =
-    sym (each_map id_in (listed_under p.result) codes) ∙ ap (λ (l : List (Option Id)). each l (listed_under p.result)) e
-    ∙ each_map (name_id x.names) (listed_under p.result) rows
+-- under a name, as under its id
+abbrev by_name : (x : Context) (p : Pair) → Option Id → List Id
+by_name x p known = ◌>>=◌ known (λ id. ◌>>=◌ (value p.result id) (λ v. to_i32 v ∷ []))
 
-pub listing-of : (x : Context) (p : Pair) (rows codes : List ℕ) (id id' : Id) (r : Listing) → IdsOf x.names rows codes → id ≡ id'
-    → ListingOf id (listed_in p.result codes) r → ListingOf id' (listed x p rows) r
-listing-of x p rows codes id id' r e q v =
-    subst (λ (l : List Id). ListingOf id' l r) (listed-codes x p rows codes e) (subst (λ (z : Id). ListingOf z (listed_in p.result codes) r) q v)
+under_is : (x : Context) (p : Pair) (known : Option Id) → ◌>>=◌ (listed_under p.result known) (λ id. id ∷ []) ≡ by_name x p known
+unfolding listed_under ◌>>=◌ given
+under_is x p None = refl
+under_is x p (Some id) = go (value p.result id)
+  where
+    go : (o : Option Float) → ◌>>=◌ (given o None (λ v. Some (to_i32 v))) (λ i. i ∷ []) ≡ ◌>>=◌ o (λ v. to_i32 v ∷ [])
+    go None = refl
+    go (Some v) = refl
 
--- ---- neither by type nor by group
-pub restricted_type : (x g : Bool) → false ≡ x && false && g
-restricted_type true g = refl
-restricted_type false g = refl
+each_same : {A B : Type 0} (f g : A → List B) → ((x : A) → f x ≡ g x) → (l : List A) → each l f ≡ each l g
+unfolding each
+each_same f g h [] = refl
+each_same {A} {B} f g h (x ∷ l) = ap₂ (λ (a b : List B). a ++ b) (h x) (each_same f g h l)
 
-pub restricted_group : (x : Bool) → false ≡ x && true && false
-restricted_group true = refl
-restricted_group false = refl
-
-pub restricted_any : (a b : Bool) → a || b ≡ not (not a && not b) && true && true
-restricted_any true b = refl
-restricted_any false true = refl
-restricted_any false false = refl
+pub listed-ids : (x : Context) (p : Pair) (rows : List ℕ) (ids : List (Option Id)) → IdsOf x.names rows ids → listed_in p.result ids ≡ listed x p rows
+unfolding listed
+listed-ids x p rows ids e =
+    each_same (λ known. ◌>>=◌ (listed_under p.result known) (λ id. id ∷ [])) (by_name x p) (under_is x p) ids ∙ ap (λ (l : List (Option Id)). each l (by_name x p)) e ∙ each_map (name_id x.names) (by_name x p) rows

@@ -1,13 +1,13 @@
 -- From the tests and values that the code finds to what a rule says of a pair.
-use Prim.Native.Nat.{ℕ, ◌≤◌}
-use mathlib.Core.Path.{◌≡◌, refl, ap, ◌∙◌}
+use Prim.Native.Nat.{ℕ, ◌+◌, ◌<◌}
+use native.Mathlib.Omega.{arith}
+use mathlib.Core.Path.{◌≡◌, refl, ◌∙◌}
 use mathlib.Core.Bool.{Bool, true, false, not, ◌&&◌, ◌||◌, cond}
-use mathlib.Core.List.{List, []}
-use Rattle.std.specs.Prelude.{None, Some}
-use lib.ListN.{length}
-use lib.Ieee.{Float, ne}
-use Rattle.words.specs.Words.{each, when, is_empty, contains}
-use Rattle.words.proofs.Lengths.{few-when, few-bind}
+use mathlib.Core.List.{List, [], ◌∷◌}
+use Rattle.std.specs.Prelude.{Option, None, Some}
+use Rattle.std.specs.Bool.{then_some}
+use lib.Ieee.{Float, ne, lt}
+use Rattle.words.specs.Words.{◌>>=◌, each, when, is_empty, contains}
 use Rattle.numbers.specs.Names as Names
 use Rattle.numbers.specs.Slots as Slots
 use Rattle.floats.specs.Floats.{zero_f, to_u}
@@ -15,30 +15,43 @@ use Rattle.catalogue.specs.Catalogue.{Id}
 use Rattle.catalogue.specs.Lookups.{name_id}
 use Rattle.fit.specs.Lookups.{value, amount}
 use Rattle.entry.specs.declared.Entry.{Entry}
+use Rattle.entry.specs.declared.Rule.{Rule}
 use Rattle.entry.specs.declared.Rule.TheVariants.{RigSize, ShipRestricted, CapitalItem, StructureItem, ShipItem}
 use Rattle.entry.specs.Wrote.{Wrote}
-use Rattle.entry.proofs.Wrote.{wrote-same, wrote-unless, wrote-past, wrote-return, wrote-bind, wrote-bind_none}
+use Rattle.entry.proofs.Wrote.{wrote_none, wrote-same, wrote-table_next, wrote-past, wrote-return, wrote-bind, wrote-bind_none}
 use Rattle.context.specs.Context.{Pair, Context, is_fitted, is_in, is_on_hull, on}
 use Rattle.item.specs.declared.Listing.{Listing}
-use Rattle.item.specs.Item.{ship_types, ship_groups, listed, is_restricted, is_structure, is_capital_item, is_standup}
-use Rattle.item.specs.Item.{rig_size_at, rig_size, ship_restricted_at, ship_restricted, capital_item_at, capital_item, standup_at, standup}
-use Rattle.item.specs.Ids.{ListingOf}
+use Rattle.item.specs.declared.Listing.TheVariants.{Nothing, Others, Ship}
+use Rattle.item.specs.Item.{ship_types, ship_groups, listed, is_structure, is_capital_item, is_standup, is_restricted, capital_volume}
+use Rattle.item.specs.Item.{rig_size_at, rig_size, ship_restricted_at, capital_item_at, capital_item, standup_at}
+use Rattle.context.specs.Gathered.{pair_count, pair_at}
+use Rattle.context.proofs.Loops.{Passed}
+use Rattle.item.specs.Ids.{said, listing, lists_others}
+
+-- an entry where a test holds
+pub said-then : (p : Pair) (b : Bool) (r : Rule) → said p (then_some b r) ≡ when b (on p r)
+unfolding said when
+said-then p true r = refl
+said-then p false r = refl
 
 -- ---- rig sizes
 module _ (id : Id) (ship : Float) (p : Pair) where
-  pub rig-none : {b : List ℕ} {n : ℕ} → value p.result id ≡ None → Wrote b n b n (rig_size_at id ship p)
-  unfolding rig_size_at
-  rig-none e = wrote-bind_none _ e
+  pub rig-none : value p.result id ≡ None → said p None ≡ rig_size_at id ship p
+  unfolding said rig_size_at ◌>>=◌
+  rig-none e = rw e
 
-  pub rig-some : {b a : List ℕ} {n k : ℕ} {size : Float} {t : Bool} {x y : ℕ} → value p.result id ≡ Some size
-      → t ≡ is_in Slots.rig p && ne size ship → x ≡ to_u 8 ship → y ≡ to_u 8 size
-      → Wrote b n a k (when t (on p (RigSize x y))) → Wrote b n a k (rig_size_at id ship p)
-  unfolding rig_size_at
-  rig-some e t x y w = wrote-bind _ e (rw (t, x, y) at w)
+  pub rig-elsewhere : is_in Slots.rig p ≡ false → said p None ≡ rig_size_at id ship p
+  unfolding said rig_size_at ◌>>=◌ when
+  rig-elsewhere e = rw e (go (value p.result id))
+    where
+      go : (o : Option Float) → ◌≡◌ {A = List Entry} [] (◌>>=◌ o (λ size. []))
+      go None = refl
+      go (Some size) = refl
 
-  pub rig-few : length (rig_size_at id ship p) ≤ 1
-  unfolding rig_size_at
-  rig-few = few-bind _ 1 (λ size. few-when (is_in Slots.rig p && ne size ship) (on p (RigSize (to_u 8 ship) (to_u 8 size)))) (value p.result id)
+  pub rig-some : {size : Float} {x y : ℕ} → is_in Slots.rig p ≡ true → value p.result id ≡ Some size → x ≡ to_u 8 ship → y ≡ to_u 8 size
+      → said p (then_some (ne size ship) (RigSize x y)) ≡ rig_size_at id ship p
+  unfolding rig_size_at ◌>>=◌
+  rig-some {size} {x} {y} r e g h = said-then p (ne size ship) (RigSize x y) ∙ rw (e, r, g, h)
 
 module _ (x : Context) (ps : List Pair) where
   pub rig-no_name : {b : List ℕ} {n : ℕ} → name_id x.names Names.rig_size ≡ None → Wrote b n b n (rig_size x ps)
@@ -56,21 +69,10 @@ module _ (x : Context) (ps : List Pair) where
   rig-each id ship e q w = wrote-bind _ e (wrote-bind _ q w)
 
 -- ---- restricted items
-not-not : (b : Bool) → not (not b) ≡ b
-not-not true = refl
-not-not false = refl
-
 module _ (x : Context) (p : Pair) where
   pub restricted_unfitted : is_fitted p ≡ false → false ≡ is_restricted x p
   unfolding is_restricted
   restricted_unfitted e = rw e
-
-  pub restricted_fitted : (u v : Listing) (t : Bool) → is_fitted p ≡ true → ListingOf x.ship (listed x p ship_types) u
-      → ListingOf x.group (listed x p ship_groups) v → t ≡ not (not u.any && not v.any) && not u.has && not v.has
-      → t ≡ is_restricted x p
-  unfolding is_restricted
-  restricted_fitted u v t e h g q =
-      q ∙ rw (e, h.any, g.any, h.has, g.has, not-not (is_empty (listed x p ship_types)), not-not (is_empty (listed x p ship_groups)))
 
   pub restricted_unlisted : listed x p ship_types ≡ [] → listed x p ship_groups ≡ [] → false ≡ is_restricted x p
   unfolding is_restricted is_empty
@@ -80,30 +82,54 @@ module _ (x : Context) (p : Pair) where
       go true u v = refl
       go false u v = refl
 
-  pub restricted_test : {b a : List ℕ} {n k : ℕ} {t : Bool} → t ≡ is_restricted x p → Wrote b n a k (when t (on p ShipRestricted))
-      → Wrote b n a k (ship_restricted_at x p)
-  unfolding ship_restricted_at
-  restricted_test e w = wrote-same (ap (λ (c : Bool). when c (on p ShipRestricted)) e) w
+  pub restricted_fitted : {u v : Listing} → is_fitted p ≡ true → u ≡ listing x.ship (listed x p ship_types) → v ≡ listing x.group (listed x p ship_groups)
+      → lists_others u v ≡ is_restricted x p
+  unfolding is_restricted listing
+  restricted_fitted e h g =
+      rw (e, h, g) (go (contains x.ship (listed x p ship_types)) (is_empty (listed x p ship_types)) (contains x.group (listed x p ship_groups)) (is_empty (listed x p ship_groups)))
+    where
+      go : (a b c d : Bool) → lists_others (cond a Ship (cond b Nothing Others)) (cond c Ship (cond d Nothing Others)) ≡ not (b && d) && not a && not c
+      go true true true true = refl
+      go true true true false = refl
+      go true true false true = refl
+      go true true false false = refl
+      go true false true d = refl
+      go true false false true = refl
+      go true false false false = refl
+      go false true true true = refl
+      go false true true false = refl
+      go false true false true = refl
+      go false true false false = refl
+      go false false true d = refl
+      go false false false true = refl
+      go false false false false = refl
 
-  pub restricted_few : length (ship_restricted_at x p) ≤ 1
-  unfolding ship_restricted_at
-  restricted_few = few-when (is_restricted x p) (on p ShipRestricted)
-
-module _ (x : Context) (ps : List Pair) where
-  pub restricted_each : {b a : List ℕ} {n k : ℕ} → Wrote b n a k (each ps (ship_restricted_at x)) → Wrote b n a k (ship_restricted x ps)
-  unfolding ship_restricted
-  restricted_each w = w
+pub said-restricted : (x : Context) (p : Pair) → said p (then_some (is_restricted x p) ShipRestricted) ≡ ship_restricted_at x p
+unfolding ship_restricted_at
+said-restricted x p = said-then p (is_restricted x p) ShipRestricted
 
 -- ---- capital items
 module _ (volume : Id) (p : Pair) where
-  pub capital_test : {b a : List ℕ} {n k : ℕ} {t : Bool} → t ≡ is_capital_item volume p → Wrote b n a k (when t (on p CapitalItem))
-      → Wrote b n a k (capital_item_at volume p)
-  unfolding capital_item_at
-  capital_test e w = wrote-same (ap (λ (c : Bool). when c (on p CapitalItem)) e) w
+  pub capital-more : {t : Bool} → is_fitted p && not (is_in Slots.rig p) ≡ true → t ≡ lt capital_volume (amount p.result volume)
+      → t ≡ is_capital_item volume p
+  unfolding is_capital_item
+  capital-more {t} e q = q ∙ go (is_fitted p) (not (is_in Slots.rig p)) (lt capital_volume (amount p.result volume)) e
+    where
+      go : (a b c : Bool) → a && b ≡ true → c ≡ a && b && c
+      go true b c e = rw e
+      go false b c e = cc
 
-  pub capital_few : length (capital_item_at volume p) ≤ 1
+  pub capital-less : is_fitted p && not (is_in Slots.rig p) ≡ false → false ≡ is_capital_item volume p
+  unfolding is_capital_item
+  capital-less e = go (is_fitted p) (not (is_in Slots.rig p)) (lt capital_volume (amount p.result volume)) e
+    where
+      go : (a b c : Bool) → a && b ≡ false → false ≡ a && b && c
+      go true b c e = rw e
+      go false b c e = refl
+
+  pub said-capital : said p (then_some (is_capital_item volume p) CapitalItem) ≡ capital_item_at volume p
   unfolding capital_item_at
-  capital_few = few-when (is_capital_item volume p) (on p CapitalItem)
+  said-capital = said-then p (is_capital_item volume p) CapitalItem
 
 module _ (x : Context) (ps : List Pair) where
   pub capital_no_volume : {b : List ℕ} {n : ℕ} → name_id x.names Names.volume ≡ None → Wrote b n b n (capital_item x ps)
@@ -130,35 +156,37 @@ module _ (x : Context) (ps : List Pair) where
 
 -- ---- items of structures and of ships
 module _ (x : Context) (p : Pair) where
-  pub standup-off : {b : List ℕ} {n : ℕ} → is_on_hull p ≡ false → Wrote b n b n (standup_at x p)
-  unfolding standup_at
-  standup-off {b} {n} e = rw e (go (is_structure x))
+  pub standup-off : is_on_hull p ≡ false → said p None ≡ standup_at x p
+  unfolding said standup_at when
+  standup-off e = rw e (go (is_structure x))
     where
-      go : (t : Bool) → Wrote b n b n (cond t (when false (on p ShipItem)) (when false (on p StructureItem)))
-      go true = wrote-unless (on p ShipItem) refl
-      go false = wrote-unless (on p StructureItem) refl
+      go : (t : Bool) → ◌≡◌ {A = List Entry} [] (cond t [] [])
+      go true = refl
+      go false = refl
 
-  pub standup-ship_item : {b a : List ℕ} {n k : ℕ} {t : Bool} → is_on_hull p ≡ true → is_structure x ≡ true → t ≡ is_standup x p
-      → Wrote b n a k (when (not t) (on p ShipItem)) → Wrote b n a k (standup_at x p)
+  pub standup-on : is_on_hull p ≡ true → (s t : Bool) → s ≡ is_structure x → t ≡ is_standup x p
+      → cond s (when (not t) (on p ShipItem)) (when t (on p StructureItem)) ≡ standup_at x p
   unfolding standup_at
-  standup-ship_item e q h w = rw (e, q) (rw h at w)
+  standup-on e s t q h = rw (e, q, h)
 
-  pub standup-structure_item : {b a : List ℕ} {n k : ℕ} {t : Bool} → is_on_hull p ≡ true → is_structure x ≡ false → t ≡ is_standup x p
-      → Wrote b n a k (when t (on p StructureItem)) → Wrote b n a k (standup_at x p)
-  unfolding standup_at
-  standup-structure_item e q h w = rw (e, q) (rw h at w)
+-- ---- a loop over the pairs
+module _ (catalogue fit : List ℕ) (rule : Pair → List Entry) {b a : List ℕ} {n k i : ℕ} (h : i < pair_count fit) where
+  -- one pair more, with an entry about it
+  pub passed_entry : {r : Rule} {a' : List ℕ} {k' : ℕ} → said (pair_at catalogue fit i) (Some r) ≡ rule (pair_at catalogue fit i)
+      → Wrote a k a' k' (on (pair_at catalogue fit i) r ∷ []) → Passed catalogue fit rule b n a k i → Passed catalogue fit rule b n a' k' (i + 1)
+  unfolding said
+  passed_entry e w v = record {
+    within = omega arith;
+    few = omega (arith, v.few, w.count);
+    wrote = wrote-table_next rule (pair_at catalogue fit) i v.wrote (wrote-same e w);
+  }
 
-  few-either : (b : Bool) (l m : List Entry) → length l ≤ 1 → length m ≤ 1 → length (cond b l m) ≤ 1
-  few-either true l m h q = h
-  few-either false l m h q = q
-
-  pub standup-few : length (standup_at x p) ≤ 1
-  unfolding standup_at
-  standup-few =
-      few-either (is_structure x) _ _ (few-when (is_on_hull p && not (is_standup x p)) (on p ShipItem))
-      (few-when (is_on_hull p && is_standup x p) (on p StructureItem))
-
-module _ (x : Context) (ps : List Pair) where
-  pub standup-each : {b a : List ℕ} {n k : ℕ} → Wrote b n a k (each ps (standup_at x)) → Wrote b n a k (standup x ps)
-  unfolding standup
-  standup-each w = w
+  -- and with none
+  pub passed_silent : said (pair_at catalogue fit i) None ≡ rule (pair_at catalogue fit i) → Passed catalogue fit rule b n a k i
+      → Passed catalogue fit rule b n a k (i + 1)
+  unfolding said
+  passed_silent e v = record {
+    within = omega arith;
+    few = omega (arith, v.few);
+    wrote = wrote-table_next rule (pair_at catalogue fit) i v.wrote (wrote-same e (wrote_none a k));
+  }

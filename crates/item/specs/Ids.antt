@@ -1,44 +1,58 @@
--- Ids looked up once per rule, each kept in a number, and what a result has under them.
-use Rattle.std.specs.Prelude.{ℕ, ◌^◌, ◌≡◌, Bool, false, not, cond, List, [], ◌∷◌, map, ltb}
+-- Ids looked up once per rule, and what a result has under them.
+use Rattle.std.specs.Prelude.{ℕ, ◌≡◌, Bool, true, false, cond, List, [], ◌∷◌, map}
 use Rattle.std.specs.Prelude.{Option, None, Some}
 use Rattle.std.specs.Float.Ieee.{ne}
-use Rattle.words.specs.Words.{◌>>=◌, each, any_of, is_empty, given, contains}
-use Rattle.image.specs.Bytes.{signed32}
+use Rattle.std.specs.List.{list_any}
+use Rattle.words.specs.Words.{◌>>=◌, each, is_empty, given, contains}
 use Rattle.floats.specs.Floats.{zero_f, to_i32}
 use Rattle.catalogue.specs.Catalogue.{Id, Name}
 use Rattle.catalogue.specs.Lookups.{name_id}
 use Rattle.fit.specs.Fit.{Result}
 use Rattle.fit.specs.Lookups.{value, amount}
+use Rattle.entry.specs.declared.Entry.{Entry}
+use Rattle.entry.specs.declared.Rule.{Rule}
+use Rattle.context.specs.Context.{Pair, on}
 use Rattle.item.specs.declared.Listing.{Listing}
+use Rattle.item.specs.declared.Listing.TheVariants.{Nothing, Others, Ship}
 
--- the id in a number: 2 ^ 32 and above stand for none
-unfoldable pub id_in : ℕ → Option Id
-id_in code = cond (ltb code (2 ^ 32)) (Some (signed32 code)) None
+-- the entry about a pair that breaks a rule
+unfoldable pub said : Pair → Option Rule → List Entry
+said p None = []
+said p (Some r) = on p r ∷ []
 
--- codes hold the ids of the names in the rows of a table
-abbrev pub IdsOf : List Name → List ℕ → List ℕ → Type 0
-IdsOf names rows codes = map id_in codes ≡ map (name_id names) rows
+-- the ids of the names in the rows of a table
+abbrev pub IdsOf : List Name → List ℕ → List (Option Id) → Type 0
+IdsOf names rows ids = ids ≡ map (name_id names) rows
 
 -- what a result lists under an id
-unfoldable pub listed_under : Result → Option Id → List Id
-listed_under r known = do
-  id ← known
-  v ← value r id
-  to_i32 v ∷ []
+unfoldable pub listed_under : Result → Option Id → Option Id
+listed_under r None = None
+listed_under r (Some id) = given (value r id) None (λ v. Some (to_i32 v))
 
--- what a result lists under some ids, each in a number
-abbrev pub listed_in : Result → List ℕ → List Id
-listed_in r codes = each codes (λ code. listed_under r (id_in code))
+-- what a result lists under some ids
+abbrev pub listed_in : Result → List (Option Id) → List Id
+listed_in r ids = each ids (λ known. ◌>>=◌ (listed_under r known) (λ id. id ∷ []))
 
--- what the code keeps of a list: whether there is anything in it, and whether an id is
-pub record ListingOf (id : Id) (ids : List Id) (r : Listing) : Type 0 where
-  pub any : r.any ≡ not (is_empty ids)
-  pub has : r.has ≡ contains id ids
+-- what the code keeps of a list
+unfoldable pub listing : Id → List Id → Listing
+listing id ids = cond (contains id ids) Ship (cond (is_empty ids) Nothing Others)
+
+-- a ship is listed, and neither of the two lists has this one
+abbrev pub lists_others : (types groups : Listing) → Bool
+lists_others Ship Nothing = false
+lists_others Ship Others = false
+lists_others Ship Ship = false
+lists_others Others Nothing = true
+lists_others Others Others = true
+lists_others Others Ship = false
+lists_others Nothing Nothing = false
+lists_others Nothing Others = true
+lists_others Nothing Ship = false
 
 -- a result has something other than 0 under an id
 unfoldable pub marked_under : Result → Option Id → Bool
 marked_under r known = given known false (λ id. ne (amount r id) zero_f)
 
--- under any of some ids, each in a number
-abbrev pub marked_in : Result → List ℕ → Bool
-marked_in r codes = any_of (λ code. marked_under r (id_in code)) codes
+-- under any of some ids
+abbrev pub marked_in : Result → List (Option Id) → Bool
+marked_in r ids = list_any (marked_under r) ids

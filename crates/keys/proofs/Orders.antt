@@ -1,4 +1,5 @@
 -- From an order of neighbours to one of any two, and what a search of ordered keys finds.
+use mathlib.Core.Bool.{not-not}
 use Rattle.std.proofs.Common.{◌≡◌, ℕ, zero, suc, ◌+◌, ◌-◌, ◌*◌, ◌<◌, ◌≤◌, max, Bool, true, false, cond, not, ◌&&◌, ◌||◌, ltb, ◌⊎◌, List, ℤ, sym, refl, ap, ◌∙◌, subst, ap₂, inl, inr, ⊎_elim, suc-le-suc, zero-le, le_of_suc-le-suc, not-suc-le-zero, eq-or-lt_of_le, add-one, arith, ltb-true, eq-eqb, ne_eqb, leb-true}
 use Rattle.std.specs.Prelude.{None, Some}
 use lib.Signed.{lt_z, le_z, mag}
@@ -54,6 +55,12 @@ or_true false = refl
 or_false : (a : Bool) → a || false ≡ a
 or_false true = refl
 or_false false = refl
+
+-- a turn of a loop over the steps that fall
+pub step_turn : {A : Type 0} (r : A → A → Bool) (f : ℕ → A) (i : ℕ) (ok fall : Bool) → 0 < i → ok ≡ in_order r (table i f)
+    → fall ≡ not (r (f (i - 1)) (f i)) → ok && not fall ≡ in_order r (table (i + 1) f)
+step_turn r f i ok fall p e q =
+    order-turn r f i ok _ (not fall) p e (ap not q ∙ not-not _) refl
 
 -- a fall in none of four runs so far, and in none of their next steps
 no_fall : (p q s t a b c d f : Bool) → not f ≡ (p && q) && (s && t)

@@ -1,6 +1,6 @@
--- A search that skips half of what is left, or nothing; and a guess that needs no search.
-use Rattle.std.proofs.Common.{◌≡◌, ℕ, ◌+◌, ◌-◌, ◌*◌, ◌/◌, ◌<◌, ◌≤◌, Bool, true, false, cond, ◌||◌, eqb, ltb, leb, List, ℤ, refl, arith, ltb-false, ltb-true, eqb-true, leb-true}
-use Rattle.keys.specs.Keys.{key_at, rank_of, Sorted, Parts}
+-- A search that skips half of what is left, or nothing: what is known of it; and a guess that needs no search.
+use Rattle.std.proofs.Common.{◌≡◌, ℕ, ◌+◌, ◌-◌, ◌*◌, ◌/◌, ◌<◌, ◌≤◌, Bool, true, false, cond, ◌||◌, eqb, ltb, leb, List, refl, arith, ltb-false, ltb-true, eqb-true, leb-true}
+use Rattle.keys.specs.Keys.{key_at, rank_of, Sorted}
 
 -- a quotient is 3 where x is under y, else 2
 pub under-is : (x y : ℕ) → x < 4294967296 → y < 4294967296 → (12884901887 + y - x) / 4294967296 ≡ cond (ltb x y) 3 2
@@ -30,29 +30,6 @@ pub record Searched (keys : List ℕ) (n key base end : ℕ) : Type 0 where
   pub under : (k : ℕ) → k < base → rank_of (key_at keys k) < key
   pub beyond : (k : ℕ) → end ≤ k → k < n → key ≤ rank_of (key_at keys k)
 
-pub skipped : (keys : List ℕ) (n key base left half : ℕ) {r : ℕ} → Sorted keys n → Searched keys n key base (base + left) → 1 ≤ half
-    → half ≤ left → half + half ≤ left + 1
-    → r ≡ base + cond (ltb (rank_of (key_at keys (base + half - 1))) key) half 0 → Searched keys n key r (r + (left - half))
-skipped keys n key base left half sorted s p h g e = go (ltb (rank_of (key_at keys (base + half - 1))) key) refl e
-  where
-    go : (b : Bool) → ltb (rank_of (key_at keys (base + half - 1))) key ≡ b → {r : ℕ} → r ≡ base + cond b half 0 → Searched keys n key r (r + (left - half))
-    go true q e =
-        let x = ltb-true (rank_of (key_at keys (base + half - 1))) key q in
-        record {
-          within = omega (arith, e, s.within, h);
-          ordered = omega arith;
-          under = λ k l. omega (arith, sorted k (base + half - 1) (omega (arith, e, l)) (omega (arith, s.within, h, p)), x);
-          beyond = λ k l m. s.beyond k (omega (arith, e, l, h)) m;
-        }
-    go false q e =
-        let x = ltb-false (rank_of (key_at keys (base + half - 1))) key q in
-        record {
-          within = omega (arith, e, s.within, h);
-          ordered = omega arith;
-          under = λ k l. s.under k (omega (arith, e, l));
-          beyond = λ k l m. omega (arith, sorted (base + half - 1) k (omega (arith, e, l, g, h)) m, x);
-        }
-
 -- ---- a guess that passes both tests parts the keys
 module _ (keys : List ℕ) (n key r : ℕ) (sorted : Sorted keys n) where
   pub guess_under : r ≤ n → (eqb r 0 || ltb (rank_of (key_at keys (r - 1))) key) ≡ true → (k : ℕ) → k < r → rank_of (key_at keys k) < key
@@ -68,11 +45,3 @@ module _ (keys : List ℕ) (n key r : ℕ) (sorted : Sorted keys n) where
       go : (b : Bool) → leb n r ≡ b → (b || leb key (rank_of (key_at keys r))) ≡ true → key ≤ rank_of (key_at keys k)
       go true q f = absurd (omega (arith, leb-true n r q, h, g))
       go false q f = omega (arith, sorted r k h g, leb-true key (rank_of (key_at keys r)) f)
-
--- a search that has nothing left
-pub parted : (keys : List ℕ) (n : ℕ) (id : ℤ) {key base end : ℕ} → key ≡ rank_of id → Searched keys n key base end → end ≤ base → Parts keys n id base
-parted keys n id e s h = record {
-  within = omega (arith, s.within, s.ordered);
-  under = λ k g. omega (arith, s.under k g, e);
-  beyond = λ k g m. omega (arith, s.beyond k (omega (arith, g, h)) m, e);
-}

@@ -1,6 +1,6 @@
 -- Keys: signed numbers of 32 bits, one behind the other in a slice. Document 01, "Records": all keys stand together, before all values.
 use Rattle.std.specs.Prelude.{ℕ, ◌+◌, ◌-◌, ◌*◌, ◌%◌, ◌<◌, ◌≤◌, Bool, cond, List, ℤ, pos, negsuc, nat_le, nat_lt}
-use Rattle.std.specs.Prelude.{Option, None, Some}
+use Rattle.std.specs.Prelude.{Option}
 use Rattle.words.specs.Words.{find, from, same}
 use Rattle.image.specs.Bytes.{i32_at}
 

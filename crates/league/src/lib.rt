@@ -24,10 +24,7 @@ use numbers::sizes;
 fn group_priced(answer: Option<TypeInfo>) -> i32
     ensures { result ≡ given answer (pos 0) (λ x. x.group) }
 {
-    match answer {
-        Some(info) => info.group,
-        None => 0,
-    }
+    answer.map_or(0, |info| info.group)
 }
 
 // The points of pair i, whose group is known; 0 where it is not fitted, as no rule asks for its group.
@@ -88,16 +85,13 @@ fn tally(
         let after = out.new in
         Wrote out.old n after result.n (banned prices ps) × (result.points ≡ points prices ps) × (result.n ≤ n + most_pairs) }
 {
-    let count = fit::pair_count(fit);
     let mut k = n;
     let mut points: u32 = 0;
-    let mut i = 0;
-    while i < count {
+    for i in 0..fit::pair_count(fit) {
         let group = group_priced(context::type_at(catalogue, fit, facts, i));
         let price = price_at(profile, fit, group, i);
         k = banned_at(group, price, i, out, k);
         points += cost_of(price);
-        i += 1;
     }
     Spent { n: k, points }
 }
@@ -117,7 +111,7 @@ pub fn validate(
         let ps = pairs_of catalogue.now fit.now in
         Wrote out.old n out.new result (league prices allowance ps) × (result ≤ n + 257) }
 {
-    if profile.len() == 0 {
+    if profile.is_empty() {
         return n;
     }
     let spent = tally(profile, catalogue, fit, facts, out, n);

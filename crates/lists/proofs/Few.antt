@@ -18,6 +18,9 @@ use Rattle.context.specs.Context.{Pair, Context, pairs_from, pairs, context}
 use Rattle.context.specs.Gathered.{pair_count}
 use Rattle.entry.specs.declared.Entry.{Entry}
 use Rattle.validate.specs.Kind.{is_hull, not_a_mode, not_a_skill}
+use Rattle.numbers.specs.declared.Resource.{Resource}
+use Rattle.numbers.specs.declared.Resource.TheVariants.{LaunchedDrones, CargoBay}
+use Rattle.numbers.specs.declared.SlotKind.{SlotKind}
 use Rattle.resource.specs.Resource.{LOADS, resource, loads, launched_drones, cargo, resources}
 use Rattle.racks.specs.Racks.{RACKS, HARDPOINTS, slots, racks, hardpoints}
 use Rattle.slot.specs.Slot.{wrong_slot, not_a_module, not_a_drone, not_a_fighter, not_an_implant, wrong_slot_index, slot_taken, subsystem_taken, slot_checks}
@@ -70,12 +73,12 @@ module _ {A : Type 0} where
     few-each l {n} {f} h = record { most = Lengths.few-each f n (λ x. (h x).most) l }
 
 -- ---- the list: 16 entries for each pair, one for each skill, 20 more and one for the mode
-few-resource : (k : ℕ) (u a : _) → Few 1 (resource k u a)
+few-resource : (k : Resource) (u a : _) → Few 1 (resource k u a)
 unfolding resource
 few-resource k u a = few-when _ _
 
 module _ (x : Context) (ps : List Pair) where
-  few-slots : (slot name used : ℕ) → Few 1 (slots x slot name used)
+  few-slots : (slot : SlotKind) (name used : ℕ) → Few 1 (slots x slot name used)
   unfolding slots
   few-slots slot name used = few-bind _ λ id. few-above _ _ _ _
 
@@ -83,7 +86,7 @@ module _ (x : Context) (ps : List Pair) where
   unfolding slot_checks wrong_slot not_a_module not_a_drone not_a_fighter not_an_implant slot_taken wrong_slot_index subsystem_taken
   few-checks p =
       few-join (few-join (few-join (few-join (few-join (few-join (few-join
-      (few-bind p.rack λ _. few-when _ _)
+      (few-bind p.rack λ _. few-bind _ λ _. few-when _ _)
       (few-when _ _))
       (few-when _ _))
       (few-when _ _))
@@ -97,8 +100,8 @@ module _ (x : Context) (ps : List Pair) where
   few-resources =
       few-join (few-join
       (few-each LOADS λ l. few-bind _ λ load. few-bind _ λ output. few-resource l.0 _ _)
-      (few-bind _ λ limit. few-resource 5 _ _))
-      (few-bind _ λ capacity. few-resource 11 _ _)
+      (few-bind _ λ limit. few-resource LaunchedDrones _ _))
+      (few-bind _ λ capacity. few-resource CargoBay _ _)
 
   few-racks : Few 8 (racks x ps ++ hardpoints x ps)
   unfolding racks hardpoints

@@ -14,6 +14,9 @@ use Rattle.profile.specs.Profile.{Price}
 use Rattle.entry.specs.declared.Entry.{Entry}
 use Rattle.entry.specs.Entries.{fields, number}
 use Rattle.context.specs.Context.{Pair, Context, context}
+use Rattle.numbers.specs.declared.Resource.{Resource}
+use Rattle.numbers.specs.declared.Resource.TheVariants.{LaunchedDrones, CargoBay}
+use Rattle.numbers.specs.declared.SlotKind.{SlotKind}
 use Rattle.resource.specs.Resource.{LOADS, resource, loads, launched_drones, cargo, resources}
 use Rattle.racks.specs.Racks.{RACKS, HARDPOINTS, slots, racks, hardpoints, racks_and_hardpoints}
 use Rattle.slot.specs.Slot.{wrong_slot, not_a_module, not_a_drone, not_a_fighter, not_an_implant, wrong_slot_index, slot_taken, subsystem_taken, slot_checks, slot_rules}
@@ -56,7 +59,7 @@ module _ (x : Context) (ps : List Pair) where
   abbrev Hulls : List Entry → Type 0
   Hulls = All Between
 
-  low-resource : (k : ℕ) (u a : Float) → All (Low 19) (resource k u a)
+  low-resource : (k : Resource) (u a : Float) → All (Low 19) (resource k u a)
   unfolding resource fields
   low-resource k u a = all-when _ _ (λ _. refl)
 
@@ -65,10 +68,10 @@ module _ (x : Context) (ps : List Pair) where
   low-resources =
       all_join (all_join
       (all-each LOADS λ l. all-bind _ λ load. all-bind _ λ output. low-resource l.0 _ _)
-      (all-bind _ λ limit. low-resource 5 _ _))
-      (all-bind _ λ capacity. low-resource 11 _ _)
+      (all-bind _ λ limit. low-resource LaunchedDrones _ _))
+      (all-bind _ λ capacity. low-resource CargoBay _ _)
 
-  low-slots : (slot name used : ℕ) → Hulls (slots x slot name used)
+  low-slots : (slot : SlotKind) (name used : ℕ) → Hulls (slots x slot name used)
   unfolding slots when_above fields
   low-slots slot name used = all-bind _ λ id. all-when _ _ (λ _. refl)
 
@@ -80,7 +83,7 @@ module _ (x : Context) (ps : List Pair) where
   unfolding slot_checks wrong_slot not_a_module not_a_drone not_a_fighter not_an_implant slot_taken wrong_slot_index subsystem_taken when_any fields
   low-checks p =
       all_join (all_join (all_join (all_join (all_join (all_join (all_join
-      (all-bind p.rack λ _. all-when _ _ (λ _. refl))
+      (all-bind p.rack λ _. all-bind _ λ _. all-when _ _ (λ _. refl))
       (all-when _ _ (λ _. refl)))
       (all-when _ _ (λ _. refl)))
       (all-when _ _ (λ _. refl)))

@@ -4,6 +4,7 @@
 ghost use Rattle.std.specs.Prelude.{◌≡◌, ◌+◌, ◌≤◌, ◌<◌, length};
 ghost use Rattle.words.specs.Words.{is_empty};
 ghost use Rattle.numbers.specs.Sizes.{most_pairs};
+ghost use Rattle.numbers.specs.Reading.{reader_number};
 ghost use Rattle.profile.specs.Sound as Profile;
 ghost use Rattle.catalogue.specs.Catalogue.{Catalogue, catalogue_of};
 ghost use Rattle.fit.specs.Fit.{fit_of};
@@ -17,7 +18,8 @@ ghost use Rattle.lists.specs.Unknown.{unknown_type_at, unknown_types};
 ghost use Rattle.lists.specs.Lists.{for_reader, whole_list, list_for, most_entries};
 
 use entry::{Entry, Rule, Target};
-use numbers::{readers, sizes};
+use numbers::readers::Reader;
+use numbers::sizes;
 
 // No list has more entries: the Rust's, a ban for each pair, the points, a missing type for each pair.
 pub const MOST_ENTRIES: usize = validate::MOST_ENTRIES + sizes::MOST_PAIRS + 1 + sizes::MOST_PAIRS;
@@ -45,18 +47,15 @@ fn unknown_type_at(
         Wrote out.old n out.new result (unknown_type_at (catalogue_of catalogue.now) p) }
 {
     let id = fit::item_type(fit, i);
-    let answer = context::type_at(catalogue, fit, facts, i);
-    match answer {
-        Some(info) => n,
-        None => entry::emit(
-            out,
-            n,
-            Entry {
-                target: Target::Item(i as u32),
-                rule: Rule::UnknownType(id),
-            },
-        ),
-    }
+    entry::emit_when(
+        out,
+        n,
+        context::type_at(catalogue, fit, facts, i).is_none(),
+        Entry {
+            target: Target::Item(i as u32),
+            rule: Rule::UnknownType(id),
+        },
+    )
 }
 
 // Rule 26 by pair, whatever its slot.
@@ -74,10 +73,8 @@ fn unknown_types(
 {
     let count = fit::pair_count(fit);
     let mut m = n;
-    let mut i = 0;
-    while i < count {
+    for i in 0..count {
         m = unknown_type_at(catalogue, fit, facts, i, out, m);
-        i += 1;
     }
     m
 }
@@ -85,13 +82,13 @@ fn unknown_types(
 // What a list call asks for: whose list it is, and the points that a league allows.
 #[derive(Clone, Copy)]
 pub struct Asked {
-    pub reader: u32,
+    pub reader: Reader,
     pub allowance: u32,
 }
 
 // The Rust's list, as a reader gets it. For a guest no listed skill is looked up.
 fn rust_list(
-    reader: u32,
+    reader: Reader,
     catalogue: &[u8],
     fit: &[u8],
     facts: &[u32; 2058],
@@ -99,13 +96,13 @@ fn rust_list(
     out: &mut [u8],
 ) -> usize
     requires { Gathered catalogue.now fit.now facts.now }
-    ensures { let es = for_reader reader (list_of (catalogue_of catalogue.now) (fit_of fit.now)) in
+    ensures { let es = for_reader (reader_number reader) (list_of (catalogue_of catalogue.now) (fit_of fit.now)) in
         Wrote out.old 0 out.new result es × (result ≤ Rust.most_entries) }
 {
-    if reader == readers::GUEST {
-        return validate::without_skills(catalogue, fit, facts, out);
+    match reader {
+        Reader::Guest => validate::without_skills(catalogue, fit, facts, out),
+        Reader::Pilot | Reader::Officer => validate::validate(catalogue, fit, facts, hints, out),
     }
-    validate::validate(catalogue, fit, facts, hints, out)
 }
 
 // Every rule that a fit breaks and that its reader is told of, under a league's profile and allowance. `hints` are those of
@@ -120,7 +117,7 @@ pub fn write(
     out: &mut [u8],
 ) -> usize
     requires { Gathered catalogue.now fit.now facts.now × Profile.Sound profile.now }
-    ensures { let t = read_by asked.reader (terms profile.now asked.allowance) in
+    ensures { let t = read_by (reader_number asked.reader) (terms profile.now asked.allowance) in
         let es = list_for t (catalogue_of catalogue.now) (fit_of fit.now) in
         Wrote out.old 0 out.new result es × (result ≤ most_entries) }
 {
@@ -137,9 +134,7 @@ pub fn is_empty(catalogue: &[u8], fit: &[u8], facts: &[u32; 2058], hints: &mut [
     requires { Gathered catalogue.now fit.now facts.now }
     ensures { result ≡ is_empty (whole_list main (catalogue_of catalogue.now) (fit_of fit.now)) }
 {
-    if !validate::is_empty(catalogue, fit, facts, hints) {
-        return false;
-    }
     let mut none = [0u8; 0];
-    unknown_types(catalogue, fit, facts, &mut none, 0) == 0
+    validate::is_empty(catalogue, fit, facts, hints)
+        && unknown_types(catalogue, fit, facts, &mut none, 0) == 0
 }

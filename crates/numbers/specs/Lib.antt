@@ -9,3 +9,5 @@ pub mod Groups
 pub mod Sizes
 pub mod Readers
 pub mod Refusals
+pub mod Refused
+pub mod Reading

@@ -1,12 +1,9 @@
 -- Document 01, "Entry": sub is the limit in the order of Rust's `GroupLimit`.
 use Rattle.std.specs.Prelude.{ℕ}
+use Rattle.numbers.specs.declared.GroupLimit.{GroupLimit}
+use Rattle.numbers.specs.declared.GroupLimit.TheVariants.{Fitted, Online, Active}
 
--- ---- `GroupLimit`
-abbrev pub fitted : ℕ
-fitted = 0
-
-abbrev pub online : ℕ
-online = 1
-
-abbrev pub active : ℕ
-active = 2
+abbrev pub number : GroupLimit → ℕ
+number Fitted = 0
+number Online = 1
+number Active = 2

@@ -1,39 +1,19 @@
 -- Document 01, "Entry": sub is the resource in the order of Rust's `Resource`.
 use Rattle.std.specs.Prelude.{ℕ}
+use Rattle.numbers.specs.declared.Resource.{Resource}
+use Rattle.numbers.specs.declared.Resource.TheVariants.{Cpu, Powergrid, Calibration, DroneBay, DroneBandwidth, LaunchedDrones, FighterBay}
+use Rattle.numbers.specs.declared.Resource.TheVariants.{FighterTubes, LightFighterTubes, SupportFighterTubes, HeavyFighterTubes, CargoBay}
 
--- ---- `Resource`
-abbrev pub cpu : ℕ
-cpu = 0
-
-abbrev pub powergrid : ℕ
-powergrid = 1
-
-abbrev pub calibration : ℕ
-calibration = 2
-
-abbrev pub drone_bay : ℕ
-drone_bay = 3
-
-abbrev pub drone_bandwidth : ℕ
-drone_bandwidth = 4
-
-abbrev pub launched_drones : ℕ
-launched_drones = 5
-
-abbrev pub fighter_bay : ℕ
-fighter_bay = 6
-
-abbrev pub fighter_tubes : ℕ
-fighter_tubes = 7
-
-abbrev pub light_fighter_tubes : ℕ
-light_fighter_tubes = 8
-
-abbrev pub support_fighter_tubes : ℕ
-support_fighter_tubes = 9
-
-abbrev pub heavy_fighter_tubes : ℕ
-heavy_fighter_tubes = 10
-
-abbrev pub cargo_bay : ℕ
-cargo_bay = 11
+abbrev pub number : Resource → ℕ
+number Cpu = 0
+number Powergrid = 1
+number Calibration = 2
+number DroneBay = 3
+number DroneBandwidth = 4
+number LaunchedDrones = 5
+number FighterBay = 6
+number FighterTubes = 7
+number LightFighterTubes = 8
+number SupportFighterTubes = 9
+number HeavyFighterTubes = 10
+number CargoBay = 11

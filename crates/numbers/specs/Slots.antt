@@ -1,5 +1,7 @@
 -- Document 01, "Records": slot kinds follow Rust's `Slot`; racks and hardpoints are `SlotKind`, whose first six are the same.
-use Rattle.std.specs.Prelude.{ℕ}
+use Rattle.std.specs.Prelude.{ℕ, List, [], ◌∷◌, slice_get, Option}
+use Rattle.numbers.specs.declared.SlotKind.{SlotKind}
+use Rattle.numbers.specs.declared.SlotKind.TheVariants.{High, Medium, Low, Rig, Subsystem, Service, Turret, Launcher}
 
 -- ---- `Slot`
 abbrev pub high : ℕ
@@ -38,9 +40,20 @@ drone_bay = 10
 abbrev pub cargo : ℕ
 cargo = 11
 
--- ---- `SlotKind`, beyond the racks
-abbrev pub turret : ℕ
-turret = 6
+-- ---- `SlotKind`: the racks, by the numbers of their slots, then the hardpoints
+abbrev pub number : SlotKind → ℕ
+number High = high
+number Medium = medium
+number Low = low
+number Rig = rig
+number Subsystem = subsystem
+number Service = service
+number Turret = 6
+number Launcher = 7
 
-abbrev pub launcher : ℕ
-launcher = 7
+abbrev pub KINDS : List SlotKind
+KINDS = High ∷ Medium ∷ Low ∷ Rig ∷ Subsystem ∷ Service ∷ Turret ∷ Launcher ∷ []
+
+-- the kind of a number
+abbrev pub kind_of : ℕ → Option SlotKind
+kind_of n = slice_get KINDS n

@@ -1,4 +1,5 @@
 // calculate/mod.rs: the categories of types that the rules ask for.
+// Numbers: ids of the catalogue, which has others beside these.
 pub const SHIP: i32 = 6;
 
 pub const MODULE: i32 = 7;

@@ -1,30 +1,30 @@
 // Document 01, "Refusals in their order": their numbers. 7 stood for over 4,294,967,295 drones, and is not used again.
-pub const BAD_LENGTH: u64 = 1;
+ghost use Rattle.std.specs.Prelude.{◌≡◌};
+ghost use Rattle.numbers.specs.Refused.{number};
 
-pub const BAD_KEYS: u64 = 2;
+#[derive(Clone, Copy, PartialEq, Eq)]
+pub enum Refusal {
+    BadLength = 1,
+    BadKeys = 2,
+    BadEntry = 3,
+    BadSize = 4,
+    BadIds = 5,
+    BadField = 6,
+    NoResult = 8,
+    TooManySkills = 9,
+    TooShort = 10,
+    BadProfile = 11,
+    BadPrices = 12,
+    OverLimit = 13,
+    TooManyListed = 16,
+    NoReader = 19,
+    NotForGuests = 20,
+}
 
-pub const BAD_ENTRY: u64 = 3;
-
-pub const BAD_SIZE: u64 = 4;
-
-pub const BAD_IDS: u64 = 5;
-
-pub const BAD_FIELD: u64 = 6;
-
-pub const NO_RESULT: u64 = 8;
-
-pub const TOO_MANY_SKILLS: u64 = 9;
-
-pub const TOO_SHORT: u64 = 10;
-
-pub const BAD_PROFILE: u64 = 11;
-
-pub const BAD_PRICES: u64 = 12;
-
-pub const OVER_LIMIT: u64 = 13;
-
-pub const TOO_MANY_LISTED: u64 = 16;
-
-pub const NO_READER: u64 = 19;
-
-pub const NOT_FOR_GUESTS: u64 = 20;
+impl Refusal {
+    pub fn number(self) -> u64
+        ensures { result ≡ number self }
+    {
+        self as u64
+    }
+}

@@ -1,4 +1,5 @@
-// Slot kinds: Rust's `Slot`; racks and hardpoints are `SlotKind`, whose first six are the same.
+// Rust's `Slot`.
+// Numbers: a fit has it in a byte, which loops over pairs compare; an enum would add a decode to each.
 pub const HIGH: u8 = 0;
 
 pub const MEDIUM: u8 = 1;
@@ -22,7 +23,3 @@ pub const BOOSTER: u8 = 9;
 pub const DRONE_BAY: u8 = 10;
 
 pub const CARGO: u8 = 11;
-
-pub const TURRET: u8 = 6;
-
-pub const LAUNCHER: u8 = 7;

@@ -1,4 +1,5 @@
 // Rust's `State`.
+// Numbers: a result has it in a byte, which loops over pairs compare in order; an enum would add a decode to each.
 pub const OFFLINE: u8 = 0;
 
 pub const ONLINE: u8 = 1;

@@ -3,11 +3,13 @@
 
 ghost use Rattle.std.specs.Prelude.{◌≡◌, ◌+◌, ◌*◌, ◌≤◌, ◌<◌, length};
 ghost use Rattle.words.specs.Words.{table, any_of};
+ghost use Rattle.numbers.specs.Refused.{number_of};
 ghost use Rattle.image.specs.Bytes.{u32_at};
 ghost use Rattle.profile.specs.Profile.{group_count, points_at, prices_of, too_dear, bad_profile, bad_prices, profile_refusal, points_of};
 ghost use Rattle.profile.specs.Sound.{Sized, Sound};
 
-use numbers::{refusals, sizes};
+use numbers::refusals::Refusal;
+use numbers::sizes;
 
 // 11: over 4,096 groups, or a length unlike its size.
 fn bad_profile(profile: &[u8]) -> bool
@@ -41,7 +43,7 @@ fn group_count(profile: &[u8]) -> usize
 fn too_dear(points: u32) -> bool
     ensures { result ≡ too_dear points }
 {
-    words::both(sizes::MOST_POINTS < points, points != sizes::BANNED)
+    (sizes::MOST_POINTS < points) & (points != sizes::BANNED)
 }
 
 // Whether any group's points are. Like an order check it runs to its end.
@@ -51,11 +53,8 @@ fn any_too_dear(profile: &[u8], n: usize) -> bool
         result ≡ any_of too_dear (table (group_count b) (λ i. u32_at b (points_at b + 4 * i))) }
 {
     let mut found = false;
-    let mut i = 0;
-    while i < n {
-        let points = image::u32_at(profile, 4 + 4 * n + 4 * i);
-        found = words::either(found, too_dear(points));
-        i += 1;
+    for i in 0..n {
+        found |= too_dear(image::u32_at(profile, 4 + 4 * n + 4 * i));
     }
     found
 }
@@ -76,17 +75,17 @@ fn bad_prices(profile: &[u8]) -> bool
     true
 }
 
-// The first of refusals 11 and 12 that holds, or 0.
-pub fn number(profile: &[u8]) -> u64
-    ensures { result ≡ profile_refusal profile.now }
+// The first of refusals 11 and 12 that holds.
+pub fn check(profile: &[u8]) -> Result<(), Refusal>
+    ensures { number_of result ≡ profile_refusal profile.now }
 {
     if bad_profile(profile) {
-        return refusals::BAD_PROFILE;
+        return Err(Refusal::BadProfile);
     }
     if bad_prices(profile) {
-        return refusals::BAD_PRICES;
+        return Err(Refusal::BadPrices);
     }
-    0
+    Ok(())
 }
 
 // The points of a group; 0 where it is not listed.

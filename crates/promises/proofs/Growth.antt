@@ -25,6 +25,9 @@ use Rattle.entry.specs.declared.Rule.TheVariants.{NotAHull}
 use Rattle.entry.specs.Entries.{on_ship}
 use Rattle.context.specs.Context.{Pair, Context, pair_of, pairs_from, pairs, context, is_fitted, is_in}
 use Rattle.validate.specs.Kind.{is_hull, not_a_mode, not_a_skill}
+use Rattle.numbers.specs.declared.Resource.{Resource}
+use Rattle.numbers.specs.declared.Resource.TheVariants.{LaunchedDrones, CargoBay}
+use Rattle.numbers.specs.declared.SlotKind.{SlotKind}
 use Rattle.resource.specs.Resource.{resource, launched, cargo_volume, cargo_used, loads, launched_drones, cargo, resources}
 use Rattle.racks.specs.Racks.{RACKS, HARDPOINTS, slots, racks, hardpoints}
 use Rattle.slot.specs.Slot.{wrong_slot, not_a_module, not_a_drone, not_a_fighter, not_an_implant, wrong_slot_index, slot_taken, subsystem_taken, slot_checks}
@@ -68,7 +71,7 @@ module _ {ps qs : List Pair} (s : Into ps qs) where
 
   -- ---- slot.rs
   module _ (x : Context) where
-    slots-grow : (slot name n m : ℕ) → n ≤ m → Within (slots x slot name n) (slots x slot name m)
+    slots-grow : (slot : SlotKind) (name n m : ℕ) → n ≤ m → Within (slots x slot name n) (slots x slot name m)
     unfolding slots
     slots-grow slot name n m h = placed_bind _ λ id. above _ _ _ h (record { target = refl; rule = Rises.slots h })
 
@@ -132,13 +135,13 @@ module _ {ps qs : List Pair} (s : Into ps qs) where
       placed_join (each-alone _) (above _ _ _ h (record { target = refl; rule = Rises.points h }))
 
 -- ---- resource.rs
-resource-grows : (r : ℕ) (u v a : Float) → (T (over u a) → T (le u v)) → Within (resource r u a) (resource r v a)
+resource-grows : (r : Resource) (u v a : Float) → (T (over u a) → T (le u v)) → Within (resource r u a) (resource r v a)
 unfolding resource
 resource-grows r u v a h = placed_when _ _ _ _ (λ t. over-mono u v a (h t) t) (λ t. record { target = refl; rule = Rises.resource (h t) })
 
 drones-grow : (x : Context) {ps qs : List Pair} → Into ps qs → Within (launched_drones x ps) (launched_drones x qs)
 unfolding launched_drones launched
-drones-grow x s = placed_bind _ λ limit. resource-grows 5 _ _ _ λ _. of_nat-mono _ _ (sum_into _ (only-into _ s))
+drones-grow x s = placed_bind _ λ limit. resource-grows LaunchedDrones _ _ _ λ _. of_nat-mono _ _ (sum_into _ (only-into _ s))
 
 pub only-mem : {A : Type 0} (t : A → Bool) (l : List A) (p : A) → Memᴰ p (only t l) → T (t p) × Memᴰ p l
 unfolding only
@@ -156,7 +159,7 @@ module _ (ps added : List Pair) (volumes : (p : Pair) → Memᴰ p added → T (
   cargo-grows : (x : Context) → Within (cargo x ps) (cargo x (ps ++ added))
   unfolding cargo cargo_used cargo_volume
   cargo-grows x = placed_bind _ λ capacity.
-      resource-grows 11 _ _ _ λ o.
+      resource-grows CargoBay _ _ _ λ o.
       rw (only-append (is_in Slots.cargo) ps added)
       (total-grows cargo_volume zero_f _ (only (is_in Slots.cargo) ps) (only (is_in Slots.cargo) added) (unfold fits in tt)
       (λ p m.

@@ -16,7 +16,8 @@ use Rattle.fit.specs.Fit.{Frame, mode_of}
 use Rattle.fit.specs.Lookups.{amount}
 use Rattle.numbers.specs.Slots as Slots
 use Rattle.numbers.specs.Names as Names
-use Rattle.numbers.specs.Resources as Resources
+use Rattle.numbers.specs.declared.Resource.TheVariants.{LaunchedDrones, CargoBay}
+use Rattle.numbers.specs.declared.GroupLimit.{GroupLimit}
 use Rattle.entry.specs.declared.Entry.{Entry}
 use Rattle.entry.specs.declared.Rule.TheVariants.{NotAHull, Resource, ShipItem, StructureItem}
 use Rattle.entry.specs.Entries.{on_ship}
@@ -159,7 +160,7 @@ module _ (x : Context) (ps added : List Pair) (held : All Held added) where
   -- ---- resource.rs
   drones-same : launched_drones x qs ≡ launched_drones x ps
   unfolding launched_drones launched
-  drones-same = ap (λ (l : List Pair). ◌>>=◌ (name_id x.names Names.max_active_drones) λ m. resource Resources.launched_drones (of_nat (sum_of (λ p. p.quantity) l)) (amount x.character_result m))
+  drones-same = ap (λ (l : List Pair). ◌>>=◌ (name_id x.names Names.max_active_drones) λ m. resource LaunchedDrones (of_nat (sum_of (λ p. p.quantity) l)) (amount x.character_result m))
       (only_same is_launched ps added (none-held is_launched λ p h. unfold is_launched in and_no _ _ (not_in p h Slots.drone_bay refl)))
 
   -- ---- slot.rs
@@ -199,7 +200,7 @@ module _ (x : Context) (ps added : List Pair) (held : All Held added) where
   module _ (p : Pair) (h : Held p) where
     wrong_slot-none : wrong_slot x p ≡ []
     unfolding wrong_slot
-    wrong_slot-none = bind_no _ _ λ rack. when-no _ _ (rw (not-fitted p h))
+    wrong_slot-none = bind_no _ _ λ rack. bind_no _ _ λ expected. when-no _ _ (rw (not-fitted p h))
 
     not_a_module-none : not_a_module x p ≡ []
     unfolding not_a_module
@@ -280,11 +281,11 @@ module _ (x : Context) (ps added : List Pair) (held : All Held added) where
   unfolding in_group
   in_group-none group lowest p h = rw (not-fitted p h)
 
-  group_limit_at-same : (limit lowest : ℕ) (id : Id) (p : Pair) → group_limit_at limit lowest id qs p ≡ group_limit_at limit lowest id ps p
+  group_limit_at-same : (limit : GroupLimit) (lowest : ℕ) (id : Id) (p : Pair) → group_limit_at limit lowest id qs p ≡ group_limit_at limit lowest id ps p
   unfolding group_limit_at
   group_limit_at-same limit lowest id p = bind_same _ _ _ λ allowed. when_above-same _ _ ps added _ _ (none-held _ (in_group-none p.group lowest))
 
-  group_limit_at-none : (limit lowest : ℕ) (id : Id) (p : Pair) → Held p → group_limit_at limit lowest id qs p ≡ []
+  group_limit_at-none : (limit : GroupLimit) (lowest : ℕ) (id : Id) (p : Pair) → Held p → group_limit_at limit lowest id qs p ≡ []
   unfolding group_limit_at
   group_limit_at-none limit lowest id p h = bind_no _ _ λ allowed. when_above-no _ _ _ _ (not-fitted p h)
 
@@ -314,7 +315,7 @@ module _ (x : Context) (ps added : List Pair) (held : All Held added) where
   behind-same = rw (racks-same, hardpoints-same, checks_same, rig_size-same, ship_restricted-same, capital_item-same, standup-same, group_limits-same, type_limit-same)
 
   -- ---- a filter that takes CargoBay out
-  module _ (t : Entry → Bool) (gone : (u a : Float) → t (on_ship (Resource Resources.cargo_bay u a)) ≡ false) where
+  module _ (t : Entry → Bool) (gone : (u a : Float) → t (on_ship (Resource CargoBay u a)) ≡ false) where
     gone-cargo : (l : List Pair) → only t (cargo x l) ≡ []
     unfolding cargo resource
     gone-cargo l = only_no t (all-bind _ λ capacity. all-when _ _ (λ _. gone _ _))
@@ -329,7 +330,7 @@ module _ (x : Context) (ps added : List Pair) (held : All Held added) where
     rules-same = only-parted qs ∙ ap₂ (λ (a b : List Entry). only t (loads x ++ a) ++ only t b) drones-same behind-same ∙ sym (only-parted ps)
 
 -- ---- the list of a fit with cargo put behind
-module _ (t : Entry → Bool) (gone : (u a : Float) → t (on_ship (Resource Resources.cargo_bay u a)) ≡ false) (ps added : List Pair) (held : All Held added) where
+module _ (t : Entry → Bool) (gone : (u a : Float) → t (on_ship (Resource CargoBay u a)) ≡ false) (ps added : List Pair) (held : All Held added) where
   pub list_same : (c : Catalogue) (k : Frame) (ids : List Id) → only t (list_with c k ids (ps ++ added)) ≡ only t (list_with c k ids ps)
   unfolding list_with
   list_same c k ids = go (is_hull c k.ship)

@@ -13,6 +13,8 @@ use Rattle.words.specs.Words.{◌>>=◌, when, when_above, only, count_of, sum_o
 use Rattle.words.proofs.Steps.{only-append}
 use Rattle.words.proofs.Lengths.{few-bind, few-when}
 use Rattle.numbers.specs.Slots as Slots
+use Rattle.numbers.specs.declared.Resource.{Resource}
+use Rattle.numbers.specs.declared.Resource.TheVariants.{LaunchedDrones, CargoBay}
 use Rattle.numbers.specs.Resources as Resources
 use Rattle.image.specs.Bytes.{u8_at}
 use Rattle.catalogue.specs.Catalogue.{Id, Catalogue, catalogue_of}
@@ -52,7 +54,7 @@ use Rattle.promises.proofs.Calls.{list_answers, skill_answers}
 
 -- ---- the tests, of entries
 abbrev pub of_hold : Entry → Bool
-of_hold e = eqb (number e) 1 && eqb (fields e.rule).1 Resources.cargo_bay
+of_hold e = eqb (number e) 1 && eqb (fields e.rule).1 (Resources.number CargoBay)
 
 abbrev Outside : Entry → Bool
 Outside e = not (of_hold e || eqb (number e) 26)
@@ -188,19 +190,19 @@ module _ (t t' : Terms) (catalogue old new before before' : List ℕ) where
 abbrev Elsewhere : List Entry → Type 0
 Elsewhere = All (λ e. of_hold e ≡ false)
 
-resource-else : (k : ℕ) (u a : Float) → eqb k Resources.cargo_bay ≡ false → Elsewhere (resource k u a)
+resource-else : (k : Resource) (u a : Float) → eqb (Resources.number k) (Resources.number CargoBay) ≡ false → Elsewhere (resource k u a)
 unfolding resource fields
 resource-else k u a h = all-when _ _ (λ _. h)
 
 loads-else : (x : Context) → Elsewhere (loads x)
 unfolding loads
-loads-else x = all-each_of {Q = λ (row : ℕ × ℕ × ℕ). eqb row.0 Resources.cargo_bay ≡ false}
+loads-else x = all-each_of {Q = λ (row : Resource × ℕ × ℕ). eqb (Resources.number row.0) (Resources.number CargoBay) ≡ false}
     (cons refl (cons refl (cons refl (cons refl (cons refl (cons refl (cons refl (cons refl (cons refl (cons refl nil))))))))))
     λ row h. all-bind _ λ load. all-bind _ λ output. resource-else row.0 _ _ h
 
 drones-else : (x : Context) (ps : List Pair) → Elsewhere (launched_drones x ps)
 unfolding launched_drones
-drones-else x ps = all-bind _ λ limit. resource-else Resources.launched_drones _ _ refl
+drones-else x ps = all-bind _ λ limit. resource-else LaunchedDrones _ _ refl
 
 not-one : (n : ℕ) → (leb 2 n && ltb n 19) ≡ true → eqb n 1 ≡ false
 not-one n h = go (eqb n 1) refl
@@ -211,7 +213,7 @@ not-one n h = go (eqb n 1) refl
 
 behind-else : {l : List Entry} → All Between l → Elsewhere l
 behind-else nil = nil
-behind-else (cons {x} p h) = cons (ap (λ (b : Bool). b && eqb (fields x.rule).1 Resources.cargo_bay) (not-one (number x) p)) (behind-else h)
+behind-else (cons {x} p h) = cons (ap (λ (b : Bool). b && eqb (fields x.rule).1 (Resources.number CargoBay)) (not-one (number x) p)) (behind-else h)
 
 module _ (x : Context) (ps : List Pair) where
   cargo-few : length (cargo x ps) ≤ 1
@@ -301,7 +303,7 @@ module _ {A B : Type 0} (f : A → B) where
   mem_map x (Memᴰ.head e) = Memᴰ.head (ap f e)
   mem_map x (Memᴰ.tail h) = Memᴰ.tail (mem_map x h)
 
-rises_hold : {a b : Rule} → Rises a b → (eqb (fields a).0 1 && eqb (fields a).1 Resources.cargo_bay) ≡ (eqb (fields b).0 1 && eqb (fields b).1 Resources.cargo_bay)
+rises_hold : {a b : Rule} → Rises a b → (eqb (fields a).0 1 && eqb (fields a).1 (Resources.number CargoBay)) ≡ (eqb (fields b).0 1 && eqb (fields b).1 (Resources.number CargoBay))
 unfolding fields
 rises_hold Rises.same = refl
 rises_hold (Rises.resource h) = refl

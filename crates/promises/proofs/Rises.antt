@@ -16,6 +16,9 @@ use Rattle.catalogue.specs.Catalogue.{Id}
 use Rattle.entry.specs.declared.Target.{Target}
 use Rattle.entry.specs.declared.Entry.{Entry}
 use Rattle.entry.specs.declared.Rule.{Rule}
+use Rattle.numbers.specs.declared.Resource.{Resource as Kind}
+use Rattle.numbers.specs.declared.SlotKind.{SlotKind}
+use Rattle.numbers.specs.declared.GroupLimit.{GroupLimit}
 use Rattle.entry.specs.declared.Rule.TheVariants.{Resource, Slots, WrongSlot, NotAModule, NotADrone, NotAFighter, NotAnImplant, SlotTaken}
 use Rattle.entry.specs.declared.Rule.TheVariants.{WrongSlotIndex, SubsystemTaken, Skill, RigSize, ShipRestricted, CapitalItem}
 use Rattle.entry.specs.declared.Rule.TheVariants.{StructureItem, ShipItem, MaxGroup, MaxType, NotAHull, NotAMode, NotASkill, Banned, Points, UnknownType}
@@ -24,10 +27,10 @@ use Rattle.promises.specs.Compare.{varies, blank, Stays}
 
 pub data Rises : Rule → Rule → Type 0 where
   same : {r : Rule} → Rises r r
-  resource : {r : ℕ} {u v a : Float} → T (Ieee.le u v) → Rises (Resource r u a) (Resource r v a)
-  slots : {s u v a : ℕ} → u ≤ v → Rises (Slots s u a) (Slots s v a)
+  resource : {r : Kind} {u v a : Float} → T (Ieee.le u v) → Rises (Resource r u a) (Resource r v a)
+  slots : {s : SlotKind} {u v a : ℕ} → u ≤ v → Rises (Slots s u a) (Slots s v a)
   skill : {t : Id} {r l m : ℕ} → m ≤ l → Rises (Skill t r l) (Skill t r m)
-  max_group : {g : Id} {l u v a : ℕ} → u ≤ v → Rises (MaxGroup g l u a) (MaxGroup g l v a)
+  max_group : {g : Id} {l : GroupLimit} {u v a : ℕ} → u ≤ v → Rises (MaxGroup g l u a) (MaxGroup g l v a)
   max_type : {t : Id} {u v a : ℕ} → u ≤ v → Rises (MaxType t u a) (MaxType t v a)
   points : {u v a : ℕ} → u ≤ v → Rises (Points u a) (Points v a)
 
@@ -70,7 +73,7 @@ module _ (t : Target) where
   abbrev bytes : Rule → List ℕ
   bytes r = entry_bytes (record { target = t; rule = r })
 
-  resource-back : (k : ℕ) (u a : Float) → T (fits binary64 u) → f64_at (bytes (Resource k u a)) 8 ≡ u
+  resource-back : (k : Kind) (u a : Float) → T (fits binary64 u) → f64_at (bytes (Resource k u a)) 8 ≡ u
   unfolding fields each entry_bytes f64_at u64_at u32_at
   resource-back k u a h =
       let n = f64_bits u in

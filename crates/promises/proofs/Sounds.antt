@@ -25,6 +25,9 @@ use Rattle.fit.specs.Lookups.{value, amount, trained}
 use Rattle.entry.specs.declared.Entry.{Entry}
 use Rattle.context.specs.Context.{Pair, Context, pairs, context, is_fitted, is_in}
 use Rattle.validate.specs.Kind.{is_hull, not_a_mode, not_a_skill}
+use Rattle.numbers.specs.declared.Resource.{Resource}
+use Rattle.numbers.specs.declared.Resource.TheVariants.{LaunchedDrones, CargoBay}
+use Rattle.numbers.specs.declared.SlotKind.{SlotKind}
 use Rattle.resource.specs.Resource.{LOADS, resource, cargo_volume, cargo_used, loads, launched_drones, cargo, resources}
 use Rattle.racks.specs.Racks.{RACKS, HARDPOINTS, slots, racks, hardpoints}
 use Rattle.slot.specs.Slot.{wrong_slot, not_a_module, not_a_drone, not_a_fighter, not_an_implant, wrong_slot_index, slot_taken, subsystem_taken, slot_checks}
@@ -59,7 +62,7 @@ above_sound : (b : Bool) (n allowed : ℕ) (e : ℕ → Entry) → Sound (e n).r
 unfolding when_above
 above_sound b n allowed e h = all-when _ (e n) (λ _. h)
 
-resource-sound : (k : ℕ) (u a : Float) → T (fits binary64 u) → AllSound (resource k u a)
+resource-sound : (k : Resource) (u a : Float) → T (fits binary64 u) → AllSound (resource k u a)
 unfolding resource
 resource-sound k u a h = all-when _ _ (λ o. (h, over-self u a o))
 
@@ -79,17 +82,17 @@ module _ (x : Context) where
 
   drones-sound : (ps : List Pair) → AllSound (launched_drones x ps)
   unfolding launched_drones
-  drones-sound ps = all-bind _ λ limit. resource-sound 5 _ _ (of_int-fits binary64 _)
+  drones-sound ps = all-bind _ λ limit. resource-sound LaunchedDrones _ _ (of_int-fits binary64 _)
 
   cargo-sound : (ps : List Pair) → AllSound (cargo x ps)
   unfolding cargo cargo_used
-  cargo-sound ps = all-bind _ λ capacity. resource-sound 11 _ _ (total-fits cargo_volume zero_f (only (is_in 11) ps) (unfold fits in tt))
+  cargo-sound ps = all-bind _ λ capacity. resource-sound CargoBay _ _ (total-fits cargo_volume zero_f (only (is_in 11) ps) (unfold fits in tt))
 
   module _ (ps : List Pair) (few : length ps < 2 ^ 32) where
     few-of : (t : Pair → Bool) → count_of t ps < 2 ^ 32
     few-of t = let h = count-le t ps in omega arith
 
-    slots-sound : (slot name used : ℕ) → used < 2 ^ 32 → AllSound (slots x slot name used)
+    slots-sound : (slot : SlotKind) (name used : ℕ) → used < 2 ^ 32 → AllSound (slots x slot name used)
     unfolding slots
     slots-sound slot name used h = all-bind _ λ id. above_sound _ _ _ _ h
 
@@ -105,7 +108,7 @@ module _ (x : Context) where
     unfolding slot_checks wrong_slot not_a_module not_a_drone not_a_fighter not_an_implant slot_taken wrong_slot_index subsystem_taken
     slot_checks-sound p =
         all_join (all_join (all_join (all_join (all_join (all_join (all_join
-        (all-bind p.rack λ _. all-when _ _ (λ _. tt))
+        (all-bind p.rack λ _. all-bind _ λ _. all-when _ _ (λ _. tt))
         (all-when _ _ (λ _. tt)))
         (all-when _ _ (λ _. tt)))
         (all-when _ _ (λ _. tt)))

@@ -4,6 +4,13 @@ use Rattle.std.specs.Float.{nan}
 use Rattle.words.specs.Words.{each}
 use Rattle.image.specs.Bytes.{le}
 use Rattle.floats.specs.Floats.{of_nat}
+use Rattle.numbers.specs.declared.Resource.{Resource as Kind}
+use Rattle.numbers.specs.declared.Resource.TheVariants.{Cpu, Powergrid, Calibration, DroneBay, DroneBandwidth, LaunchedDrones}
+use Rattle.numbers.specs.declared.Resource.TheVariants.{FighterBay, FighterTubes, LightFighterTubes, SupportFighterTubes, HeavyFighterTubes, CargoBay}
+use Rattle.numbers.specs.declared.SlotKind.{SlotKind}
+use Rattle.numbers.specs.declared.SlotKind.TheVariants.{High, Medium, Low, Rig, Subsystem, Service, Turret, Launcher}
+use Rattle.numbers.specs.declared.GroupLimit.{GroupLimit}
+use Rattle.numbers.specs.declared.GroupLimit.TheVariants.{Fitted, Online, Active}
 use Rattle.entry.specs.declared.Rule.{Rule}
 use Rattle.entry.specs.declared.Rule.TheVariants.{Resource, Slots, WrongSlot, NotAModule, NotADrone, NotAFighter, NotAnImplant, SlotTaken}
 use Rattle.entry.specs.declared.Rule.TheVariants.{WrongSlotIndex, SubsystemTaken, Skill, RigSize, ShipRestricted, CapitalItem}
@@ -20,14 +27,23 @@ words ns = each ns (le 4)
 abbrev entry : Rule → ℕ → ℕ → List ℕ → Case
 entry r number sub payload = (Written (on_item 258 r), InBytes (1 ∷ number ∷ sub ∷ 0 ∷ 2 ∷ 1 ∷ 0 ∷ 0 ∷ words payload))
 
+abbrev of_resource : Kind → ℕ → Case
+of_resource kind sub = entry (Resource kind (of_nat 0) (of_nat 0)) 1 sub (0 ∷ 0 ∷ 0 ∷ 0 ∷ [])
+
+abbrev of_slot : SlotKind → ℕ → Case
+of_slot slot sub = entry (WrongSlot slot) 3 sub (0 ∷ 0 ∷ 0 ∷ 0 ∷ [])
+
+abbrev of_limit : GroupLimit → ℕ → Case
+of_limit limit sub = entry (MaxGroup (pos 0) limit 0 0) 17 sub (0 ∷ 0 ∷ 0 ∷ 0 ∷ [])
+
 abbrev pub ENTRIES : List Case
 ENTRIES =
     (Written (on_ship NotAHull), InBytes (0 ∷ 19 ∷ replicate 22 0))
     -- 1.0 and 2.0; a NaN's pattern
-    ∷ entry (Resource 11 (of_nat 1) (of_nat 2)) 1 11 (0 ∷ 0x3FF00000 ∷ 0 ∷ 0x40000000 ∷ [])
-    ∷ entry (Resource 0 (of_nat 1) nan) 1 0 (0 ∷ 0x3FF00000 ∷ 0 ∷ 0x7FF80000 ∷ [])
-    ∷ entry (Slots 7 3 2) 2 7 (3 ∷ 2 ∷ 0 ∷ 0 ∷ [])
-    ∷ entry (WrongSlot 5) 3 5 (0 ∷ 0 ∷ 0 ∷ 0 ∷ [])
+    ∷ entry (Resource CargoBay (of_nat 1) (of_nat 2)) 1 11 (0 ∷ 0x3FF00000 ∷ 0 ∷ 0x40000000 ∷ [])
+    ∷ entry (Resource Cpu (of_nat 1) nan) 1 0 (0 ∷ 0x3FF00000 ∷ 0 ∷ 0x7FF80000 ∷ [])
+    ∷ entry (Slots Launcher 3 2) 2 7 (3 ∷ 2 ∷ 0 ∷ 0 ∷ [])
+    ∷ entry (WrongSlot Service) 3 5 (0 ∷ 0 ∷ 0 ∷ 0 ∷ [])
     ∷ entry NotAModule 4 0 (0 ∷ 0 ∷ 0 ∷ 0 ∷ [])
     ∷ entry NotADrone 5 0 (0 ∷ 0 ∷ 0 ∷ 0 ∷ [])
     ∷ entry NotAFighter 6 0 (0 ∷ 0 ∷ 0 ∷ 0 ∷ [])
@@ -41,7 +57,7 @@ ENTRIES =
     ∷ entry CapitalItem 14 0 (0 ∷ 0 ∷ 0 ∷ 0 ∷ [])
     ∷ entry StructureItem 15 0 (0 ∷ 0 ∷ 0 ∷ 0 ∷ [])
     ∷ entry ShipItem 16 0 (0 ∷ 0 ∷ 0 ∷ 0 ∷ [])
-    ∷ entry (MaxGroup (pos 50) 2 4 3) 17 2 (50 ∷ 4 ∷ 3 ∷ 0 ∷ [])
+    ∷ entry (MaxGroup (pos 50) Active 4 3) 17 2 (50 ∷ 4 ∷ 3 ∷ 0 ∷ [])
     -- -2 as 32 bits
     ∷ entry (MaxType (negsuc 1) 4 3) 18 0 (0xFFFFFFFE ∷ 4 ∷ 3 ∷ 0 ∷ [])
     ∷ entry NotAHull 19 0 (0 ∷ 0 ∷ 0 ∷ 0 ∷ [])
@@ -50,6 +66,30 @@ ENTRIES =
     ∷ entry (Banned (negsuc 1)) 24 0 (0xFFFFFFFE ∷ 0 ∷ 0 ∷ 0 ∷ [])
     ∷ entry (Points 7 5) 25 0 (7 ∷ 5 ∷ 0 ∷ 0 ∷ [])
     ∷ entry (UnknownType (negsuc 1)) 26 0 (0xFFFFFFFE ∷ 0 ∷ 0 ∷ 0 ∷ [])
+    -- the number of each resource, slot and limit
+    ∷ of_resource Cpu 0
+    ∷ of_resource Powergrid 1
+    ∷ of_resource Calibration 2
+    ∷ of_resource DroneBay 3
+    ∷ of_resource DroneBandwidth 4
+    ∷ of_resource LaunchedDrones 5
+    ∷ of_resource FighterBay 6
+    ∷ of_resource FighterTubes 7
+    ∷ of_resource LightFighterTubes 8
+    ∷ of_resource SupportFighterTubes 9
+    ∷ of_resource HeavyFighterTubes 10
+    ∷ of_resource CargoBay 11
+    ∷ of_slot High 0
+    ∷ of_slot Medium 1
+    ∷ of_slot Low 2
+    ∷ of_slot Rig 3
+    ∷ of_slot Subsystem 4
+    ∷ of_slot Service 5
+    ∷ of_slot Turret 6
+    ∷ of_slot Launcher 7
+    ∷ of_limit Fitted 0
+    ∷ of_limit Online 1
+    ∷ of_limit Active 2
     ∷ []
 
 -- ---- images

@@ -9,6 +9,9 @@ use Rattle.image.specs.Bytes.{bits32, le}
 use Rattle.floats.specs.Floats.{zero_f, of_nat, f64_bits}
 use Rattle.catalogue.specs.Catalogue.{Id, TypeData, Catalogue, catalogue_of}
 use Rattle.fit.specs.Fit.{Item, Result, Fit, all_results, fit_of}
+use Rattle.numbers.specs.declared.Resource.TheVariants.{DroneBay, CargoBay}
+use Rattle.numbers.specs.declared.SlotKind.TheVariants.{High}
+use Rattle.numbers.specs.declared.GroupLimit.TheVariants.{Fitted}
 use Rattle.entry.specs.declared.Entry.{Entry}
 use Rattle.entry.specs.declared.Rule.TheVariants.{Resource, Slots, NotAnImplant, SlotTaken, Skill, MaxGroup, MaxType, NotASkill, Banned, Points, UnknownType}
 use Rattle.entry.specs.Entries.{on_ship, on_item, entry_bytes}
@@ -136,12 +139,12 @@ NEW = fit_bytes new
 abbrev pub OLD_LIST : List Entry
 OLD_LIST =
     on_ship (NotASkill gunnery)
-    ∷ on_ship (Resource 11 (of_nat 4) (of_nat 1))
-    ∷ on_ship (Slots 0 2 1)
+    ∷ on_ship (Resource CargoBay (of_nat 4) (of_nat 1))
+    ∷ on_ship (Slots High 2 1)
     ∷ on_item 0 SlotTaken
     ∷ on_item 1 SlotTaken
     ∷ on_item 4 NotAnImplant
-    ∷ on_item 0 (MaxGroup (pos 50) 0 2 1)
+    ∷ on_item 0 (MaxGroup (pos 50) Fitted 2 1)
     ∷ on_item 0 (MaxType gun 2 1)
     ∷ []
 
@@ -149,13 +152,13 @@ OLD_LIST =
 abbrev pub NEW_LIST : List Entry
 NEW_LIST =
     on_ship (NotASkill gunnery)
-    ∷ on_ship (Resource 11 (fin false 13 (negsuc 0)) (of_nat 1))
-    ∷ on_ship (Slots 0 3 1)
+    ∷ on_ship (Resource CargoBay (fin false 13 (negsuc 0)) (of_nat 1))
+    ∷ on_ship (Slots High 3 1)
     ∷ on_item 0 SlotTaken
     ∷ on_item 1 SlotTaken
     ∷ on_item 4 NotAnImplant
-    ∷ on_item 0 (MaxGroup (pos 50) 0 3 1)
-    ∷ on_item 5 (MaxGroup (pos 50) 0 3 1)
+    ∷ on_item 0 (MaxGroup (pos 50) Fitted 3 1)
+    ∷ on_item 5 (MaxGroup (pos 50) Fitted 3 1)
     ∷ on_item 0 (MaxType gun 3 1)
     ∷ []
 
@@ -212,15 +215,15 @@ lightened = let scraps = stack 5 scrap Slots.cargo 0 0 [] in grown_by old old.le
 abbrev armed : Fit
 armed = let third = one gun Slots.high 1 [] in grown_by old old.levels (third.0 ∷ []) (third.1 ∷ [])
 
--- entries of which the last two are the hold's and a missing type's
-abbrev pub SORTS : List Entry
+-- entries of which the last two are the hold's and a missing type's; the second has the hold's sub under another rule
+abbrev pub SORTS : List (List ℕ)
 SORTS =
-    on_ship (Resource 3 (of_nat 4) (of_nat 1))
-    ∷ on_ship (Slots 11 3 1)
-    ∷ on_item 1 (Banned (pos 50))
-    ∷ on_ship (Points 6 5)
-    ∷ on_ship (Resource 11 (of_nat 4) (of_nat 1))
-    ∷ on_item 7 (UnknownType unknown)
+    entry_bytes (on_ship (Resource DroneBay (of_nat 4) (of_nat 1)))
+    ∷ (0 ∷ 2 ∷ 11 ∷ 0 ∷ words (0 ∷ 3 ∷ 1 ∷ 0 ∷ 0 ∷ []))
+    ∷ entry_bytes (on_item 1 (Banned (pos 50)))
+    ∷ entry_bytes (on_ship (Points 6 5))
+    ∷ entry_bytes (on_ship (Resource CargoBay (of_nat 4) (of_nat 1)))
+    ∷ entry_bytes (on_item 7 (UnknownType unknown))
     ∷ []
 
 abbrev pub LOADED : List ℕ
@@ -293,7 +296,7 @@ pub record HaulExample : Type 0 where
   pub volumes : AddedVolumes (catalogue_of CATALOGUE) (fit_of OLD) (fit_of LOADED)
   pub lightens : Hauled (fit_of OLD) (fit_of LIGHTENED)
   pub loaded_list : list_call main CATALOGUE LOADED ROOM
-      ≡ Listed ((on_ship (NotASkill gunnery) ∷ on_ship (Resource 11 (fin false 13 (negsuc 0)) (of_nat 1)) ∷ drop 2 OLD_LIST)
+      ≡ Listed ((on_ship (NotASkill gunnery) ∷ on_ship (Resource CargoBay (fin false 13 (negsuc 0)) (of_nat 1)) ∷ drop 2 OLD_LIST)
       ++ (on_item 4 (UnknownType lost) ∷ on_item 7 (UnknownType unknown) ∷ []))
   pub lightened_list : list_call main CATALOGUE LIGHTENED ROOM ≡ Listed ((on_ship (NotASkill gunnery) ∷ drop 2 OLD_LIST) ++ OLD_LAST)
   pub loaded_skills : skill_call main CATALOGUE LOADED 2 ROOM ≡ Listed (lacks 3)
@@ -304,13 +307,13 @@ pub record HaulExample : Type 0 where
   pub outside_points : outside_hold (outcome ROOM (list_call (read_by 0 PRICING) CATALOGUE LOADED ROOM))
       ≡ map entry_bytes (drop 2 OLD_LIST ++ (on_ship (Points 6 5) ∷ []))
   -- CargoBay and rule 26 are taken out of entries that a call might have left, and no other
-  pub kept : outside_hold (record { word = 6; buffer = each SORTS entry_bytes }) ≡ map entry_bytes (take 4 SORTS)
-  pub held : in_hold (outcome ROOM (list_call main CATALOGUE OLD ROOM)) ≡ entry_bytes (on_ship (Resource 11 (of_nat 4) (of_nat 1))) ∷ []
+  pub kept : outside_hold (record { word = 6; buffer = each SORTS λ e. e }) ≡ take 4 SORTS
+  pub held : in_hold (outcome ROOM (list_call main CATALOGUE OLD ROOM)) ≡ entry_bytes (on_ship (Resource CargoBay (of_nat 4) (of_nat 1))) ∷ []
   pub gone : in_hold (outcome ROOM (list_call main CATALOGUE LIGHTENED ROOM)) ≡ []
   pub armed_fit : fit_of ARMED ≡ armed
   pub armed_grows : Grown (fit_of OLD) (fit_of ARMED)
   pub armed_list : list_call main CATALOGUE ARMED ROOM
       ≡ Listed (take 2 OLD_LIST
-      ++ (on_ship (Slots 0 3 1) ∷ on_item 0 SlotTaken ∷ on_item 1 SlotTaken ∷ on_item 4 NotAnImplant ∷ [])
-      ++ (on_item 0 (MaxGroup (pos 50) 0 3 1) ∷ on_item 0 (MaxType gun 3 1) ∷ [])
+      ++ (on_ship (Slots High 3 1) ∷ on_item 0 SlotTaken ∷ on_item 1 SlotTaken ∷ on_item 4 NotAnImplant ∷ [])
+      ++ (on_item 0 (MaxGroup (pos 50) Fitted 3 1) ∷ on_item 0 (MaxType gun 3 1) ∷ [])
       ++ OLD_LAST)

@@ -3,6 +3,7 @@ use Rattle.std.specs.Prelude.{ℕ, ◌≡◌, Bool, not, ◌&&◌, ◌||◌, eqb
 use mathlib.Core.List.{List, Memᴰ}
 use Rattle.words.specs.Words.{only}
 use Rattle.numbers.specs.Slots as Slots
+use Rattle.numbers.specs.declared.Resource.TheVariants.{CargoBay}
 use Rattle.numbers.specs.Resources as Resources
 use Rattle.image.specs.Bytes.{u8_at}
 use Rattle.fit.specs.Fit.{Item, Fit}
@@ -17,7 +18,7 @@ pub record Hauled (old new : Fit) : Type 0 where
 
 -- an entry's bytes: CargoBay is rule 1 with sub 11
 abbrev pub is_cargo_bay : List ℕ → Bool
-is_cargo_bay e = eqb (u8_at e 1) 1 && eqb (u8_at e 2) Resources.cargo_bay
+is_cargo_bay e = eqb (u8_at e 1) 1 && eqb (u8_at e 2) (Resources.number CargoBay)
 
 -- all entries that a call left but CargoBay and rule 26
 abbrev pub outside_hold : Outcome → List (List ℕ)

@@ -6,6 +6,9 @@ use Rattle.std.specs.Float.Ieee.{of_int}
 use Rattle.words.specs.Words.{each, from}
 use Rattle.image.specs.Bytes.{u8_at}
 use Rattle.floats.specs.Floats.{of_nat}
+use Rattle.numbers.specs.declared.Resource.TheVariants.{Cpu, HeavyFighterTubes, CargoBay}
+use Rattle.numbers.specs.declared.SlotKind.TheVariants.{High, Medium, Low, Rig, Service, Launcher}
+use Rattle.numbers.specs.declared.GroupLimit.TheVariants.{Fitted, Online}
 use Rattle.entry.specs.declared.Rule.{Rule}
 use Rattle.entry.specs.declared.Rule.TheVariants.{Resource, Slots, WrongSlot, NotAModule, NotADrone, NotAFighter, NotAnImplant, SlotTaken}
 use Rattle.entry.specs.declared.Rule.TheVariants.{WrongSlotIndex, SubsystemTaken, Skill, RigSize, ShipRestricted, CapitalItem}
@@ -32,13 +35,13 @@ NoneKept l = (p : Lists) → Memᴰ p l → Kept (listed p.0) (listed p.1) → �
 -- ---- entries
 -- 2.0 used of 1.0; 3 of 2; 4 of 3, twice; skill 7 wanted at 5 and trained to 3
 abbrev load : List ℕ
-load = entry_bytes (on_ship (Resource 10 (of_nat 2) (of_nat 1)))
+load = entry_bytes (on_ship (Resource HeavyFighterTubes (of_nat 2) (of_nat 1)))
 
 abbrev rack : List ℕ
-rack = entry_bytes (on_ship (Slots 7 3 2))
+rack = entry_bytes (on_ship (Slots Launcher 3 2))
 
 abbrev of_group : List ℕ
-of_group = entry_bytes (on_item 258 (MaxGroup (pos 50) 1 4 3))
+of_group = entry_bytes (on_item 258 (MaxGroup (pos 50) Online 4 3))
 
 abbrev of_type : List ℕ
 of_type = entry_bytes (on_item 258 (MaxType (pos 60) 4 3))
@@ -58,7 +61,7 @@ abbrev OTHERS : List (List ℕ)
 OTHERS =
     taken
     ∷ map (λ r. entry_bytes (on_item 258 r))
-    (WrongSlot 5 ∷ NotAModule ∷ NotADrone ∷ NotAFighter ∷ NotAnImplant ∷ WrongSlotIndex 300 ∷ SubsystemTaken ∷ RigSize 1 2
+    (WrongSlot Service ∷ NotAModule ∷ NotADrone ∷ NotAFighter ∷ NotAnImplant ∷ WrongSlotIndex 300 ∷ SubsystemTaken ∷ RigSize 1 2
     ∷ ShipRestricted ∷ CapitalItem ∷ StructureItem ∷ ShipItem ∷ NotAHull ∷ NotAMode ∷ NotASkill (pos 7) ∷ Banned (pos 50)
     ∷ UnknownType (pos 99) ∷ [])
 
@@ -88,11 +91,11 @@ SAME =
 abbrev pub HIGHER : List Lists
 HIGHER =
     -- used numbers that are higher: Resource's as f64, so that -1 is higher than -2, and the two zeros are equal
-    on_the_ship (Resource 10 (of_nat 2) (of_nat 1)) (Resource 10 (of_nat 3) (of_nat 1))
-    ∷ on_the_ship (Resource 0 (minus 2) (minus 3)) (Resource 0 (minus 1) (minus 3))
-    ∷ on_the_ship (Resource 0 (of_nat 0) (minus 1)) (Resource 0 (fin true 0 (pos 0)) (minus 1))
-    ∷ on_the_ship (Slots 0 3 2) (Slots 0 256 2)
-    ∷ on_a_pair (MaxGroup (pos 50) 0 4 3) (MaxGroup (pos 50) 0 5 3)
+    on_the_ship (Resource HeavyFighterTubes (of_nat 2) (of_nat 1)) (Resource HeavyFighterTubes (of_nat 3) (of_nat 1))
+    ∷ on_the_ship (Resource Cpu (minus 2) (minus 3)) (Resource Cpu (minus 1) (minus 3))
+    ∷ on_the_ship (Resource Cpu (of_nat 0) (minus 1)) (Resource Cpu (fin true 0 (pos 0)) (minus 1))
+    ∷ on_the_ship (Slots High 3 2) (Slots High 256 2)
+    ∷ on_a_pair (MaxGroup (pos 50) Fitted 4 3) (MaxGroup (pos 50) Fitted 5 3)
     ∷ on_a_pair (MaxType (pos 60) 4 3) (MaxType (pos 60) 5 3)
     -- a trained level that is lower
     ∷ on_a_pair (Skill (pos 7) 5 3) (Skill (pos 7) 5 0)
@@ -118,11 +121,11 @@ GONE =
 abbrev pub LOWER : List Lists
 LOWER =
     -- used numbers that are lower; a NaN is neither
-    on_the_ship (Resource 10 (of_nat 3) (of_nat 1)) (Resource 10 (of_nat 2) (of_nat 1))
-    ∷ on_the_ship (Resource 0 (minus 1) (minus 3)) (Resource 0 (minus 2) (minus 3))
-    ∷ on_the_ship (Resource 10 (of_nat 2) (of_nat 1)) (Resource 10 nan (of_nat 1))
-    ∷ on_the_ship (Slots 0 256 2) (Slots 0 3 2)
-    ∷ on_a_pair (MaxGroup (pos 50) 0 5 3) (MaxGroup (pos 50) 0 4 3)
+    on_the_ship (Resource HeavyFighterTubes (of_nat 3) (of_nat 1)) (Resource HeavyFighterTubes (of_nat 2) (of_nat 1))
+    ∷ on_the_ship (Resource Cpu (minus 1) (minus 3)) (Resource Cpu (minus 2) (minus 3))
+    ∷ on_the_ship (Resource HeavyFighterTubes (of_nat 2) (of_nat 1)) (Resource HeavyFighterTubes nan (of_nat 1))
+    ∷ on_the_ship (Slots High 256 2) (Slots High 3 2)
+    ∷ on_a_pair (MaxGroup (pos 50) Fitted 5 3) (MaxGroup (pos 50) Fitted 4 3)
     ∷ on_a_pair (MaxType (pos 60) 5 3) (MaxType (pos 60) 4 3)
     -- a trained level that is higher
     ∷ on_a_pair (Skill (pos 7) 5 3) (Skill (pos 7) 5 4)
@@ -133,9 +136,9 @@ LOWER =
 abbrev pub OTHER_NUMBERS : List Lists
 OTHER_NUMBERS =
     -- what there is, or what is allowed, even beside a used number that is higher
-    on_the_ship (Resource 10 (of_nat 2) (of_nat 1)) (Resource 10 (of_nat 3) (of_nat 0))
-    ∷ on_the_ship (Slots 0 4 2) (Slots 0 5 3)
-    ∷ on_a_pair (MaxGroup (pos 50) 0 4 2) (MaxGroup (pos 50) 0 5 3)
+    on_the_ship (Resource HeavyFighterTubes (of_nat 2) (of_nat 1)) (Resource HeavyFighterTubes (of_nat 3) (of_nat 0))
+    ∷ on_the_ship (Slots High 4 2) (Slots High 5 3)
+    ∷ on_a_pair (MaxGroup (pos 50) Fitted 4 2) (MaxGroup (pos 50) Fitted 5 3)
     ∷ on_a_pair (MaxType (pos 60) 4 2) (MaxType (pos 60) 5 3)
     -- the wanted level, higher and lower
     ∷ on_a_pair (Skill (pos 7) 4 3) (Skill (pos 7) 5 3)
@@ -153,18 +156,18 @@ OTHER_ENTRIES =
     -- another target; another pair
     (entry_bytes (on_ship (Skill (pos 7) 5 3)) ∷ [], entry_bytes (on_item 0 (Skill (pos 7) 5 3)) ∷ [])
     ∷ (entry_bytes (on_item 2 SlotTaken) ∷ [], entry_bytes (on_item 3 SlotTaken) ∷ [])
-    ∷ (entry_bytes (on_item 2 (MaxGroup (pos 50) 0 4 3)) ∷ [], entry_bytes (on_item 258 (MaxGroup (pos 50) 0 4 3)) ∷ [])
+    ∷ (entry_bytes (on_item 2 (MaxGroup (pos 50) Fitted 4 3)) ∷ [], entry_bytes (on_item 258 (MaxGroup (pos 50) Fitted 4 3)) ∷ [])
     -- another rule with the same numbers
-    ∷ on_a_pair (MaxType (pos 60) 4 3) (MaxGroup (pos 60) 0 4 3)
+    ∷ on_a_pair (MaxType (pos 60) 4 3) (MaxGroup (pos 60) Fitted 4 3)
     ∷ on_a_pair NotADrone NotAFighter
     -- another resource, slot or limit
-    ∷ on_the_ship (Resource 10 (of_nat 2) (of_nat 1)) (Resource 11 (of_nat 2) (of_nat 1))
-    ∷ on_the_ship (Slots 0 3 2) (Slots 1 3 2)
-    ∷ on_a_pair (WrongSlot 2) (WrongSlot 3)
-    ∷ on_a_pair (MaxGroup (pos 50) 0 4 3) (MaxGroup (pos 50) 1 4 3)
+    ∷ on_the_ship (Resource HeavyFighterTubes (of_nat 2) (of_nat 1)) (Resource CargoBay (of_nat 2) (of_nat 1))
+    ∷ on_the_ship (Slots High 3 2) (Slots Medium 3 2)
+    ∷ on_a_pair (WrongSlot Low) (WrongSlot Rig)
+    ∷ on_a_pair (MaxGroup (pos 50) Fitted 4 3) (MaxGroup (pos 50) Online 4 3)
     -- another id: -50 is not 50
     ∷ on_a_pair (Skill (pos 7) 5 3) (Skill (pos 8) 5 3)
-    ∷ on_a_pair (MaxGroup (pos 50) 0 4 3) (MaxGroup (negsuc 49) 0 4 3)
+    ∷ on_a_pair (MaxGroup (pos 50) Fitted 4 3) (MaxGroup (negsuc 49) Fitted 4 3)
     ∷ on_a_pair (MaxType (pos 60) 4 3) (MaxType (pos 61) 4 3)
     ∷ on_the_ship (NotASkill (pos 7)) (NotASkill (pos 8))
     ∷ on_a_pair (Banned (pos 50)) (Banned (pos 51))

@@ -9,6 +9,8 @@ use Rattle.numbers.specs.Names.{fits_to_ship_type, can_fit_ship_group01, max_gro
 use Rattle.floats.specs.Floats.{of_nat}
 use Rattle.catalogue.specs.Catalogue.{Id, Name, Base, Catalogue}
 use Rattle.fit.specs.Fit.{Result, Fit}
+use Rattle.numbers.specs.declared.SlotKind.TheVariants.{Medium}
+use Rattle.numbers.specs.declared.GroupLimit.TheVariants.{Fitted}
 use Rattle.entry.specs.declared.Rule.TheVariants.{WrongSlot, NotAModule, Skill, ShipRestricted, MaxGroup, MaxType, NotAHull, NotASkill, UnknownType}
 use Rattle.entry.specs.Entries.{on_ship, on_item}
 use Rattle.lists.specs.Terms.{main}
@@ -428,7 +430,7 @@ ZEROS =
     ∷ (
       Fitted (nought 7 (named max_group_fitted))
           (fit ship [] (one (pos 0) 1 0 (has max_group_fitted (of_nat 1) ∷ []) ∷ one unknown 0 0 [] ∷ [])),
-      Entries (on_item 1 NotAModule ∷ on_item 0 (MaxGroup (pos 0) 0 2 1) ∷ on_item 1 (UnknownType unknown) ∷ []),
+      Entries (on_item 1 NotAModule ∷ on_item 0 (MaxGroup (pos 0) Fitted 2 1) ∷ on_item 1 (UnknownType unknown) ∷ []),
     )
     -- two of type 0; effect 0; attribute 0, whose name has that id
     ∷ (
@@ -436,7 +438,7 @@ ZEROS =
           (fit ship [] (one (pos 0) 1 0 (has max_type_fitted (of_nat 1) ∷ []) ∷ one (pos 0) 1 1 [] ∷ [])),
       Entries (on_item 0 (MaxType (pos 0) 2 1) ∷ []),
     )
-    ∷ (Fitted (nought 7 []) (fit ship [] (one (pos 0) 0 0 [] ∷ [])), Entries (on_item 0 (WrongSlot 1) ∷ []))
+    ∷ (Fitted (nought 7 []) (fit ship [] (one (pos 0) 0 0 [] ∷ [])), Entries (on_item 0 (WrongSlot Medium) ∷ []))
     ∷ (
       Fitted (nought 7 (record { number = max_type_fitted; id = pos 0 } ∷ []))
           (fit ship [] (one gun 0 0 (record { id = pos 0; value = of_nat 0 } ∷ []) ∷ [])),

@@ -11,6 +11,12 @@ use Rattle.numbers.specs.Names.{fighter_squadron_is_standup_heavy, max_group_fit
 use Rattle.floats.specs.Floats.{zero_f, of_nat}
 use Rattle.catalogue.specs.Catalogue.{Id, Catalogue}
 use Rattle.fit.specs.Fit.{Attribute, Fit}
+use Rattle.numbers.specs.declared.Resource.{Resource as Kind}
+use Rattle.numbers.specs.declared.Resource.TheVariants.{Cpu, Powergrid, Calibration, DroneBay, DroneBandwidth, LaunchedDrones}
+use Rattle.numbers.specs.declared.Resource.TheVariants.{FighterBay, FighterTubes, LightFighterTubes, SupportFighterTubes, HeavyFighterTubes, CargoBay}
+use Rattle.numbers.specs.declared.SlotKind.{SlotKind}
+use Rattle.numbers.specs.declared.SlotKind.TheVariants.{High, Medium, Low, Rig, Subsystem, Service, Turret, Launcher}
+use Rattle.numbers.specs.declared.GroupLimit.TheVariants.{Fitted, Online, Active}
 use Rattle.entry.specs.declared.Entry.{Entry}
 use Rattle.entry.specs.declared.Rule.TheVariants.{Resource, Slots, WrongSlot, NotAModule, NotADrone, NotAFighter, NotAnImplant, SlotTaken}
 use Rattle.entry.specs.declared.Rule.TheVariants.{WrongSlotIndex, SubsystemTaken, RigSize, ShipRestricted, CapitalItem, StructureItem}
@@ -129,28 +135,28 @@ unloaded = record {
   results = [];
 }
 
-abbrev uses : ℕ → ℕ → ℕ → Entry
+abbrev uses : Kind → ℕ → ℕ → Entry
 uses kind used available = on_ship (Resource kind (of_nat used) (of_nat available))
 
 abbrev pub RESOURCES : List Case
 RESOURCES =
     -- `LOADS`, each resource with its own load and output
     lists (from 0 20) (fit ship (loads_of 20 10) [])
-    (uses 0 20 10 ∷ uses 1 21 11 ∷ uses 2 22 12 ∷ uses 3 23 13 ∷ uses 4 24 14 ∷ uses 6 25 15 ∷ uses 7 26 16 ∷ uses 8 27 17 ∷ uses 9 28 18 ∷ uses 10 29 19 ∷ [])
+    (uses Cpu 20 10 ∷ uses Powergrid 21 11 ∷ uses Calibration 22 12 ∷ uses DroneBay 23 13 ∷ uses DroneBandwidth 24 14 ∷ uses FighterBay 25 15 ∷ uses FighterTubes 26 16 ∷ uses LightFighterTubes 27 17 ∷ uses SupportFighterTubes 28 18 ∷ uses HeavyFighterTubes 29 19 ∷ [])
     ∷ lists (from 0 20) (fit ship (loads_of 20 20) []) []
     -- an amount that is not there is 0; a name without an id skips its line
-    ∷ lists (from 0 2) (fit ship (has cpu_load (of_nat 5) ∷ []) []) (uses 0 5 0 ∷ [])
+    ∷ lists (from 0 2) (fit ship (has cpu_load (of_nat 5) ∷ []) []) (uses Cpu 5 0 ∷ [])
     ∷ lists (from 0 1) (fit ship (has cpu_load (of_nat 5) ∷ []) []) []
     -- `launched_drones`: DroneBay at state 2 or above, against the character's limit
-    ∷ lists (max_active_drones ∷ []) (fit_with ship (has max_active_drones (of_nat 100) ∷ []) (has max_active_drones (of_nat 4) ∷ []) drones) (uses 5 5 4 ∷ [])
+    ∷ lists (max_active_drones ∷ []) (fit_with ship (has max_active_drones (of_nat 100) ∷ []) (has max_active_drones (of_nat 4) ∷ []) drones) (uses LaunchedDrones 5 4 ∷ [])
     ∷ lists (max_active_drones ∷ []) (fit_with ship [] (has max_active_drones (of_nat 5) ∷ []) drones) []
     ∷ lists [] (fit ship [] drones) []
     -- a squadron in a tube is no drone
     ∷ lists (max_active_drones ∷ []) (fit ship [] (alone (stack 3 squadron 6 0 2 []))) []
     -- added up without loss: 2 ^ 32, and 2 ^ 40 - 256
-    ∷ led (of_nat 5) hangar (on_ship (Resource 5 (fin false 1 (pos 32)) (of_nat 5)) ∷ [])
-    ∷ led (of_nat 4294967291) hangar (on_ship (Resource 5 (fin false 1 (pos 32)) (of_nat 4294967291)) ∷ [])
-    ∷ led (of_nat 5) full_hangar (on_ship (Resource 5 (fin false 4294967295 (pos 8)) (of_nat 5)) ∷ [])
+    ∷ led (of_nat 5) hangar (on_ship (Resource LaunchedDrones (fin false 1 (pos 32)) (of_nat 5)) ∷ [])
+    ∷ led (of_nat 4294967291) hangar (on_ship (Resource LaunchedDrones (fin false 1 (pos 32)) (of_nat 4294967291)) ∷ [])
+    ∷ led (of_nat 5) full_hangar (on_ship (Resource LaunchedDrones (fin false 4294967295 (pos 8)) (of_nat 5)) ∷ [])
     -- within the slack of the limit, below a limit that is larger, and no limit to be over
     ∷ led (of_nat 4294967292) hangar []
     ∷ led (fin false 4294967295 (pos 8)) full_hangar []
@@ -158,19 +164,19 @@ RESOURCES =
     ∷ led (inf true) hangar []
     ∷ led nan hangar []
     -- `cargo`: volume times quantity, of the hold alone; no volume is 0
-    ∷ lists (capacity ∷ []) (fit ship (has capacity (of_nat 7) ∷ []) hold) (on_ship (Resource 11 (halves 15) (of_nat 7)) ∷ unheld)
+    ∷ lists (capacity ∷ []) (fit ship (has capacity (of_nat 7) ∷ []) hold) (on_ship (Resource CargoBay (halves 15) (of_nat 7)) ∷ unheld)
     ∷ lists (capacity ∷ []) (fit ship (has capacity (halves 15) ∷ []) hold) unheld
     ∷ lists (capacity ∷ []) (fit ship [] (alone (one ore 0 0 []))) (on_item 0 NotAModule ∷ [])
     ∷ lists [] (fit ship [] hold) unheld
     ∷ lists (capacity ∷ []) unloaded []
     -- summed in the items' order: each 1 is lost behind 2 ^ 53, and would not be before it
-    ∷ lists (capacity ∷ []) (fit ship [] (one vast 11 0 [] ∷ one parcel 11 0 [] ∷ one parcel 11 0 [] ∷ [])) (on_ship (Resource 11 (fin false 1 (pos 53)) (of_nat 0)) ∷ [])
-    ∷ lists (capacity ∷ []) (fit ship [] (one parcel 11 0 [] ∷ one parcel 11 0 [] ∷ one vast 11 0 [] ∷ [])) (on_ship (Resource 11 (fin false 4503599627370497 (pos 1)) (of_nat 0)) ∷ [])
+    ∷ lists (capacity ∷ []) (fit ship [] (one vast 11 0 [] ∷ one parcel 11 0 [] ∷ one parcel 11 0 [] ∷ [])) (on_ship (Resource CargoBay (fin false 1 (pos 53)) (of_nat 0)) ∷ [])
+    ∷ lists (capacity ∷ []) (fit ship [] (one parcel 11 0 [] ∷ one parcel 11 0 [] ∷ one vast 11 0 [] ∷ [])) (on_ship (Resource CargoBay (fin false 4503599627370497 (pos 1)) (of_nat 0)) ∷ [])
     -- product and sum are rounded each for itself: together they would give one less in the last bit
     ∷ (
       Fitted (hauled (of_bits binary32 0x3C2C5998) (of_bits binary32 0x3DA649C1))
           (fit ship [] (stack 2755385480 (pos 2) 11 0 0 [] ∷ stack 3520945500 (pos 3) 11 0 0 [] ∷ [])),
-      Entries (on_ship (Resource 11 (of_bits binary64 0x41B2C486DB5A132F) (of_nat 0)) ∷ []),
+      Entries (on_ship (Resource CargoBay (of_bits binary64 0x41B2C486DB5A132F) (of_nat 0)) ∷ []),
     )
     -- `over`: so is its limit; with one rounding the first would not be over, with it or with 1e-9 as an f32 the second would be
     ∷ (Over (of_bits binary64 0x40882C9BA8EE64DF) (of_bits binary64 0x40882C9BA8869100), Holds true)
@@ -209,37 +215,37 @@ marked mark = record {
 }
 
 -- the gun in a rack, where that is another one than its mark says
-abbrev misplaced : (mark slot expected : ℕ) → Case
+abbrev misplaced : (mark slot : ℕ) (expected : SlotKind) → Case
 misplaced mark slot expected = (Fitted (marked mark) (fit ship [] (alone (one gun slot 0 []))), Entries (on_item 0 (WrongSlot expected) ∷ []))
 
 abbrev pub SLOTS : List Case
 SLOTS =
     -- `RACKS`: more than the ship's amount, which is cast; one that is not there is 0
     lists (from hi_slots 6) (fit ship (room (halves 3)) doubled)
-    (on_ship (Slots 0 2 1) ∷ on_ship (Slots 1 2 1) ∷ on_ship (Slots 2 2 1) ∷ on_ship (Slots 3 2 1) ∷ on_ship (Slots 4 2 1) ∷ on_ship (Slots 5 2 1) ∷ [])
+    (on_ship (Slots High 2 1) ∷ on_ship (Slots Medium 2 1) ∷ on_ship (Slots Low 2 1) ∷ on_ship (Slots Rig 2 1) ∷ on_ship (Slots Subsystem 2 1) ∷ on_ship (Slots Service 2 1) ∷ [])
     ∷ lists (from hi_slots 6) (fit ship (room (of_nat 2)) doubled) []
-    ∷ lists (hi_slots ∷ []) (fit ship [] (alone (one gun 0 0 []))) (on_ship (Slots 0 1 0) ∷ [])
+    ∷ lists (hi_slots ∷ []) (fit ship [] (alone (one gun 0 0 []))) (on_ship (Slots High 1 0) ∷ [])
     ∷ lists [] (fit ship [] doubled) []
     -- `HARDPOINTS`: of what is fitted
     ∷ lists (turret_slots_left ∷ launcher_slots_left ∷ []) (fit ship (has turret_slots_left (of_nat 1) ∷ has launcher_slots_left (of_nat 1) ∷ []) weapons)
-    (on_ship (Slots 6 2 1) ∷ [])
-    ∷ lists (turret_slots_left ∷ launcher_slots_left ∷ []) (fit ship (has turret_slots_left (of_nat 2) ∷ []) weapons) (on_ship (Slots 7 1 0) ∷ [])
+    (on_ship (Slots Turret 2 1) ∷ [])
+    ∷ lists (turret_slots_left ∷ launcher_slots_left ∷ []) (fit ship (has turret_slots_left (of_nat 2) ∷ []) weapons) (on_ship (Slots Launcher 1 0) ∷ [])
     ∷ lists (turret_slots_left ∷ launcher_slots_left ∷ []) (fit ship (has turret_slots_left (of_nat 2) ∷ has launcher_slots_left (of_nat 1) ∷ []) weapons) []
     -- of two marks the last wins
-    ∷ lists (turret_slots_left ∷ launcher_slots_left ∷ []) (fit ship [] (alone (one hybrid 0 0 []))) (on_ship (Slots 7 1 0) ∷ [])
+    ∷ lists (turret_slots_left ∷ launcher_slots_left ∷ []) (fit ship [] (alone (one hybrid 0 0 []))) (on_ship (Slots Launcher 1 0) ∷ [])
     -- WrongSlot: a fitted item in another rack than the last of its marks says
-    ∷ lists [] (fit ship [] (alone (one shield 0 0 []))) (on_item 0 (WrongSlot 1) ∷ [])
+    ∷ lists [] (fit ship [] (alone (one shield 0 0 []))) (on_item 0 (WrongSlot Medium) ∷ [])
     ∷ lists [] (fit ship [] (alone (one shield 1 0 []))) []
     ∷ lists [] (fit ship [] (alone (one shield 11 0 []))) []
-    ∷ lists [] (fit ship [] (alone (one relay 0 0 []))) (on_item 0 (WrongSlot 2) ∷ [])
+    ∷ lists [] (fit ship [] (alone (one relay 0 0 []))) (on_item 0 (WrongSlot Low) ∷ [])
     ∷ lists [] (fit ship [] (alone (one relay 2 0 []))) []
     -- each mark of a rack is that of its own; 0, 7 and 8 are of none
-    ∷ misplaced 1 5 0
-    ∷ misplaced 2 0 1
-    ∷ misplaced 3 1 2
-    ∷ misplaced 4 2 3
-    ∷ misplaced 5 3 4
-    ∷ misplaced 6 4 5
+    ∷ misplaced 1 5 High
+    ∷ misplaced 2 0 Medium
+    ∷ misplaced 3 1 Low
+    ∷ misplaced 4 2 Rig
+    ∷ misplaced 5 3 Subsystem
+    ∷ misplaced 6 4 Service
     ∷ (Fitted (marked 0) (fit ship [] (alone (one gun 5 0 []))), Entries [])
     ∷ (Fitted (marked 7) (fit ship [] (alone (one gun 5 0 []))), Entries [])
     ∷ (Fitted (marked 8) (fit ship [] (alone (one gun 5 0 []))), Entries [])
@@ -362,23 +368,23 @@ ITEMS =
     -- MaxGroup: fitted, online, active; each pair by its own limit; limit by limit, then pair by pair
     ∷ lists (from max_group_fitted 3)
     (fit ship [] (in_state 0 1 (has max_group_fitted (of_nat 1) ∷ []) ∷ in_state 1 0 [] ∷ one plate 1 0 [] ∷ one gun 11 0 [] ∷ []))
-    (on_item 0 (MaxGroup (pos 50) 0 2 1) ∷ [])
+    (on_item 0 (MaxGroup (pos 50) Fitted 2 1) ∷ [])
     ∷ lists (from max_group_fitted 3) (fit ship [] (pair (in_state 0 1 (has max_group_online (of_nat 0) ∷ [])) (in_state 1 0 [])))
-    (on_item 0 (MaxGroup (pos 50) 1 1 0) ∷ [])
+    (on_item 0 (MaxGroup (pos 50) Online 1 0) ∷ [])
     ∷ lists (from max_group_fitted 3) (fit ship [] (in_state 0 2 (has max_group_active (of_nat 1) ∷ []) ∷ in_state 1 3 [] ∷ in_state 2 1 [] ∷ []))
-    (on_item 0 (MaxGroup (pos 50) 2 2 1) ∷ [])
+    (on_item 0 (MaxGroup (pos 50) Active 2 1) ∷ [])
     ∷ lists (from max_group_fitted 3)
     (fit ship [] (pair (in_state 0 1 (has max_group_fitted (of_nat 1) ∷ has max_group_online (of_nat 0) ∷ [])) (in_state 1 1 (has max_group_fitted (halves 1) ∷ []))))
-    (on_item 0 (MaxGroup (pos 50) 0 2 1) ∷ on_item 1 (MaxGroup (pos 50) 0 2 0) ∷ on_item 0 (MaxGroup (pos 50) 1 2 0) ∷ [])
+    (on_item 0 (MaxGroup (pos 50) Fitted 2 1) ∷ on_item 1 (MaxGroup (pos 50) Fitted 2 0) ∷ on_item 0 (MaxGroup (pos 50) Online 2 0) ∷ [])
     ∷ lists (from max_group_fitted 3) (fit ship [] (pair (in_state 0 1 (has max_group_fitted (of_nat 2) ∷ [])) (in_state 1 1 []))) []
     ∷ lists (from max_group_fitted 3) (fit ship [] (alone (one gun 11 0 (has max_group_fitted (of_nat 0) ∷ [])))) []
     -- two types of one group count together; a pair that is not counted itself; a type that is not there is of group 0
     ∷ lists (from max_group_fitted 3) (fit ship [] (pair (in_state 0 1 (has max_group_fitted (of_nat 1) ∷ [])) (one rifle 0 1 [])))
-    (on_item 0 (MaxGroup (pos 50) 0 2 1) ∷ [])
+    (on_item 0 (MaxGroup (pos 50) Fitted 2 1) ∷ [])
     ∷ lists (from max_group_fitted 3) (fit ship [] (pair (in_state 0 1 (has max_group_active (of_nat 0) ∷ [])) (in_state 1 2 [])))
-    (on_item 0 (MaxGroup (pos 50) 2 1 0) ∷ [])
+    (on_item 0 (MaxGroup (pos 50) Active 1 0) ∷ [])
     ∷ lists (from max_group_fitted 3) (fit ship [] (alone (one unknown 0 0 (has max_group_fitted (of_nat 0) ∷ []))))
-    (on_item 0 NotAModule ∷ on_item 0 (MaxGroup (pos 0) 0 1 0) ∷ on_item 0 (UnknownType unknown) ∷ [])
+    (on_item 0 NotAModule ∷ on_item 0 (MaxGroup (pos 0) Fitted 1 0) ∷ on_item 0 (UnknownType unknown) ∷ [])
     ∷ lists [] (fit ship [] (alone (in_state 0 1 (has max_group_fitted (of_nat 0) ∷ [])))) []
     -- MaxType: fitted, of the same type
     ∷ lists (max_type_fitted ∷ [])
@@ -402,7 +408,7 @@ crowded others v =
 abbrev allows_none : Float → Case
 allows_none v =
     lists (hi_slots ∷ max_group_fitted ∷ max_type_fitted ∷ []) (crowded 0 v)
-    (on_ship (Slots 0 1 0) ∷ on_item 0 (MaxGroup (pos 50) 0 1 0) ∷ on_item 0 (MaxType gun 1 0) ∷ [])
+    (on_ship (Slots High 1 0) ∷ on_item 0 (MaxGroup (pos 50) Fitted 1 0) ∷ on_item 0 (MaxType gun 1 0) ∷ [])
 
 -- where it is large enough
 abbrev allows_one : Float → Case
@@ -417,7 +423,7 @@ CROWDS =
     -- 256 pairs, which 8 bits do not count
     lists (hi_slots ∷ max_group_fitted ∷ max_type_fitted ∷ []) (crowded 255 (of_nat 256)) crammed
     ∷ lists (hi_slots ∷ max_group_fitted ∷ max_type_fitted ∷ []) (crowded 255 (of_nat 255))
-    (on_ship (Slots 0 256 255) ∷ crammed ++ (on_item 0 (MaxGroup (pos 50) 0 256 255) ∷ on_item 0 (MaxType gun 256 255) ∷ []))
+    (on_ship (Slots High 256 255) ∷ crammed ++ (on_item 0 (MaxGroup (pos 50) Fitted 256 255) ∷ on_item 0 (MaxType gun 256 255) ∷ []))
     -- amounts whose lowest 8, 16 and 32 bits are 0, and the ends of u32
     ∷ allows_one (of_nat 256)
     ∷ allows_one (of_nat 65536)
@@ -487,12 +493,12 @@ abbrev pub ORDER : List Case
 ORDER =
     lists (from 0 88) broken
     (on_ship NotAMode ∷ on_ship (NotASkill gun)
-    ∷ uses 0 5 0 ∷ uses 5 2 1 ∷ uses 11 5 0
-    ∷ on_ship (Slots 0 3 0) ∷ on_ship (Slots 3 1 0) ∷ on_ship (Slots 4 2 0) ∷ on_ship (Slots 5 1 0)
-    ∷ on_ship (Slots 6 1 0)
+    ∷ uses Cpu 5 0 ∷ uses LaunchedDrones 2 1 ∷ uses CargoBay 5 0
+    ∷ on_ship (Slots High 3 0) ∷ on_ship (Slots Rig 1 0) ∷ on_ship (Slots Subsystem 2 0) ∷ on_ship (Slots Service 1 0)
+    ∷ on_ship (Slots Turret 1 0)
     ∷ on_item 0 SlotTaken
     ∷ on_item 1 SlotTaken
-    ∷ on_item 2 (WrongSlot 1)
+    ∷ on_item 2 (WrongSlot Medium)
     ∷ on_item 5 NotAnImplant ∷ on_item 5 (WrongSlotIndex 4)
     ∷ on_item 6 SubsystemTaken
     ∷ on_item 7 SubsystemTaken
@@ -503,11 +509,11 @@ ORDER =
     ∷ on_item 0 ShipRestricted
     ∷ on_item 0 CapitalItem
     ∷ on_item 8 StructureItem
-    ∷ on_item 0 (MaxGroup (pos 50) 0 1 0) ∷ on_item 0 (MaxGroup (pos 50) 1 1 0) ∷ on_item 0 (MaxGroup (pos 50) 2 1 0)
+    ∷ on_item 0 (MaxGroup (pos 50) Fitted 1 0) ∷ on_item 0 (MaxGroup (pos 50) Online 1 0) ∷ on_item 0 (MaxGroup (pos 50) Active 1 0)
     ∷ on_item 0 (MaxType gun 1 0) ∷ [])
     -- pairs that fail several of the eight checks
     ∷ lists (from implantness 3) (fit ship [] (pair (one ore 9 1 (has boosterness (of_nat 2) ∷ [])) (one ore 9 1 [])))
     (on_item 0 NotAnImplant ∷ on_item 0 SlotTaken ∷ on_item 0 (WrongSlotIndex 2) ∷ on_item 1 NotAnImplant ∷ on_item 1 SlotTaken ∷ [])
     ∷ lists (sub_system_slot ∷ []) (fit ship [] (pair (one shield 4 0 (has sub_system_slot (of_nat 1) ∷ [])) (one drone 4 0 (has sub_system_slot (of_nat 1) ∷ []))))
-    (on_item 0 (WrongSlot 1) ∷ on_item 0 SlotTaken ∷ on_item 0 SubsystemTaken ∷ on_item 1 NotAModule ∷ on_item 1 SlotTaken ∷ on_item 1 SubsystemTaken ∷ [])
+    (on_item 0 (WrongSlot Medium) ∷ on_item 0 SlotTaken ∷ on_item 0 SubsystemTaken ∷ on_item 1 NotAModule ∷ on_item 1 SlotTaken ∷ on_item 1 SubsystemTaken ∷ [])
     ∷ []

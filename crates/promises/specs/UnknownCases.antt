@@ -2,6 +2,7 @@
 use Rattle.std.specs.Prelude.{ℕ, ◌*◌, List, [], ◌∷◌, ◌++◌, map, pos, negsuc, replicate}
 use Rattle.catalogue.specs.Catalogue.{Id, Link, Catalogue}
 use Rattle.fit.specs.Fit.{Fit}
+use Rattle.numbers.specs.declared.SlotKind.TheVariants.{Medium}
 use Rattle.entry.specs.declared.Entry.{Entry}
 use Rattle.entry.specs.declared.Rule.TheVariants.{WrongSlot, NotAModule, NotADrone, NotAFighter, NotAnImplant, SlotTaken, NotAHull, NotAMode}
 use Rattle.entry.specs.declared.Rule.TheVariants.{NotASkill, Banned, Points, UnknownType}
@@ -89,7 +90,7 @@ UNKNOWNS =
     -- its links stand by its id: marked for a Medium slot, and unknown all the same
     ∷ (
       Fitted (plain (record { type = unknown; effect = pos 202 } ∷ [])) (fit ship [] (one unknown 0 0 [] ∷ [])),
-      Entries (on_item 0 (WrongSlot 1) ∷ on_item 0 NotAModule ∷ on_item 0 (UnknownType unknown) ∷ []),
+      Entries (on_item 0 (WrongSlot Medium) ∷ on_item 0 NotAModule ∷ on_item 0 (UnknownType unknown) ∷ []),
     )
     -- behind all else of every pair
     ∷ lists (one unknown 0 0 [] ∷ one gun 0 0 [] ∷ [])

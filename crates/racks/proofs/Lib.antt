@@ -1,4 +1,3 @@
--- Laws of racks and hardpoints: the tables' rows, the test of a hardpoint, and what is reported.
-pub mod Rows
+-- Laws of racks and hardpoints: the test of a hardpoint, and what is reported.
 pub mod Taking
 pub mod Reports

@@ -1,8 +1,10 @@
 -- validate/slot.rs, the racks and the hardpoints of a ship: `RACKS`, `HARDPOINTS`, their two loops and `report`.
-use Rattle.std.specs.Prelude.{ℕ, Bool, true, false, ◌&&◌, List, [], ◌∷◌, ◌++◌, eqb, get_or}
+use Rattle.std.specs.Prelude.{ℕ, Bool, true, false, ◌&&◌, List, [], ◌∷◌, ◌++◌, eqb}
 use Rattle.words.specs.Words.{◌>>=◌, each, when_above, count_of, given}
 use Rattle.numbers.specs.Names as Names
-use Rattle.numbers.specs.Slots as Slots
+use Rattle.numbers.specs.declared.SlotKind.{SlotKind}
+use Rattle.numbers.specs.declared.SlotKind.TheVariants.{High, Medium, Low, Rig, Subsystem, Service, Turret, Launcher}
+use Rattle.numbers.specs.Slots.{number}
 use Rattle.floats.specs.Floats.{to_u}
 use Rattle.catalogue.specs.Lookups.{name_id}
 use Rattle.fit.specs.Lookups.{amount}
@@ -12,28 +14,24 @@ use Rattle.entry.specs.Entries.{on_ship}
 use Rattle.context.specs.Context.{Pair, Context, is_fitted, is_in}
 
 -- a slot, the name of the ship's number of them
-abbrev pub RACKS : List (ℕ × ℕ)
+abbrev pub RACKS : List (SlotKind × ℕ)
 RACKS =
-    (Slots.high, Names.hi_slots)
-    ∷ (Slots.medium, Names.med_slots)
-    ∷ (Slots.low, Names.low_slots)
-    ∷ (Slots.rig, Names.rig_slots)
-    ∷ (Slots.subsystem, Names.max_sub_systems)
-    ∷ (Slots.service, Names.service_slots)
+    (High, Names.hi_slots)
+    ∷ (Medium, Names.med_slots)
+    ∷ (Low, Names.low_slots)
+    ∷ (Rig, Names.rig_slots)
+    ∷ (Subsystem, Names.max_sub_systems)
+    ∷ (Service, Names.service_slots)
     ∷ []
 
-abbrev pub HARDPOINTS : List (ℕ × ℕ)
-HARDPOINTS = (Slots.turret, Names.turret_slots_left) ∷ (Slots.launcher, Names.launcher_slots_left) ∷ []
+abbrev pub HARDPOINTS : List (SlotKind × ℕ)
+HARDPOINTS = (Turret, Names.turret_slots_left) ∷ (Launcher, Names.launcher_slots_left) ∷ []
 
--- row i of a table
-abbrev pub row_at : List (ℕ × ℕ) → ℕ → ℕ × ℕ
-row_at rows i = get_or rows i (0, 0)
-
-unfoldable pub takes_hardpoint : ℕ → Pair → Bool
-takes_hardpoint slot p = is_fitted p && given p.hardpoint false (λ h. eqb h slot)
+unfoldable pub takes_hardpoint : SlotKind → Pair → Bool
+takes_hardpoint slot p = is_fitted p && given p.hardpoint false (λ h. eqb h (number slot))
 
 -- `report`: more items in a rack or on a hardpoint than the ship has of them
-unfoldable pub slots : Context → ℕ → ℕ → ℕ → List Entry
+unfoldable pub slots : Context → SlotKind → ℕ → ℕ → List Entry
 slots x slot name used = do
   id ← name_id x.names name
   let available = to_u 32 (amount x.ship_result id) in
@@ -41,14 +39,14 @@ slots x slot name used = do
 
 module _ (x : Context) (ps : List Pair) where
   -- what is reported of one rack
-  abbrev pub in_rack : ℕ × ℕ → List Entry
-  in_rack row = slots x row.0 row.1 (count_of (is_in row.0) ps)
+  abbrev pub in_rack : SlotKind × ℕ → List Entry
+  in_rack row = slots x row.0 row.1 (count_of (is_in (number row.0)) ps)
 
   unfoldable pub racks : List Entry
   racks = each RACKS in_rack
 
   -- what is reported of one kind of hardpoint
-  abbrev pub on_hardpoint : ℕ × ℕ → List Entry
+  abbrev pub on_hardpoint : SlotKind × ℕ → List Entry
   on_hardpoint row = slots x row.0 row.1 (count_of (takes_hardpoint row.0) ps)
 
   unfoldable pub hardpoints : List Entry

@@ -1,77 +1,42 @@
 // Runs document 01's example of each refusal from 1 to 6, and both sides of every limit: the rows of data/catalogues.txt and of
 // data/fits.txt, each a name and the image that it stands for.
 // The file `stdout` was worked out from the document: each line says in words what the image is, and behind it stands the number that
-// the document's row of that case gives, or 0 where none does. One limit, 16,777,216 bytes, does not fit a program's stack: the
-// comparison with the original runs it.
+// the document's row of that case gives, or 0 where none does. One limit, 16,777,216 bytes, is left to the comparison with the original.
 #![tactic(auto)]
 
 mod drawing;
 
-ghost use Rattle.std.specs.Prelude.{◌≡◌, length};
+use anyhow::Result;
+use numbers::refusals::Refusal;
+use std::fs;
 
-use std::rt::Files;
-use std::{fs, io};
-
-// The longest image of a row is a fit of 30,001 attributes.
-fn zeros() -> [u8; 360400]
-    ensures { 360400 ≡ length result }
+// A line for each row: its name, and the number that its image is refused with, or 0. A line of the file without a colon is a comment.
+fn say_file<F>(rt: &HostRuntime, path: &str, check: F) -> Result<()>
+where
+    F: Fn(&[u8]) -> std::result::Result<(), Refusal>,
+    requires { F.IsAlwaysCallable check }
 {
-    [0; 360400]
-}
-
-// The number of a row's image, or 9, which no image has, where the image is longer than the longest.
-fn number_of(row: &[u8], is_fit: bool) -> u64 {
-    let mut bytes = zeros();
-    drawing::draw(row, &mut bytes);
-    let n = drawing::first_number(row);
-    if 360400 < n {
-        return 9;
-    }
-    let whole = image::part(&bytes, 0, n);
-    if is_fit {
-        return fit_refusals::number(whole);
-    }
-    catalogue_refusals::number(whole)
-}
-
-// A line without a colon is a comment.
-fn say(rt: &impl Print, line: &[u8], is_fit: bool) -> io::Result<()> {
-    let colon = drawing::find(line, 0, b':');
-    if colon == line.len() {
-        return Ok(());
-    }
-    let after = colon + 1;
-    let row = image::part(line, after, line.len() - after);
-    rt.write_all(image::part(line, 0, colon))?;
-    let number = number_of(row, is_fit);
-    println!(rt; ": {number}")
-}
-
-fn say_lines(rt: &impl Print, b: &[u8], is_fit: bool) -> io::Result<()> {
-    let mut at: usize = 0;
-    while at < b.len() {
-        let end = drawing::find(b, at, b'\n');
-        say(rt, image::part(b, at, end - at), is_fit)?;
-        if end == b.len() {
+    let text = match fs::read_to_string(rt, path) {
+        Ok(text) => text,
+        Err(e) => {
+            eprintln!(rt; "{path}: {e}")?;
             return Ok(());
         }
-        at = end + 1;
+    };
+    for line in text.lines() {
+        if let Some((name, row)) = line.split_once(':') {
+            let image = drawing::draw(rt.alloc(), row)?;
+            let number = match check(&image) {
+                Ok(()) => 0,
+                Err(refusal) => refusal.number(),
+            };
+            println!(rt; "{name}: {number}")?;
+        }
     }
     Ok(())
 }
 
-fn say_file(rt: &(impl Files + Print + Eprint), path: &str, is_fit: bool) -> io::Result<()> {
-    let mut bytes = [0u8; 65536];
-    match fs::open(rt, path) {
-        Ok(mut file) => {
-            let n = program::fill(&mut file, &mut bytes);
-            say_lines(rt, &bytes[..n], is_fit)
-        }
-        Err(e) => eprintln!(rt; "{path}: {e}"),
-    }
-}
-
-fn main(rt: HostRuntime) -> io::Result<()> {
-    say_file(&rt, "catalogues.txt", false)?;
-    say_file(&rt, "fits.txt", true)
+fn main(rt: HostRuntime) -> Result<()> {
+    say_file(&rt, "catalogues.txt", catalogue_refusals::check)?;
+    say_file(&rt, "fits.txt", fit_refusals::check)
 }

@@ -1,114 +1,122 @@
 // One record: a call, and the original's answer to it.
-ghost use Rattle.std.specs.Prelude.{◌≡◌, ◌+◌, ◌<◌, ◌≤◌, length};
+ghost use Rattle.std.specs.Prelude.{◌≡◌, ◌+◌, ◌≤◌, length, drop, IfSome};
 ghost use Rattle.image.specs.Bytes.{u32_at};
 ghost use Rattle.replay.specs.Records.{size};
 
 use fitcheck::{MAIN_PAIRS, MAIN_SKILLS};
-use numbers::readers;
+use numbers::readers::Reader;
 
-const LIST: u32 = 0xffff_ffff;
+// What the result number of a record says.
+#[derive(Clone, Copy)]
+enum Call {
+    List,
+    Hall,
+    Widen,
+    Skill(u32),
+}
 
-const HALL: u32 = 0xffff_fffe;
+impl From<u32> for Call {
+    fn from(n: u32) -> Call {
+        match n {
+            0xffff_ffff => Call::List,
+            0xffff_fffe => Call::Hall,
+            0xffff_fffd => Call::Widen,
+            _ => Call::Skill(n),
+        }
+    }
+}
 
-const WIDEN: u32 = 0xffff_fffd;
+#[derive(Clone, Copy)]
+pub struct Record<'a> {
+    call: Call,
+    catalogue: &'a [u8],
+    input: &'a [u8],
+    profile: &'a [u8],
+    allowance: u32,
+    room: usize,
+    word: u64,
+    written: &'a [u8],
+}
 
 fn number(b: &[u8], at: usize) -> usize
     requires { at + 4 ≤ length b.now }
-    ensures { (result ≡ u32_at b.now at) × (result < 4294967296) }
+    ensures { result ≡ u32_at b.now at }
 {
     image::u32_at(b, at) as usize
 }
 
-// The length of the record at a place, or 0 where it is not whole.
-pub fn length_at(b: &[u8], at: usize) -> usize
-    requires { at ≤ length b.now }
-    ensures { (at + result ≤ length b.now) × (0 < result → result ≡ size b.now at) }
-{
-    let room = b.len() - at;
-    if room < 36 {
-        return 0;
-    }
-    let n = 36 + number(b, at) + number(b, at + 4) + number(b, at + 8) + number(b, at + 32);
-    if room < n {
-        return 0;
-    }
-    n
+// How many records there are, and the records.
+pub fn count(b: &[u8]) -> Option<(u32, &[u8])> {
+    let (head, rest) = b.split_at_checked(4)?;
+    Some((image::u32_at(head, 0), rest))
 }
 
-// The byte that the buffer holds at i after the call.
-fn expected(written: &[u8], i: usize, fill: u8) -> u8 {
-    if i < written.len() { written[i] } else { fill }
+// The record that the bytes begin with, and the bytes behind it; None where it is not whole.
+pub fn first(b: &[u8]) -> Option<(Record<'_>, &[u8])>
+    ensures { IfSome result (λ r. (size b.now 0 ≤ length b.now) × (r.1.now ≡ drop (size b.now 0) b.now)) }
+{
+    let (_, rest) = b.split_at_checked(36)?;
+    let (catalogue, rest) = rest.split_at_checked(number(b, 0))?;
+    let (input, rest) = rest.split_at_checked(number(b, 4))?;
+    let (profile, rest) = rest.split_at_checked(number(b, 8))?;
+    let (written, rest) = rest.split_at_checked(number(b, 32))?;
+    let record = Record {
+        call: Call::from(image::u32_at(b, 16)),
+        catalogue,
+        input,
+        profile,
+        allowance: image::u32_at(b, 12),
+        room: number(b, 20),
+        word: image::u64_at(b, 24),
+        written,
+    };
+    Some((record, rest))
 }
 
 // Whether what is written stands in the buffer, and every other byte is as before.
 fn is_left(out: &[u8], written: &[u8], fill: u8) -> bool {
-    let mut same = written.len() <= out.len();
-    let mut i: usize = 0;
-    while i < out.len() {
-        same = same && out[i] == expected(written, i, fill);
-        i += 1;
+    match out.strip_prefix(written) {
+        Some(rest) => rest.iter().all(|x| *x == fill),
+        None => false,
     }
-    same
 }
 
-// Where the profile of the record at a place begins: behind its 36 bytes of numbers, its catalogue and its fit.
-fn profile_at(b: &[u8], at: usize) -> usize
-    requires { at + size b.now at ≤ length b.now }
-    ensures { result ≡ at + 36 + u32_at b.now at + u32_at b.now (at + 4) }
-{
-    at + 36 + number(b, at) + number(b, at + 4)
-}
+impl Record<'_> {
+    // The officer's call, on the main page.
+    fn call(&self, out: &mut [u8]) -> u64 {
+        match self.call {
+            Call::List => fitcheck::fit_list(
+                Reader::Officer as u32,
+                self.catalogue,
+                self.input,
+                self.profile,
+                self.allowance,
+                MAIN_PAIRS,
+                MAIN_SKILLS,
+                out,
+            ),
+            Call::Hall => fitcheck::fit_hall(self.catalogue, self.input),
+            Call::Widen => fitcheck::fit_widen(self.catalogue, out),
+            Call::Skill(number) => fitcheck::fit_skill(
+                Reader::Officer as u32,
+                self.catalogue,
+                self.input,
+                number,
+                MAIN_PAIRS,
+                MAIN_SKILLS,
+                out,
+            ),
+        }
+    }
 
-// The officer's call of the record at a place, on the main page.
-fn call(b: &[u8], at: usize, out: &mut [u8]) -> u64
-    requires { at + size b.now at ≤ length b.now }
-{
-    let c = number(b, at);
-    let catalogue = image::part(b, at + 36, c);
-    let fit = image::part(b, at + 36 + c, number(b, at + 4));
-    let profile = image::part(b, profile_at(b, at), number(b, at + 8));
-    let result = image::u32_at(b, at + 16);
-    if result == LIST {
-        let allowance = image::u32_at(b, at + 12);
-        return fitcheck::fit_list(
-            readers::OFFICER,
-            catalogue,
-            fit,
-            profile,
-            allowance,
-            MAIN_PAIRS,
-            MAIN_SKILLS,
-            out,
-        );
+    // Whether the call gives its word and leaves its bytes in a buffer that held `fill`.
+    pub fn is_given(&self, fill: u8) -> bool {
+        let mut buffer = [fill; 65536];
+        if buffer.len() < self.room {
+            return false;
+        }
+        let out = &mut buffer[..self.room];
+        let word = self.call(out);
+        word == self.word && is_left(out, self.written, fill)
     }
-    if result == HALL {
-        return fitcheck::fit_hall(catalogue, fit);
-    }
-    if result == WIDEN {
-        return fitcheck::fit_widen(catalogue, out);
-    }
-    fitcheck::fit_skill(
-        readers::OFFICER,
-        catalogue,
-        fit,
-        result,
-        MAIN_PAIRS,
-        MAIN_SKILLS,
-        out,
-    )
-}
-
-// Whether the call of the record at a place gives its word and leaves its bytes.
-pub fn is_given(b: &[u8], at: usize, fill: u8) -> bool
-    requires { at + size b.now at ≤ length b.now }
-{
-    let room = number(b, at + 20);
-    if 65536 < room {
-        return false;
-    }
-    let mut buffer = [fill; 65536];
-    let out = &mut buffer[..room];
-    let gave = call(b, at, out);
-    let written = image::part(b, profile_at(b, at) + number(b, at + 8), number(b, at + 32));
-    gave == image::u64_at(b, at + 24) && is_left(out, written, fill)
 }

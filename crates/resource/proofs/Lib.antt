@@ -2,4 +2,3 @@
 pub mod Sums
 pub mod Rows
 pub mod Named
-pub mod Rooms

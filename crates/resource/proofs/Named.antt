@@ -5,7 +5,8 @@ use lib.Ieee.{Float}
 use Rattle.words.specs.Words.{◌>>=◌}
 use Rattle.words.proofs.Lengths.{few-when, few-bind}
 use Rattle.numbers.specs.Names as Names
-use Rattle.numbers.specs.Resources as Resources
+use Rattle.numbers.specs.declared.Resource.{Resource}
+use Rattle.numbers.specs.declared.Resource.TheVariants.{LaunchedDrones, CargoBay}
 use Rattle.floats.specs.Floats.{of_nat, over}
 use Rattle.catalogue.specs.Catalogue.{Id, catalogue_of}
 use Rattle.catalogue.specs.Lookups.{name_id}
@@ -20,21 +21,21 @@ use Rattle.resource.specs.Resource.{resource, launched, cargo_used, load_of, lau
 module _ (catalogue fit : List ℕ) {b a : List ℕ} {n k : ℕ} where
   pub drones-some : {id : Id} {used available : Float} → name_id (catalogue_of catalogue).names Names.max_active_drones ≡ Some id
       → used ≡ of_nat (launched (pairs_of catalogue fit)) → available ≡ amount (result_of fit 1) id
-      → Wrote b n a k (resource Resources.launched_drones used available) → Wrote b n a k (launched_drones (context_of catalogue fit) (pairs_of catalogue fit))
+      → Wrote b n a k (resource LaunchedDrones used available) → Wrote b n a k (launched_drones (context_of catalogue fit) (pairs_of catalogue fit))
   unfolding launched_drones context_of context fit_of
   drones-some e u v w =
-      wrote-bind (λ i. resource Resources.launched_drones (of_nat (launched (pairs_of catalogue fit))) (amount (result_of fit 1) i)) e
-      (wrote-same (ap₂ (resource Resources.launched_drones) u v) w)
+      wrote-bind (λ i. resource LaunchedDrones (of_nat (launched (pairs_of catalogue fit))) (amount (result_of fit 1) i)) e
+      (wrote-same (ap₂ (resource LaunchedDrones) u v) w)
 
   pub cargo-some : {id : Id} {used available : Float} → name_id (catalogue_of catalogue).names Names.capacity ≡ Some id
       → used ≡ cargo_used (pairs_of catalogue fit) → available ≡ amount (result_of fit 0) id
-      → Wrote b n a k (resource Resources.cargo_bay used available) → Wrote b n a k (cargo (context_of catalogue fit) (pairs_of catalogue fit))
+      → Wrote b n a k (resource CargoBay used available) → Wrote b n a k (cargo (context_of catalogue fit) (pairs_of catalogue fit))
   unfolding cargo context_of context fit_of
   cargo-some e u v w =
-      wrote-bind (λ i. resource Resources.cargo_bay (cargo_used (pairs_of catalogue fit)) (amount (result_of fit 0) i)) e
-      (wrote-same (ap₂ (resource Resources.cargo_bay) u v) w)
+      wrote-bind (λ i. resource CargoBay (cargo_used (pairs_of catalogue fit)) (amount (result_of fit 0) i)) e
+      (wrote-same (ap₂ (resource CargoBay) u v) w)
 
-  pub load-some : (kind load output : ℕ) {l o : Id} {used available : Float} → name_id (catalogue_of catalogue).names load ≡ Some l
+  pub load-some : (kind : Resource) (load output : ℕ) {l o : Id} {used available : Float} → name_id (catalogue_of catalogue).names load ≡ Some l
       → name_id (catalogue_of catalogue).names output ≡ Some o → used ≡ amount (result_of fit 0) l → available ≡ amount (result_of fit 0) o
       → Wrote b n a k (resource kind used available) → Wrote b n a k (load_of (context_of catalogue fit) (kind, load, output))
   unfolding context_of context fit_of
@@ -47,20 +48,20 @@ module _ (catalogue fit : List ℕ) {b : List ℕ} {n : ℕ} where
   pub drones-none : name_id (catalogue_of catalogue).names Names.max_active_drones ≡ None
       → Wrote b n b n (launched_drones (context_of catalogue fit) (pairs_of catalogue fit))
   unfolding launched_drones context_of context fit_of
-  drones-none e = wrote-bind_none (λ i. resource Resources.launched_drones (of_nat (launched (pairs_of catalogue fit))) (amount (result_of fit 1) i)) e
+  drones-none e = wrote-bind_none (λ i. resource LaunchedDrones (of_nat (launched (pairs_of catalogue fit))) (amount (result_of fit 1) i)) e
 
   pub cargo-none : name_id (catalogue_of catalogue).names Names.capacity ≡ None → Wrote b n b n (cargo (context_of catalogue fit) (pairs_of catalogue fit))
   unfolding cargo context_of context fit_of
-  cargo-none e = wrote-bind_none (λ i. resource Resources.cargo_bay (cargo_used (pairs_of catalogue fit)) (amount (result_of fit 0) i)) e
+  cargo-none e = wrote-bind_none (λ i. resource CargoBay (cargo_used (pairs_of catalogue fit)) (amount (result_of fit 0) i)) e
 
-  pub load-none : (kind load output : ℕ) → name_id (catalogue_of catalogue).names load ≡ None
+  pub load-none : (kind : Resource) (load output : ℕ) → name_id (catalogue_of catalogue).names load ≡ None
       → Wrote b n b n (load_of (context_of catalogue fit) (kind, load, output))
   unfolding context_of context fit_of
   load-none kind load output e =
       let ship = amount (result_of fit 0) in
       wrote-bind_none (λ i. ◌>>=◌ (name_id (catalogue_of catalogue).names output) (λ j. resource kind (ship i) (ship j))) e
 
-  pub load-half : (kind load output : ℕ) {l : Id} → name_id (catalogue_of catalogue).names load ≡ Some l
+  pub load-half : (kind : Resource) (load output : ℕ) {l : Id} → name_id (catalogue_of catalogue).names load ≡ Some l
       → name_id (catalogue_of catalogue).names output ≡ None
       → Wrote b n b n (load_of (context_of catalogue fit) (kind, load, output))
   unfolding context_of context fit_of
@@ -70,12 +71,12 @@ module _ (catalogue fit : List ℕ) {b : List ℕ} {n : ℕ} where
       (wrote-bind_none (λ j. resource kind (ship l) (ship j)) g)
 
 -- ---- how many entries
-few-resource : (kind : ℕ) (used available : Float) → length (resource kind used available) ≤ 1
+few-resource : (kind : Resource) (used available : Float) → length (resource kind used available) ≤ 1
 unfolding resource
 few-resource kind used available = few-when (over used available) _
 
 module _ (x : Context) where
-  pub few-load : (row : ℕ × ℕ × ℕ) → length (load_of x row) ≤ 1
+  pub few-load : (row : Resource × ℕ × ℕ) → length (load_of x row) ≤ 1
   few-load row = few-bind _ 1 (λ i. few-bind _ 1 (λ j. few-resource _ _ _) _) _
 
   pub few-drones : (ps : List Pair) → length (launched_drones x ps) ≤ 1

@@ -1,7 +1,7 @@
 // What the ship has only so much of: validate/resource.rs.
 #![tactic(auto)]
 
-ghost use Rattle.std.specs.Prelude.{◌≡◌, ℕ, ◌+◌, ◌<◌, ◌≤◌, List, if◌then◌else◌, slice_index_or};
+ghost use Rattle.std.specs.Prelude.{◌≡◌, ℕ, ◌+◌, ◌<◌, ◌≤◌, List, if◌then◌else◌};
 ghost use Rattle.std.specs.Float.{binary64};
 ghost use Rattle.std.specs.Float.Ieee.{add};
 ghost use Rattle.numbers.specs.Slots as Slots;
@@ -12,19 +12,18 @@ ghost use Rattle.fit.specs.Sound as Fit;
 ghost use Rattle.entry.specs.Wrote.{Wrote, Room};
 ghost use Rattle.context.specs.Context.{is_in};
 ghost use Rattle.context.specs.Gathered.{pair_count, pair_at, pairs_of, context_of, Gathered};
-ghost use Rattle.resource.specs.Resource as Resource;
 ghost use Rattle.resource.specs.Rows.{row_of};
 ghost use Rattle.resource.specs.Resource.{is_launched, launched, cargo_volume, cargo_used};
-ghost use Rattle.resource.specs.Resource.{load_of, loads, launched_drones, cargo, resources};
+ghost use Rattle.resource.specs.Resource.{resource, load_of, loads, launched_drones, cargo, resources};
 
 use entry::{Entry, Rule, Target};
 use floats::Load;
-use numbers::{names, resources, slots, states};
+use numbers::{Resource, names, slots, states};
 
 // A resource, the name of its load, the name of its output.
 #[derive(Clone, Copy)]
 struct Row {
-    kind: u8,
+    resource: Resource,
     load: u32,
     output: u32,
 }
@@ -32,61 +31,61 @@ struct Row {
 // The resources the dogma adds up itself: the attribute holding what is used, against the one holding how much there is.
 const LOADS: [Row; 10] = [
     Row {
-        kind: resources::CPU,
+        resource: Resource::Cpu,
         load: names::CPU_LOAD,
         output: names::CPU_OUTPUT,
     },
     Row {
-        kind: resources::POWERGRID,
+        resource: Resource::Powergrid,
         load: names::POWER_LOAD,
         output: names::POWER_OUTPUT,
     },
     Row {
-        kind: resources::CALIBRATION,
+        resource: Resource::Calibration,
         load: names::UPGRADE_LOAD,
         output: names::UPGRADE_CAPACITY,
     },
     Row {
-        kind: resources::DRONE_BAY,
+        resource: Resource::DroneBay,
         load: names::DRONE_CAPACITY_LOAD,
         output: names::DRONE_CAPACITY,
     },
     Row {
-        kind: resources::DRONE_BANDWIDTH,
+        resource: Resource::DroneBandwidth,
         load: names::DRONE_BANDWIDTH_LOAD,
         output: names::DRONE_BANDWIDTH,
     },
     Row {
-        kind: resources::FIGHTER_BAY,
+        resource: Resource::FighterBay,
         load: names::FIGHTER_CAPACITY_LOAD,
         output: names::FIGHTER_CAPACITY,
     },
     Row {
-        kind: resources::FIGHTER_TUBES,
+        resource: Resource::FighterTubes,
         load: names::FIGHTER_TUBES_USED,
         output: names::FIGHTER_TUBES,
     },
     Row {
-        kind: resources::LIGHT_FIGHTER_TUBES,
+        resource: Resource::LightFighterTubes,
         load: names::FIGHTER_LIGHT_SLOTS_USED,
         output: names::FIGHTER_LIGHT_SLOTS,
     },
     Row {
-        kind: resources::SUPPORT_FIGHTER_TUBES,
+        resource: Resource::SupportFighterTubes,
         load: names::FIGHTER_SUPPORT_SLOTS_USED,
         output: names::FIGHTER_SUPPORT_SLOTS,
     },
     Row {
-        kind: resources::HEAVY_FIGHTER_TUBES,
+        resource: Resource::HeavyFighterTubes,
         load: names::FIGHTER_HEAVY_SLOTS_USED,
         output: names::FIGHTER_HEAVY_SLOTS,
     },
 ];
 
 // An entry about the ship, where its load is over.
-fn resource(kind: u8, load: Load, out: &mut [u8], n: usize) -> usize
+fn resource(kind: Resource, load: Load, out: &mut [u8], n: usize) -> usize
     requires { Room n 1 }
-    ensures { Wrote out.old n out.new result (Resource.resource kind load.used load.available) }
+    ensures { Wrote out.old n out.new result (resource kind load.used load.available) }
 {
     entry::emit_when(
         out,
@@ -128,26 +127,11 @@ fn load_row(
     let available = catalogue::attribute_id(catalogue, row.output);
     match used {
         Some(u) => match available {
-            Some(a) => resource(row.kind, load_on_ship(fit, facts, u, a), out, n),
+            Some(a) => resource(row.resource, load_on_ship(fit, facts, u, a), out, n),
             None => n,
         },
         None => n,
     }
-}
-
-fn load_at(
-    catalogue: &[u8],
-    fit: &[u8],
-    facts: &[u32; 2058],
-    i: usize,
-    out: &mut [u8],
-    n: usize,
-) -> usize
-    requires { Gathered catalogue.now fit.now facts.now × (i < 10) × Room n 1 }
-    ensures { let x = context_of catalogue.now fit.now in
-        Wrote out.old n out.new result (load_of x (slice_index_or Resource.LOADS i (0, 0, 0))) }
-{
-    load_row(catalogue, fit, facts, LOADS[i], out, n)
 }
 
 fn loads(catalogue: &[u8], fit: &[u8], facts: &[u32; 2058], out: &mut [u8], n: usize) -> usize
@@ -156,10 +140,8 @@ fn loads(catalogue: &[u8], fit: &[u8], facts: &[u32; 2058], out: &mut [u8], n: u
         Wrote out.old n out.new result (loads x) × (result ≤ n + 10) }
 {
     let mut k = n;
-    let mut i: usize = 0;
-    while i < 10 {
-        k = load_at(catalogue, fit, facts, i, out, k);
-        i += 1;
+    for row in LOADS {
+        k = load_row(catalogue, fit, facts, row, out, k);
     }
     k
 }
@@ -188,12 +170,9 @@ fn drones_load(fit: &[u8], available: f64) -> Load
     ensures { ((catalogue : List ℕ) → result.used ≡ of_nat (launched (pairs_of catalogue fit.now)))
         × (result.available ≡ available) }
 {
-    let n = fit::pair_count(fit);
     let mut sum: u64 = 0;
-    let mut i: usize = 0;
-    while i < n {
+    for i in 0..fit::pair_count(fit) {
         sum += launched_at(fit, i);
-        i += 1;
     }
     Load {
         used: std::num::nearest_u64_to_f64(sum),
@@ -216,7 +195,7 @@ fn launched_drones(
     let max_active = catalogue::attribute_id(catalogue, names::MAX_ACTIVE_DRONES);
     match max_active {
         Some(id) => resource(
-            resources::LAUNCHED_DRONES,
+            Resource::LaunchedDrones,
             drones_load(fit, fit::amount(fit, facts, 1, id)),
             out,
             n,
@@ -231,11 +210,8 @@ fn room_at(catalogue: &[u8], fit: &[u8], facts: &[u32; 2058], i: usize) -> f64
     ensures { result ≡ cargo_volume (pair_at catalogue.now fit.now i) }
 {
     let quantity = fit::item_quantity(fit, i);
-    let answer = context::type_at(catalogue, fit, facts, i);
-    match answer {
-        Some(info) => info.volume * floats::of_u32(quantity),
-        None => 0.0,
-    }
+    let volume = context::type_at(catalogue, fit, facts, i).map_or(0.0, |info| info.volume);
+    volume * floats::of_u32(quantity)
 }
 
 // The cargo so far with what pair i adds to it.
@@ -258,17 +234,11 @@ fn cargo_load(catalogue: &[u8], fit: &[u8], facts: &[u32; 2058], capacity: i32) 
         × (result.available ≡ amount (result_of fit.now 0) capacity) }
 {
     let available = fit::amount(fit, facts, 0, capacity);
-    let n = fit::pair_count(fit);
     let mut used = 0.0;
-    let mut i: usize = 0;
-    while i < n {
+    for i in 0..fit::pair_count(fit) {
         used = cargo_with(catalogue, fit, facts, used, i);
-        i += 1;
     }
-    Load {
-        used: used,
-        available: available,
-    }
+    Load { used, available }
 }
 
 fn cargo(catalogue: &[u8], fit: &[u8], facts: &[u32; 2058], out: &mut [u8], n: usize) -> usize
@@ -280,7 +250,7 @@ fn cargo(catalogue: &[u8], fit: &[u8], facts: &[u32; 2058], out: &mut [u8], n: u
     let capacity = catalogue::attribute_id(catalogue, names::CAPACITY);
     match capacity {
         Some(id) => resource(
-            resources::CARGO_BAY,
+            Resource::CargoBay,
             cargo_load(catalogue, fit, facts, id),
             out,
             n,

@@ -1,5 +1,5 @@
 -- Laws of what is required, of noting skills, of the walk, and of its entries.
-pub mod Bits
+pub mod Places
 pub mod Zips
 pub mod Requirements
 pub mod Noting

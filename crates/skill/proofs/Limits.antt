@@ -5,7 +5,7 @@ use native.Mathlib.Omega.{arith}
 use mathlib.Core.Path.{◌≡◌, refl, sym, ap, ◌∙◌, subst}
 use mathlib.Core.Bool.{Bool, true, false, not}
 use mathlib.Core.List.{List}
-use Rattle.std.specs.Prelude.{Option}
+use Rattle.std.specs.Prelude.{Option, Ok}
 use lib.Dec.{T, ltb, nltb→le, not_T, ltb→lt}
 use lib.ListN.{length}
 use borrow.Author.Tests.{lt-ltb, ltb-true}
@@ -44,14 +44,14 @@ module _ (c : Catalogue) (r : Result) where
       go false e = ap (λ (l : List Demand). ltb m (length l)) (sym (walk_same m n h (subst (λ (b : Bool). T (not b)) (sym e) tt)))
 
 -- whether a walk that was not refused is over a smaller limit, as the skill call asks
-pub over-limit : (limit : ℕ) (catalogue fit : List ℕ) (result : ℕ) (w : Walk) → HoldsWanted catalogue fit result w → w.len ≤ 512
+pub over-limit : (limit : ℕ) (catalogue fit : List ℕ) (result : ℕ) (w : Walk) → HoldsWanted catalogue fit result (Ok w)
     → result < result_count fit + 2
     → limit ≤ 512
     → ltb limit w.len ≡ given (result_at (fit_of fit) result) false (wants_too_many limit (catalogue_of catalogue))
 unfolding given zip_to
-over-limit limit catalogue fit result w v held g h =
+over-limit limit catalogue fit result w v g h =
     let c = catalogue_of catalogue in
     let r = result_of fit result in
-    let e = sym (length-table 0 w.len (held_at w.ids w.levels)) ∙ ap (λ (l : List Demand). length l) (v.holds held) in
+    let e = sym (length-table 0 w.len (held_at w.ids w.levels)) ∙ ap (λ (l : List Demand). length l) (v.holds w refl).1 in
     ap (ltb limit) e ∙ sym (small-limit c r limit 512 h)
     ∙ sym (ap (λ (o : Option Result). given o false (wants_too_many limit c)) (result-some fit result g))

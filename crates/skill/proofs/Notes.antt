@@ -1,143 +1,123 @@
--- Laws of `Notes`: nothing noted, no room, one demand, one list after another; and the steps of the walk.
+-- The steps of the walk: some demands noted, a skill of the order walked, and the walk's end.
 use Prim.Native.Nat.{ℕ, ◌+◌, ◌≤◌, ◌<◌}
-use native.Mathlib.Decide.{dec_le}
 use native.Mathlib.Omega.{arith}
-use mathlib.Core.Path.{◌≡◌, refl, sym, ap, ◌∙◌, subst}
-use mathlib.Core.List.{List, [], ◌∷◌, ◌++◌, foldl, foldl-append}
-use Rattle.std.specs.Prelude.{Some}
-use lib.IntN.{ℤ, pos}
-use lib.ListN.{length, get_or}
-use Rattle.std.specs.Prelude.{slice_get}
+use mathlib.Core.Path.{◌≡◌, sym, ap, ◌∙◌}
+use mathlib.Core.List.{List, [], ◌++◌, foldl, foldl-append}
+use Rattle.std.specs.Prelude.{Option, None, Some, Float, option_to_list, Result, Ok, Err, IsOk, IsErr, slice_get}
+use lib.IntN.{pos}
+use lib.ListN.{length, get_or, drop}
+use lib.Seq.{take_all}
 use borrow.Author.Tests.{lt-ltb, le-ltb}
-use Rattle.words.specs.Words.{table_from}
+use Rattle.words.specs.Words.{each}
 use Rattle.words.proofs.Tables.{map-table}
 use Rattle.words.proofs.Elements.{elem_table}
 use Rattle.catalogue.specs.Catalogue.{Id, Catalogue, catalogue_of}
-use Rattle.fit.specs.Fit.{Result, result_of}
-use Rattle.skill.specs.Skill.{Demand, of_skill, note, noted, skill_at, met, walk_within, wants_too_many}
-use Rattle.skill.specs.Held.{zip_to, held_at, held_of, Noted, Notes, HoldsWanted}
+use Rattle.catalogue.specs.Lookups.{base_value}
+use Rattle.fit.specs.Fit.{Result as FitResult, result_of}
+use Rattle.fit.specs.Lookups.{value}
+use Rattle.skill.specs.Skill.{Requirement, required, Demand, demand_of, of_skill, note, noted, skill_at, met, walk_within, wants_too_many}
+use Rattle.skill.specs.Held.{requirements_of, zip_to, held_at, walk_of, HoldsWanted}
 use Rattle.skill.specs.declared.Walk.{Walk}
+use Rattle.skill.specs.declared.TooMany.{TooMany}
 use Rattle.skill.proofs.Zips.{zip_length}
-use Rattle.skill.proofs.Walks.{note-by_one, fold_longer, met_next, met-stays, met-longer}
+use Rattle.skill.proofs.Requirements.{each_one, result-asks, skill-asks, asks, asks-next, asks-rest}
+use Rattle.skill.proofs.Walks.{fold_longer, met-first, met_next, met-stays, met-longer}
 
-abbrev held : (ids : List ℤ) (levels : List ℕ) (len : ℕ) → length (held_of ids levels len) ≡ len
-held = zip_length (pos 0) 0
+abbrev pub held : (w : Walk) → length (walk_of w) ≡ w.len
+held w = zip_length (pos 0) 0 w.ids w.levels w.len
 
-module _ {ids : List ℤ} {levels : List ℕ} {len : ℕ} where
-  pub notes_none : length ids ≡ 512 → length levels ≡ 512 → len ≤ 513 → Notes ids levels len ids levels len []
-  notes_none i l h =
-      record { ids_length = i; levels_length = l; limit = h; full = λ o. omega (arith, o, held ids levels len); holds = λ _. refl }
+pub no_ok : {A E : Type 0} (r : Result A E) → IsErr r → IsOk r → ⊥
+no_ok (Ok x) e k = cc
+no_ok (Err x) e k = cc
 
-  -- where there is no room, more demands change nothing
-  pub notes_full : (ds : List Demand) → length ids ≡ 512 → length levels ≡ 512 → len ≤ 513 → 512 < len → Notes ids levels len ids levels len ds
-  notes_full ds i l h o =
-      record {
-        ids_length = i;
-        levels_length = l;
-        limit = h;
-        full = λ _. omega (arith, o, held ids levels len, fold_longer ds (held_of ids levels len));
-        holds = λ f. absurd (omega (arith, o, f));
-      }
+pub no_err : {A E : Type 0} (r : Result A E) → IsOk r → IsErr r → ⊥
+no_err r k e = no_ok r e k
 
-module _ {ids ids' : List ℤ} {levels levels' : List ℕ} {len r : ℕ} where
-  pub notes_one : {id : ℤ} {level : ℕ} → len ≤ 512 → Noted ids levels len id level ids' levels' r → Notes ids levels len ids' levels' r ((id, level) ∷ [])
-  notes_one {id} {level} h n =
-      record {
-        ids_length = n.ids_length;
-        levels_length = n.levels_length;
-        limit = omega (arith, n.count, note-by_one (held_of ids levels len) (id, level), held ids levels len);
-        full = λ o. omega (arith, o, n.count);
-        holds = n.holds;
-      }
+-- ---- some demands more
+pub noted-more : (start ws : List Demand) (ds es : List Demand) → ws ≡ foldl note start ds → foldl note ws es ≡ foldl note start (ds ++ es)
+noted-more start ws ds es e = ap (λ (l : List Demand). foldl note l es) e ∙ sym (foldl-append note start ds es)
 
-  -- the same demands by another name
-  pub notes_same : {ds es : List Demand} → ds ≡ es → Notes ids levels len ids' levels' r ds → Notes ids levels len ids' levels' r es
-  notes_same e n = subst (λ (l : List Demand). Notes ids levels len ids' levels' r l) e n
+-- no list gets shorter by more demands
+pub longer : (start ds es : List Demand) → 512 < length (foldl note start ds) → 512 < length (foldl note start (ds ++ es))
+longer start ds es h = rw foldl-append (omega (arith, fold_longer es (foldl note start ds)))
 
-  pub notes_append : {ids'' : List ℤ} {levels'' : List ℕ} {q : ℕ} {ds es : List Demand}
-      → Notes ids levels len ids' levels' r ds → Notes ids' levels' r ids'' levels'' q es
-      → Notes ids levels len ids'' levels'' q (ds ++ es)
-  notes_append {ids''} {levels''} {q} {ds} {es} v w =
-      let before = held_of ids levels len in
-      let between = held_of ids' levels' r in
-      record {
-        ids_length = w.ids_length;
-        levels_length = w.levels_length;
-        limit = w.limit;
-        full = λ o.
-            let whole : 512 < length (foldl note (foldl note before ds) es) =
-            elim (dec_le r 512) [
-              | yes h ↦ omega (arith, w.full o, ap (λ (l : List Demand). length (foldl note l es)) (v.holds h))
-              | no h ↦ omega (arith, v.full (omega (arith, h)), fold_longer es (foldl note before ds))
-            ] in
-            omega (arith, whole, ap length (foldl-append note before ds es));
-        holds = λ h.
-            -- what is held at last is no shorter than what was held between
-            let few : r ≤ 512 = omega (arith, h, ap length (w.holds h), held ids'' levels'' q, held ids' levels' r, fold_longer es between) in
-            w.holds h ∙ ap (λ (l : List Demand). foldl note l es) (v.holds few) ∙ sym (foldl-append note before ds es);
-      }
+-- ---- the rows of what is required
+module _ (rows : List (Option Requirement)) (values : Id → Option Float) (start : List Demand) where
+  module _ (ws : List Demand) (i : ℕ) (h : i < length rows) (e : ws ≡ foldl note start (asks rows i values)) where
+    row-noted : (ds : List Demand) → each (option_to_list (get_or rows i None)) (demand_of values) ≡ ds
+        → foldl note ws ds ≡ foldl note start (asks rows (i + 1) values)
+    row-noted ds q =
+        noted-more start ws (asks rows i values) ds e
+        ∙ ap (λ (l : List Demand). foldl note start l) (ap (λ (l : List Demand). asks rows i values ++ l) (sym q) ∙ sym (asks-next rows values i h))
 
--- what is noted from nothing on is `noted`
-pub notes_begin : {ids ids' : List ℤ} {levels levels' : List ℕ} {r : ℕ} {ds : List Demand}
-    → Notes ids levels 0 ids' levels' r ds → Notes [] [] 0 ids' levels' r ds
-unfolding zip_to table_from
-notes_begin n = record { ids_length = n.ids_length; levels_length = n.levels_length; limit = n.limit; full = n.full; holds = n.holds }
+    pub no_row : get_or rows i None ≡ None → ws ≡ foldl note start (asks rows (i + 1) values)
+    unfolding each
+    no_row n = row-noted [] (rw n)
+
+    pub row-asks : (r : Requirement) (ds : List Demand) → get_or rows i None ≡ Some r → ds ≡ demand_of values r
+        → foldl note ws ds ≡ foldl note start (asks rows (i + 1) values)
+    row-asks r ds s q = row-noted ds (rw s (each_one (demand_of values) r) ∙ sym q)
+
+  -- all rows, once the last has had its turn
+  pub all-noted : (ws : List Demand) (i : ℕ) → length rows ≤ i → ws ≡ foldl note start (asks rows i values)
+      → ws ≡ foldl note start (each (requirements_of rows) (demand_of values))
+  all-noted ws i h e =
+      e ∙ ap (λ (l : List (Option Requirement)). foldl note start (each (requirements_of l) (demand_of values))) (take_all i rows h)
+
+  -- too many by some rows are too many by all
+  pub some-over : (ws : List Demand) (i : ℕ) → ws ≡ foldl note start (asks rows i values) → 512 < length ws
+      → 512 < length (foldl note start (each (requirements_of rows) (demand_of values)))
+  some-over ws i e h =
+      rw (asks-rest rows values i) (longer start (asks rows i values) (each (requirements_of (drop i rows)) (demand_of values)) (omega (arith, h, ap length e)))
 
 -- ---- the walk
-module _ {ids : List ℤ} {levels : List ℕ} {len : ℕ} {ds : List Demand} (v : Notes [] [] 0 ids levels len ds) where
-  -- the arrays hold the order
-  held-noted : len ≤ 512 → held_of ids levels len ≡ noted ds
-  unfolding noted zip_to table_from
-  held-noted h = v.holds h
-
-  noted-length : len ≤ 512 → length (noted ds) ≡ len
-  noted-length h = ap length (sym (held-noted h)) ∙ held ids levels len
-
-  noted-full : 512 < len → 512 < length (noted ds)
-  unfolding noted zip_to table_from
-  noted-full o = v.full o
-
-held-skill : (ids : List ℤ) (levels : List ℕ) (len i : ℕ) → i < len → skill_at (held_of ids levels len) i ≡ Some (get_or ids i (pos 0))
+held-skill : (w : Walk) (i : ℕ) → i < w.len → skill_at (walk_of w) i ≡ Some (get_or w.ids i (pos 0))
 unfolding skill_at zip_to
-held-skill ids levels len i h =
-    ap (λ (l : List Id). slice_get l i) (map-table (λ (w : Demand). w.0) len (held_at ids levels)) ∙ elem_table len (λ k. get_or ids k (pos 0)) i h
+held-skill w i h =
+    ap (λ (l : List Id). slice_get l i) (map-table (λ (d : Demand). d.0) w.len (held_at w.ids w.levels))
+    ∙ elem_table w.len (λ k. get_or w.ids k (pos 0)) i h
 
-module _ (c : Catalogue) (r : Result) {ids : List ℤ} {levels : List ℕ} {len : ℕ} (i : ℕ) (v : Notes [] [] 0 ids levels len (met c r i)) where
-  -- one skill of the order walked
-  pub walk_step : {ids' : List ℤ} {levels' : List ℕ} {q : ℕ} (j : ℕ) → j ≡ i + 1 → i < len → len ≤ 512
-      → Notes ids levels len ids' levels' q (of_skill c (get_or ids i (pos 0))) → Notes [] [] 0 ids' levels' q (met c r j)
-  walk_step j e h f w =
-      let skill = ap (λ (l : List Demand). skill_at l i) (sym (held-noted v f)) ∙ held-skill ids levels len i h in
-      notes_same (sym (met_next c r i (get_or ids i (pos 0)) skill) ∙ ap (met c r) (sym e)) (notes_append v w)
+-- what the result itself asks for, noted in an empty walk
+pub walk_first : (c : Catalogue) (r : FitResult) {rs : List Requirement} → rs ≡ required c → (ws : List Demand) → ws ≡ []
+    → foldl note ws (each rs (demand_of (value r))) ≡ noted (met c r 0)
+unfolding noted
+walk_first c r e ws n = rw n (ap (foldl note []) (result-asks c _ e r ∙ met-first c r))
 
-  -- the order walked to its end
-  walk_end : i ≤ 512 → len ≤ i → met c r 512 ≡ met c r i
-  walk_end h e = met-stays c r i 512 h (omega (arith, h, e, noted-length v (omega (arith, h, e))))
+module _ (c : Catalogue) (r : FitResult) (i : ℕ) (w : Walk) (v : walk_of w ≡ noted (met c r i)) (h : i < w.len) where
+  -- what is met once one skill more is walked
+  met-more : met c r (i + 1) ≡ met c r i ++ of_skill c (get_or w.ids i (pos 0))
+  met-more = met_next c r i (get_or w.ids i (pos 0)) (ap (λ (l : List Demand). skill_at l i) (sym v) ∙ held-skill w i h)
 
--- a walk that came to its end
-pub walked_all : (catalogue fit : List ℕ) (result i : ℕ) (w : Walk)
-    → Notes [] [] 0 w.ids w.levels w.len (met (catalogue_of catalogue) (result_of fit result) i) → i ≤ 512 → w.len ≤ i
-    → HoldsWanted catalogue fit result w
-unfolding walk_within wants_too_many
-walked_all catalogue fit result i w v h e =
-    let c = catalogue_of catalogue in
-    let r = result_of fit result in
-    let f : w.len ≤ 512 = omega (arith, h, e) in
-    let m = ap noted (walk_end c r i v h e) in
-    record {
-      many = le-ltb 512 w.len f ∙ sym (le-ltb 512 (length (noted (met c r 512))) (omega (arith, f, ap length m, noted-length v f)));
-      holds = λ _. held-noted v f ∙ sym m;
-    }
+  pub walk_step : (t : Id) {rs : List Requirement} → t ≡ get_or w.ids i (pos 0) → rs ≡ required c
+      → foldl note (walk_of w) (each rs (demand_of (base_value c t))) ≡ noted (met c r (i + 1))
+  unfolding noted
+  walk_step t {rs} q e =
+      noted-more [] (walk_of w) (met c r i) (each rs (demand_of (base_value c t))) v
+      ∙ ap noted (ap (λ (l : List Demand). met c r i ++ l) (skill-asks c rs e t ∙ ap (of_skill c) q) ∙ sym met-more)
 
--- a walk that there was no room for
-pub walked-full : (catalogue fit : List ℕ) (result i : ℕ) (w : Walk)
-    → Notes [] [] 0 w.ids w.levels w.len (met (catalogue_of catalogue) (result_of fit result) i) → i ≤ 512 → 512 < w.len
-    → HoldsWanted catalogue fit result w
-unfolding walk_within wants_too_many
-walked-full catalogue fit result i w v h o =
-    let c = catalogue_of catalogue in
-    let r = result_of fit result in
-    record {
-      many = lt-ltb 512 w.len o ∙ sym (lt-ltb 512 (length (noted (met c r 512))) (omega (arith, noted-full v o, met-longer c r i 512 h)));
-      holds = λ f. absurd (omega (arith, o, f));
-    }
+module _ (catalogue fit : List ℕ) (result i : ℕ) (h : i ≤ 512) where
+  abbrev c : Catalogue
+  c = catalogue_of catalogue
+
+  abbrev r : FitResult
+  r = result_of fit result
+
+  -- a walk that came to its end
+  pub walked_all : (w : Walk) → walk_of w ≡ noted (met c r i) → w.len ≤ i → HoldsWanted catalogue fit result (Ok w)
+  unfolding walk_within wants_too_many
+  walked_all w v e =
+      let n : length (noted (met c r i)) ≡ w.len = sym (ap length v) ∙ held w in
+      let m = ap noted (met-stays c r i 512 h (omega (arith, e, n))) in
+      record {
+        many = sym (le-ltb 512 (length (noted (met c r 512))) (omega (arith, e, h, n, ap length m)));
+        holds = λ w' q. let same : w ≡ w' = cc in rw (← same) (omega (arith, e, h), v ∙ sym m);
+      }
+
+  -- a walk that there was no room for
+  pub walked-full : (x : Result Walk TooMany) → IsErr x → 512 < length (noted (met c r i)) → HoldsWanted catalogue fit result x
+  unfolding walk_within wants_too_many
+  walked-full x e o =
+      record {
+        many = e ∙ sym (lt-ltb 512 (length (noted (met c r 512))) (omega (arith, o, met-longer c r i 512 h)));
+        holds = λ w q. absurd (no_ok x e (cc));
+      }

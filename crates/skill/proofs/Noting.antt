@@ -1,7 +1,7 @@
 -- What noting a skill does to two arrays and to the list that they hold, by the skill's place.
 use mathlib.Core.Path.{◌≡◌, refl, ap, sym, ◌∙◌, subst}
 use mathlib.Core.Logic.{◌⊎◌, inl, inr, ⊎_elim}
-use mathlib.Core.Bool.{Bool, true, false, cond}
+use mathlib.Core.Bool.{Bool, true, false, cond, true≢false}
 use mathlib.Core.List.{List, [], ◌∷◌, ◌++◌}
 use Prim.Native.Nat.{ℕ, zero, suc, ◌+◌, ◌<◌, ◌≤◌, max}
 use native.Mathlib.Decide.{dec_le}
@@ -20,15 +20,18 @@ use Rattle.words.proofs.Sames.{same_refl, same_not}
 use Rattle.words.proofs.Tables.{length-table, get_or-table}
 use Rattle.skill.specs.Skill.{Demand, note}
 use Rattle.skill.specs.Held.{held_at, zip_to, held_of, Placed, New, Noted}
+use Rattle.skill.specs.declared.Walk.{Walk}
+use Rattle.skill.specs.declared.TooMany.{TooMany}
+use Rattle.std.specs.Prelude.{Ok, Err}
 use Rattle.skill.proofs.Zips.{pair_eq, zip_put}
 
 -- a place found by an id's bits
 pub placed : {ids : List ℤ} {n j : ℕ} (i : ℤ) → SFits w32 i → Placed ids n (to_z w32 (of_z w32 i)) j → Placed ids n i j
 placed {ids} {n} {j} i fits p = subst (λ (z : ℤ). Placed ids n z j) (to_z-of_z w32 i fits) p
 
--- behind all places, so at none of them
-pub new : {ids : List ℤ} {n : ℕ} {i : ℤ} {j : ℕ} → Placed ids n i j → n ≤ j → New ids n i
-new p h k a = p.before k (omega (arith, a, h))
+-- so is a skill that stands nowhere
+pub new : (w : Walk) (i : ℤ) → SFits w32 i → New w (to_z w32 (of_z w32 i)) → New w i
+new w i fits n = subst (New w) (to_z-of_z w32 i fits) n
 
 -- an id has one first place
 first-place : {ids : List ℤ} {n : ℕ} {i : ℤ} (j k : ℕ) → Placed ids n i j → Placed ids n i k → j < n → k < n → j ≡ k
@@ -89,10 +92,6 @@ module _ (ids : List ℤ) (levels : List ℕ) (n : ℕ) (i : ℤ) (l j : ℕ) (p
       let r : k < n = omega (arith, q, length-table 0 n (held_at ids levels)) in
       p.before k (omega (arith, r)) (sym (ap (λ (d : Demand). d.0) (at_held k r)) ∙ e))
 
-  found-length : j < n → n ≡ length (note (held_of ids levels n) (i, l))
-  unfolding zip_to
-  found-length h = sym (ap length (found h) ∙ length-set held j _ ∙ length-table 0 n (held_at ids levels))
-
   missing-length : n ≤ j → n + 1 ≡ length (note (held_of ids levels n) (i, l))
   unfolding zip_to
   missing-length h = sym (ap length (missing h) ∙ omega (arith, length-append held ((i, l) ∷ []), length-table 0 n (held_at ids levels)))
@@ -130,50 +129,52 @@ module _ (ids : List ℤ) (levels : List ℕ) (n : ℕ) (i : ℤ) (l j : ℕ) (p
       zip_put (pos 0) 0 ids levels n i l (omega (arith, hi)) (omega (arith, hl)) ∙ sym (missing h)
 
 -- ---- `Noted`, on each way that `note` goes
-module _ {ids : List ℤ} {levels : List ℕ} {n : ℕ} {i : ℤ} {l j : ℕ} (p : Placed ids n i j) (hi : length ids ≡ 512) (hl : length levels ≡ 512) where
+module _ (w : Walk) {i : ℤ} {l j : ℕ} (room : w.len ≤ 512) (p : Placed w.ids w.len i j) where
   -- known at a lower level: it rises
-  pub noted-raised : n ≤ 512 → j < n → get_or levels j 0 < l → Noted ids levels n i l ids (set levels j l) n
-  noted-raised hn h g =
+  pub noted-raised : {w' : Walk} → length w.levels ≡ 512 → j < w.len → get_or w.levels j 0 < l
+      → (w'.ids ≡ w.ids) × (w'.levels ≡ set w.levels j l) × (w'.len ≡ w.len) → Noted w i l w' (Ok tt)
+  noted-raised {w'} hl h g e =
       record {
-        ids_length = hi;
-        levels_length = length-set levels j l ∙ hl;
-        count = found-length ids levels n i l j p h;
-        holds = λ _. raised ids levels n i l j p hl hn h g;
+        room = omega (arith, e.2, room);
+        holds = λ _. rw (e.0, e.1, e.2) (raised w.ids w.levels w.len i l j p hl room h g);
+        full = λ o. absurd (true≢false (sym o));
         untouched = λ k q a u.
-            let e : get_or levels k 0 ≡ get_or levels j 0 = ap (λ (m : ℕ). get_or levels m 0) (first-place k j q p a h) in
+            let e : get_or w.levels k 0 ≡ get_or w.levels j 0 = ap (λ (m : ℕ). get_or w.levels m 0) (first-place k j q p a h) in
             absurd (omega (arith, e, g, u));
       }
 
   -- known at the same level or a higher one: all stays
-  pub noted-known : j < n → l ≤ get_or levels j 0 → Noted ids levels n i l ids levels n
+  pub noted-known : j < w.len → l ≤ get_or w.levels j 0 → Noted w i l w (Ok tt)
   noted-known h g =
       record {
-        ids_length = hi;
-        levels_length = hl;
-        count = found-length ids levels n i l j p h;
-        holds = λ _. unraised ids levels n i l j p h g;
-        untouched = λ k q a u. (refl, refl);
+        room = room;
+        holds = λ _. unraised w.ids w.levels w.len i l j p h g;
+        full = λ o. absurd (true≢false (sym o));
+        untouched = λ k q a u. refl;
       }
 
+-- a place behind all others
+behind : (w : Walk) {i : ℤ} → New w i → Placed w.ids w.len i w.len
+behind w n = record { within = omega arith; before = n; found = λ h. absurd (omega (arith, h)) }
+
+module _ (w : Walk) {i : ℤ} {l : ℕ} (room : w.len ≤ 512) (n : New w i) where
   -- new: it goes last
-  pub noted-new : n < 512 → n ≤ j → Noted ids levels n i l (set ids n i) (set levels n l) (n + 1)
-  noted-new hn h =
+  pub noted-new : {w' : Walk} → length w.ids ≡ 512 → length w.levels ≡ 512 → w.len < 512
+      → (w'.ids ≡ set w.ids w.len i) × (w'.levels ≡ set w.levels w.len l) × (w'.len ≡ w.len + 1) → Noted w i l w' (Ok tt)
+  noted-new {w'} hi hl h e =
       record {
-        ids_length = length-set ids n i ∙ hi;
-        levels_length = length-set levels n l ∙ hl;
-        count = missing-length ids levels n i l j p h;
-        holds = λ _. added ids levels n i l j p hi hl hn h;
-        untouched = λ k q a u. absurd (new p h k a (q.found a));
+        room = omega (arith, e.2, h);
+        holds = λ _. rw (e.0, e.1, e.2) (added w.ids w.levels w.len i l w.len (behind w n) hi hl h (omega arith));
+        full = λ o. absurd (true≢false (sym o));
+        untouched = λ k q a u. absurd (n k a (q.found a));
       }
 
   -- new, where there is no room
-  pub noted-full : 512 ≤ n → n ≤ 512 → n ≤ j → Noted ids levels n i l ids levels 513
-  noted-full hn hm h =
-      let full : 513 ≡ n + 1 = omega (arith, hn, hm) in
+  pub noted-full : w.len ≡ 512 → {e : TooMany} → Noted w i l w (Err e)
+  noted-full h {e} =
       record {
-        ids_length = hi;
-        levels_length = hl;
-        count = full ∙ missing-length ids levels n i l j p h;
-        holds = λ r. absurd (omega (arith, r));
-        untouched = λ k q a u. (refl, refl);
+        room = room;
+        holds = λ o. absurd (true≢false (sym o));
+        full = λ _. omega (arith, missing-length w.ids w.levels w.len i l w.len (behind w n) (omega arith));
+        untouched = λ k q a u. refl;
       }

@@ -1,14 +1,15 @@
 -- Document 01, "Skill walk": up to 512 skills and levels are held. What the arrays of the code hold, what noting does to them, and what
 -- a walk that has ended says.
-use Rattle.std.specs.Prelude.{ℕ, ◌+◌, ◌≤◌, ◌<◌, ◌≡◌, ltb, length, get_or, ℤ, pos}
-use mathlib.Core.List.{List, [], ◌∷◌, foldl}
-use Rattle.words.specs.Words.{table}
+use Rattle.std.specs.Prelude.{ℕ, ◌≤◌, ◌<◌, ◌≡◌, length, get_or, ℤ, pos, Float, Option, None, Some, option_to_list, Result, Ok, IsOk, IsErr, is_err, FitsSigned}
+use mir.Syntax.{w32}
+use mathlib.Core.List.{List, foldl}
+use Rattle.words.specs.Words.{each, table}
 use Rattle.numbers.specs.Sizes.{most_wanted}
-use Rattle.catalogue.specs.Catalogue.{catalogue_of}
+use Rattle.catalogue.specs.Catalogue.{Id, catalogue_of}
 use Rattle.fit.specs.Fit.{result_of}
 use Rattle.skill.specs.Skill.{Requirement, Demand, note, wanted_skills, wants_too_many}
 use Rattle.skill.specs.declared.Walk.{Walk}
-use Rattle.skill.specs.declared.Required.{Required}
+use Rattle.skill.specs.declared.TooMany.{TooMany}
 
 -- ---- two arrays side by side; x and y stand past their ends
 module _ {A B : Type 0} (x : A) (y : B) where
@@ -19,11 +20,13 @@ module _ {A B : Type 0} (x : A) (y : B) where
   unfoldable pub zip_to : List A → List B → ℕ → List (A × B)
   zip_to a b n = table n (zip_at a b)
 
-abbrev pub requirements_in : List ℤ → List ℤ → ℕ → List Requirement
-requirements_in skills levels n = zip_to (pos 0) (pos 0) skills levels n
+-- the requirements of the rows that have one
+abbrev pub requirements_of : List (Option Requirement) → List Requirement
+requirements_of rows = each rows option_to_list
 
-abbrev pub requirements_of : Required → List Requirement
-requirements_of r = requirements_in r.skills r.levels r.len
+-- a source of values, by what its calls give
+abbrev pub Reads : (Id → Option Float → Type 0) → (Id → Option Float) → Type 0
+Reads gives values = (id : Id) (v : Option Float) → FitsSigned w32 id → gives id v → v ≡ values id
 
 abbrev pub held_at : List ℤ → List ℕ → ℕ → Demand
 held_at ids levels i = zip_at (pos 0) 0 ids levels i
@@ -42,32 +45,34 @@ pub record Placed (ids : List ℤ) (len : ℕ) (id : ℤ) (r : ℕ) : Type 0 whe
   pub before : (k : ℕ) → k < r → get_or ids k (pos 0) ≡ id → ⊥
   pub found : r < len → get_or ids r (pos 0) ≡ id
 
--- a skill that is not among the first len
-abbrev pub New : List ℤ → ℕ → ℤ → Type 0
-New ids len id = (k : ℕ) → k < len → get_or ids k (pos 0) ≡ id → ⊥
+-- a skill that is not noted
+abbrev pub New : Walk → ℤ → Type 0
+New w id = (k : ℕ) → k < w.len → get_or w.ids k (pos 0) ≡ id → ⊥
 
 -- a skill that stands at a place, at a lower level
-abbrev pub LevelRises : List ℤ → List ℕ → ℕ → ℤ → ℕ → Type 0
-LevelRises ids levels at id level = (get_or ids at (pos 0) ≡ id) × (get_or levels at 0 < level)
+abbrev pub LevelRises : Walk → ℕ → ℤ → ℕ → Type 0
+LevelRises w at id level = (get_or w.ids at (pos 0) ≡ id) × (get_or w.levels at 0 < level)
 
--- a demand noted: how many skills that makes, and the arrays where they hold that many
-pub record Noted (ids : List ℤ) (levels : List ℕ) (len : ℕ) (id : ℤ) (level : ℕ) (ids' : List ℤ) (levels' : List ℕ) (r : ℕ) : Type 0 where
-  pub ids_length : length ids' ≡ most_wanted
-  pub levels_length : length levels' ≡ most_wanted
-  pub count : r ≡ length (note (held_of ids levels len) (id, level))
-  pub holds : r ≤ most_wanted → held_of ids' levels' r ≡ note (held_of ids levels len) (id, level)
+-- where a skill stands, if it is noted
+abbrev pub PlacedAt : Walk → ℤ → Option ℕ → Type 0
+PlacedAt w id None = New w id
+PlacedAt w id (Some r) = (r < w.len) × Placed w.ids w.len id r
+
+-- a demand noted, where there is room
+pub record Noted (before : Walk) (id : ℤ) (level : ℕ) (after : Walk) (r : Result (Unit {0}) TooMany) : Type 0 where
+  pub room : after.len ≤ most_wanted
+  pub holds : IsOk r → walk_of after ≡ note (walk_of before) (id, level)
+  pub full : IsErr r → most_wanted < length (note (walk_of before) (id, level))
   -- a skill whose first place has the same level or a higher one: no place of the arrays changes, those behind the first len included
-  pub untouched : (k : ℕ) → Placed ids len id k → k < len → level ≤ get_or levels k 0 → (ids' ≡ ids) × (levels' ≡ levels)
+  pub untouched : (k : ℕ) → Placed before.ids before.len id k → k < before.len → level ≤ get_or before.levels k 0 → after ≡ before
 
--- some demands noted in their order: one more than the most stands for more skills than there is room for
-pub record Notes (ids : List ℤ) (levels : List ℕ) (len : ℕ) (ids' : List ℤ) (levels' : List ℕ) (r : ℕ) (ds : List Demand) : Type 0 where
-  pub ids_length : length ids' ≡ most_wanted
-  pub levels_length : length levels' ≡ most_wanted
-  pub limit : r ≤ most_wanted + 1
-  pub full : most_wanted < r → most_wanted < length (foldl note (held_of ids levels len) ds)
-  pub holds : r ≤ most_wanted → held_of ids' levels' r ≡ foldl note (held_of ids levels len) ds
+-- some demands noted in their order, where there is room
+pub record Notes (before : Walk) (ds : List Demand) (after : Walk) (r : Result (Unit {0}) TooMany) : Type 0 where
+  pub room : after.len ≤ most_wanted
+  pub holds : IsOk r → walk_of after ≡ foldl note (walk_of before) ds
+  pub full : IsErr r → most_wanted < length (foldl note (walk_of before) ds)
 
 -- a walk that has ended: whether too many skills are wanted, and the wanted ones where not
-pub record HoldsWanted (catalogue fit : List ℕ) (result : ℕ) (w : Walk) : Type 0 where
-  pub many : ltb most_wanted w.len ≡ wants_too_many most_wanted (catalogue_of catalogue) (result_of fit result)
-  pub holds : w.len ≤ most_wanted → walk_of w ≡ wanted_skills (catalogue_of catalogue) (result_of fit result)
+pub record HoldsWanted (catalogue fit : List ℕ) (result : ℕ) (r : Result Walk TooMany) : Type 0 where
+  pub many : is_err r ≡ wants_too_many most_wanted (catalogue_of catalogue) (result_of fit result)
+  pub holds : (w : Walk) → r ≡ Ok w → (w.len ≤ most_wanted) × (walk_of w ≡ wanted_skills (catalogue_of catalogue) (result_of fit result))

@@ -1,71 +1,39 @@
 // The skills that one result demands: validate/skill.rs.
 #![tactic(auto)]
 
-ghost use Rattle.std.specs.Prelude.{◌≡◌, ◌++◌, ◌+◌, ◌<◌, ◌≤◌, length, get_or, set, pos, option_to_list};
+ghost use Rattle.std.specs.Prelude.{◌≡◌, ◌+◌, ◌<◌, ◌≤◌, [], get_or, set, pos, option_to_list, position, Option, Float};
 ghost use Rattle.words.specs.Words.{each, table, any_of, same};
 ghost use Rattle.numbers.specs.Sizes as Sizes;
 ghost use Rattle.numbers.specs.Sizes.{most_wanted};
-ghost use Rattle.catalogue.specs.Catalogue.{catalogue_of, base_count};
-ghost use Rattle.catalogue.specs.Lookups.{base_value};
+ghost use Rattle.catalogue.specs.Catalogue.{Id, catalogue_of};
 ghost use Rattle.catalogue.specs.Sound as Catalogue;
-ghost use Rattle.catalogue.specs.Walks.{span_value};
-ghost use Rattle.fit.specs.Fit.{fit_of, result_count, result_of};
-ghost use Rattle.fit.specs.Lookups.{value};
+ghost use Rattle.fit.specs.Fit.{fit_of, result_count};
 ghost use Rattle.fit.specs.Sound as Fit;
 ghost use Rattle.entry.specs.Wrote.{Wrote, Room};
 ghost use Rattle.skill.specs.Skill as Skill;
-ghost use Rattle.skill.specs.Skill.{requirement, required, demand_of, target_of, entry_of, reported};
-ghost use Rattle.skill.specs.Held.{requirements_in, requirements_of, walk_of};
-ghost use Rattle.skill.specs.Held.{Placed, New, LevelRises, Noted, Notes, HoldsWanted};
+ghost use Rattle.skill.specs.Skill.{requirement_of, required, demand_of, target_of, entry_of, reported};
+ghost use Rattle.skill.specs.Held.{requirements_of, walk_of, Reads, New, LevelRises, PlacedAt, Noted, Notes, HoldsWanted};
 
-use catalogue::Span;
 use entry::{Entry, Rule, Target};
 use numbers::names;
 use numbers::sizes::MOST_WANTED;
 
-// The names of a skill and of the level it wants.
-#[derive(Clone, Copy)]
-struct Row {
-    skill: u32,
-    level: u32,
-}
-
-const REQUIRED: [Row; 6] = [
-    Row {
-        skill: names::REQUIRED_SKILL_1,
-        level: names::REQUIRED_SKILL_1_LEVEL,
-    },
-    Row {
-        skill: names::REQUIRED_SKILL_2,
-        level: names::REQUIRED_SKILL_2_LEVEL,
-    },
-    Row {
-        skill: names::REQUIRED_SKILL_3,
-        level: names::REQUIRED_SKILL_3_LEVEL,
-    },
-    Row {
-        skill: names::REQUIRED_SKILL_4,
-        level: names::REQUIRED_SKILL_4_LEVEL,
-    },
-    Row {
-        skill: names::REQUIRED_SKILL_5,
-        level: names::REQUIRED_SKILL_5_LEVEL,
-    },
-    Row {
-        skill: names::REQUIRED_SKILL_6,
-        level: names::REQUIRED_SKILL_6_LEVEL,
-    },
+// The names of each skill and of the level it wants.
+const REQUIRED: [(u32, u32); 6] = [
+    (names::REQUIRED_SKILL_1, names::REQUIRED_SKILL_1_LEVEL),
+    (names::REQUIRED_SKILL_2, names::REQUIRED_SKILL_2_LEVEL),
+    (names::REQUIRED_SKILL_3, names::REQUIRED_SKILL_3_LEVEL),
+    (names::REQUIRED_SKILL_4, names::REQUIRED_SKILL_4_LEVEL),
+    (names::REQUIRED_SKILL_5, names::REQUIRED_SKILL_5_LEVEL),
+    (names::REQUIRED_SKILL_6, names::REQUIRED_SKILL_6_LEVEL),
 ];
 
-// The attributes of a skill and of its level, for each row whose names both have one.
-#[derive(Clone, Copy)]
-struct Required {
-    skills: [i32; 6],
-    levels: [i32; 6],
-    len: usize,
-}
+// A result wants more skills than a walk holds.
+#[derive(Clone, Copy, Debug, PartialEq, Eq)]
+pub struct TooMany;
 
-// The skills noted so far, in the order met, each with the highest level asked of it.
+// The skills noted so far, in the order met, each with the highest level asked of it. Two arrays: `is_among` reads ids alone, and took
+// half as long again on 200 of an array of pairs.
 #[derive(Clone, Copy)]
 pub struct Walk {
     pub ids: [i32; MOST_WANTED],
@@ -73,54 +41,27 @@ pub struct Walk {
     pub len: usize,
 }
 
-// Keeps a row when both names have attributes.
-fn keep(
-    skills: &mut [i32; 6],
-    levels: &mut [i32; 6],
-    n: usize,
-    skill: Option<i32>,
-    level: Option<i32>,
-) -> usize
-    requires { (n < 6) × (length skills.old ≡ 6) × (length levels.old ≡ 6) }
-    ensures { let before = requirements_in skills.old levels.old n in
-        let after = requirements_in skills.new levels.new result in
-        (after ≡ before ++ requirement skill level) × (result ≤ n + 1)
-        × (length skills.new ≡ 6) × (length levels.new ≡ 6) }
+// The attributes of a row's skill and of its level, where both names have one.
+fn requirement(catalogue: &[u8], row: (u32, u32)) -> Option<(i32, i32)>
+    requires { Catalogue.Sound catalogue.now }
+    ensures { option_to_list result ≡ requirement_of (catalogue_of catalogue.now) row }
 {
-    match skill {
-        Some(s) => match level {
-            Some(l) => {
-                skills[n] = s;
-                levels[n] = l;
-                n + 1
-            }
-            None => n,
-        },
-        None => n,
-    }
+    let skill = catalogue::attribute_id(catalogue, row.0)?;
+    let level = catalogue::attribute_id(catalogue, row.1)?;
+    Some((skill, level))
 }
 
 // The names are looked up once for the whole walk.
-fn required_of(catalogue: &[u8]) -> Required
+fn required_of(catalogue: &[u8]) -> [Option<(i32, i32)>; 6]
     requires { Catalogue.Sound catalogue.now }
-    ensures { (requirements_of result ≡ required (catalogue_of catalogue.now)) × (result.len ≤ 6) }
+    ensures { requirements_of result ≡ required (catalogue_of catalogue.now) }
 {
-    let mut skills = [0i32; 6];
-    let mut levels = [0i32; 6];
-    let mut n: usize = 0;
-    let mut i: usize = 0;
-    while i < 6 {
-        let row = REQUIRED[i];
-        let skill = catalogue::attribute_id(catalogue, row.skill);
-        let level = catalogue::attribute_id(catalogue, row.level);
-        n = keep(&mut skills, &mut levels, n, skill, level);
-        i += 1;
+    let mut required = [None; 6];
+    // an index: one array is filled from another in step
+    for i in 0..6 {
+        required[i] = requirement(catalogue, REQUIRED[i]);
     }
-    Required {
-        skills: skills,
-        levels: levels,
-        len: n,
-    }
+    required
 }
 
 // A skill that a value names, at the level that another says; a missing level is 0.
@@ -130,225 +71,146 @@ fn demand(skill: f64, level: Option<f64>) -> (i32, u8)
     (floats::to_i32(skill), floats::to_u8(floats::amount(level)))
 }
 
-// What one requirement asks for by the values of a result.
-fn asked_by_result(fit: &[u8], starts: &[u32; 259], res: usize, skill: i32, level: i32) -> Option<(i32, u8)>
-    requires { Fit.Sound fit.now × Fit.Starts fit.now starts.now × (res < result_count fit.now + 2) }
-    ensures { option_to_list result ≡ demand_of (value (result_of fit.now res)) (skill, level) }
+// What a requirement asks for by a source of values.
+fn asked<F: Fn(i32) -> Option<f64>>(look: F, skill: i32, level: i32) -> Option<(i32, u8)>
+    requires { F.IsAlwaysCallable look }
+    ensures { (values : Id → Option Float) → Reads (F.post look) values → option_to_list result ≡ demand_of values (skill, level) }
 {
-    let wanted = fit::value(fit, starts, res, skill);
-    match wanted {
-        Some(v) => Some(demand(v, fit::value(fit, starts, res, level))),
-        None => None,
-    }
+    let wanted = look(skill)?;
+    Some(demand(wanted, look(level)))
 }
 
-// What one requirement asks for by the base values of a skill, which stand in a span.
-fn asked_by_skill(catalogue: &[u8], span: Span, skill: i32, level: i32) -> Option<(i32, u8)>
-    requires { Catalogue.Sound catalogue.now × (span.from ≤ span.to) × (span.to ≤ base_count catalogue.now) }
-    ensures { option_to_list result ≡ demand_of (span_value catalogue.now span.from span.to) (skill, level) }
+// The first place of an id.
+fn first_place(ids: &[i32], id: i32) -> Option<usize>
+    ensures { result ≡ position (λ x. same x id) ids.now }
 {
-    let wanted = catalogue::base_value(catalogue, span, skill);
-    match wanted {
-        Some(v) => Some(demand(v, catalogue::base_value(catalogue, span, level))),
-        None => None,
-    }
+    ids.iter().position(|x| words::same_id(*x, id))
 }
 
-// Whether an id is among the first len. The loop runs to its end, so that the compiler can take many ids at once.
-fn is_among(ids: &[i32; MOST_WANTED], len: usize, id: i32) -> bool
-    requires { len ≤ most_wanted }
-    ensures { result ≡ any_of (λ x. same x id) (table len (λ k. get_or ids.now k (pos 0))) }
-{
-    let mut found = false;
-    let mut i: usize = 0;
-    while i < len {
-        let x = ids[i];
-        found = words::either(found, words::same_id(x, id));
-        i += 1;
-    }
-    found
-}
-
-// The first place of an id among the first len, or len. Most demands are of new skills.
-fn place(ids: &[i32; MOST_WANTED], len: usize, id: i32) -> usize
-    requires { len ≤ most_wanted }
-    ensures { Placed ids.now len id result }
-{
-    if !is_among(ids, len, id) {
-        return len;
-    }
-    let mut i = 0;
-    while i < len {
-        let x = ids[i];
-        if x == id {
-            return i;
+impl Walk {
+    fn new() -> Self
+        ensures { (walk_of result ≡ []) × (result.len ≡ 0) }
+    {
+        Walk {
+            ids: [0; MOST_WANTED],
+            levels: [0; MOST_WANTED],
+            len: 0,
         }
-        i += 1;
     }
-    len
-}
 
-// `add` and `raise` are the only functions of this crate that store into the walk's arrays, their first zeros aside. No contract can tell a
-// store of the old value from none, so that tests/style holds this.
-
-// Puts a skill that is new behind the others.
-fn add(ids: &mut [i32; MOST_WANTED], levels: &mut [u8; MOST_WANTED], len: usize, id: i32, level: u8)
-    requires { (len < most_wanted) × (length ids.old ≡ most_wanted) × (length levels.old ≡ most_wanted)
-        × New ids.old len id }
-    ensures { (ids.new ≡ set ids.old len id)
-        × (levels.new ≡ set levels.old len level) }
-{
-    ids[len] = id;
-    levels[len] = level;
-}
-
-// Raises the level of a skill that is known at a lower one. The ids are there for what is required.
-fn raise(ids: &[i32; MOST_WANTED], levels: &mut [u8; MOST_WANTED], at: usize, id: i32, level: u8)
-    requires { (at < most_wanted) × (length levels.old ≡ most_wanted) × LevelRises ids.now levels.old at id level }
-    ensures { levels.new ≡ set levels.old at level }
-{
-    levels[at] = level;
-}
-
-// Keeps the highest level asked of a skill, in the order it was first met. How many skills there are then: one more than the most where
-// there is no room.
-fn note(
-    ids: &mut [i32; MOST_WANTED],
-    levels: &mut [u8; MOST_WANTED],
-    len: usize,
-    id: i32,
-    level: u8,
-) -> usize
-    requires { (len ≤ most_wanted) × (length ids.old ≡ most_wanted) × (length levels.old ≡ most_wanted) }
-    ensures { Noted ids.old levels.old len id level ids.new levels.new result }
-{
-    let at = place(ids, len, id);
-    if at < len {
-        if levels[at] < level {
-            raise(ids, levels, at, id, level);
-            return len;
+    // Whether a skill is noted. The loop runs to its end, so that the compiler can take many ids at once.
+    fn is_among(&self, id: i32) -> bool
+        requires { self.now.len ≤ most_wanted }
+        ensures { result ≡ any_of (λ x. same x id) (table self.now.len (λ k. get_or self.now.ids k (pos 0))) }
+    {
+        let mut found = false;
+        for i in 0..self.len {
+            found = words::either(found, words::same_id(self.ids[i], id));
         }
-        // known at this level or a higher one: both arrays go on as they came
-        return len;
+        found
     }
-    if len < MOST_WANTED {
-        add(ids, levels, len, id, level);
-        return len + 1;
-    }
-    MOST_WANTED + 1
-}
 
-// Notes what is asked for. Where there is no room, none is made.
-fn note_asked(
-    ids: &mut [i32; MOST_WANTED],
-    levels: &mut [u8; MOST_WANTED],
-    len: usize,
-    asked: Option<(i32, u8)>,
-) -> usize
-    requires { (len ≤ most_wanted + 1) × (length ids.old ≡ most_wanted) × (length levels.old ≡ most_wanted) }
-    ensures { Notes ids.old levels.old len ids.new levels.new result (option_to_list asked) }
-{
-    if MOST_WANTED < len {
-        return len;
+    // The first place of a skill. Most demands are of new skills.
+    fn place(&self, id: i32) -> Option<usize>
+        requires { self.now.len ≤ most_wanted }
+        ensures { PlacedAt self.now id result }
+    {
+        if !self.is_among(id) {
+            return None;
+        }
+        first_place(&self.ids[..self.len], id)
     }
-    match asked {
-        Some((id, level)) => note(ids, levels, len, id, level),
-        None => len,
-    }
-}
 
-// Notes all that a result asks for itself, as the first.
-fn note_result(
-    fit: &[u8],
-    starts: &[u32; 259],
-    res: usize,
-    required: Required,
-    ids: &mut [i32; MOST_WANTED],
-    levels: &mut [u8; MOST_WANTED],
-) -> usize
-    requires { Fit.Sound fit.now × Fit.Starts fit.now starts.now × (res < result_count fit.now + 2) × (required.len ≤ 6)
-        × (length ids.old ≡ most_wanted) × (length levels.old ≡ most_wanted) }
-    ensures { let ds = each (requirements_of required) (demand_of (value (result_of fit.now res))) in
-        Notes ids.old levels.old 0 ids.new levels.new result ds }
-{
-    let n = required.len;
-    let mut len: usize = 0;
-    let mut i: usize = 0;
-    while i < n {
-        let skill = required.skills[i];
-        let level = required.levels[i];
-        len = note_asked(
-            ids,
-            levels,
-            len,
-            asked_by_result(fit, starts, res, skill, level),
-        );
-        i += 1;
-    }
-    len
-}
+    // `add` and `raise` are the only functions of this crate that store into a walk. No contract can tell a store of the old value from
+    // none, so that tests/style holds this.
 
-// Notes all that a skill asks for.
-fn note_skill(
-    catalogue: &[u8],
-    id: i32,
-    required: Required,
-    ids: &mut [i32; MOST_WANTED],
-    levels: &mut [u8; MOST_WANTED],
-    len: usize,
-) -> usize
-    requires { Catalogue.Sound catalogue.now × (required.len ≤ 6)
-        × (len ≤ most_wanted + 1) × (length ids.old ≡ most_wanted) × (length levels.old ≡ most_wanted) }
-    ensures { let ds = each (requirements_of required) (demand_of (base_value (catalogue_of catalogue.now) id)) in
-        Notes ids.old levels.old len ids.new levels.new result ds }
-{
-    let span = catalogue::bases_of(catalogue, id);
-    let n = required.len;
-    let mut k = len;
-    let mut i: usize = 0;
-    while i < n {
-        let skill = required.skills[i];
-        let level = required.levels[i];
-        k = note_asked(
-            ids,
-            levels,
-            k,
-            asked_by_skill(catalogue, span, skill, level),
-        );
-        i += 1;
+    // Puts a skill that is new behind the others.
+    fn add(&mut self, id: i32, level: u8)
+        requires { (self.old.len < most_wanted) × New self.old id }
+        ensures { (self.new.ids ≡ set self.old.ids self.old.len id) × (self.new.levels ≡ set self.old.levels self.old.len level)
+            × (self.new.len ≡ self.old.len + 1) }
+    {
+        self.ids[self.len] = id;
+        self.levels[self.len] = level;
+        self.len += 1;
     }
-    k
+
+    // Raises the level of a skill that is known at a lower one. The id is there for what is required.
+    fn raise(&mut self, at: usize, id: i32, level: u8)
+        requires { (at < most_wanted) × LevelRises self.old at id level }
+        ensures { (self.new.ids ≡ self.old.ids) × (self.new.levels ≡ set self.old.levels at level) × (self.new.len ≡ self.old.len) }
+    {
+        self.levels[at] = level;
+    }
+
+    // Keeps the highest level asked of a skill, in the order it was first met.
+    fn note(&mut self, id: i32, level: u8) -> Result<(), TooMany>
+        requires { self.old.len ≤ most_wanted }
+        ensures { Noted self.old id level self.new result }
+    {
+        match self.place(id) {
+            Some(at) => {
+                if level <= self.levels[at] {
+                    // the walk goes on as it came
+                    return Ok(());
+                }
+                self.raise(at, id, level);
+                Ok(())
+            }
+            None => {
+                if self.len == MOST_WANTED {
+                    return Err(TooMany);
+                }
+                self.add(id, level);
+                Ok(())
+            }
+        }
+    }
+
+    // Notes all that is asked for by a source of values.
+    fn note_all<F: Fn(i32) -> Option<f64>>(
+        &mut self,
+        required: &[Option<(i32, i32)>; 6],
+        look: F,
+    ) -> Result<(), TooMany>
+        requires { F.IsAlwaysCallable look × (self.old.len ≤ most_wanted) }
+        ensures { (values : Id → Option Float) → Reads (F.post look) values
+            → Notes self.old (each (requirements_of required.now) (demand_of values)) self.new result }
+    {
+        for requirement in required {
+            if let Some((skill, level)) = *requirement {
+                if let Some((id, level)) = asked(&look, skill, level) {
+                    self.note(id, level)?;
+                }
+            }
+        }
+        Ok(())
+    }
 }
 
 // The whole tree of skills depending on skills. The walk goes on while skills are added; a skill is added once, so it ends even where
-// skills point at one another. Its length is over the most where too many are wanted.
-pub fn wanted_skills(catalogue: &[u8], fit: &[u8], starts: &[u32; 259], res: usize) -> Walk
+// skills point at one another.
+pub fn wanted_skills(
+    catalogue: &[u8],
+    fit: &[u8],
+    starts: &[u32; 259],
+    res: usize,
+) -> Result<Walk, TooMany>
     requires { Catalogue.Sound catalogue.now × Fit.Sound fit.now × Fit.Starts fit.now starts.now
         × (res < result_count fit.now + 2) }
     ensures { HoldsWanted catalogue.now fit.now res result }
 {
     let required = required_of(catalogue);
-    let mut ids = [0i32; MOST_WANTED];
-    let mut levels = [0u8; MOST_WANTED];
-    let mut len = note_result(fit, starts, res, required, &mut ids, &mut levels);
+    let mut walk = Walk::new();
+    walk.note_all(&required, |id| fit::value(fit, starts, res, id))?;
     let mut next: usize = 0;
-    while next < len {
-        if MOST_WANTED < len {
-            return Walk {
-                ids: ids,
-                levels: levels,
-                len: len,
-            };
-        }
-        let id = ids[next];
-        len = note_skill(catalogue, id, required, &mut ids, &mut levels, len);
+    // a while: the walk grows as it is walked
+    while next < walk.len {
+        let span = catalogue::bases_of(catalogue, walk.ids[next]);
+        walk.note_all(&required, |id| catalogue::base_value(catalogue, span, id))?;
         next += 1;
     }
-    Walk {
-        ids: ids,
-        levels: levels,
-        len: len,
-    }
+    Ok(walk)
 }
 
 // The ship for results 0 and 1, else an item.
@@ -385,14 +247,10 @@ pub fn report(fit: &[u8], res: usize, walk: Walk, out: &mut [u8], n: usize) -> u
     ensures { let es = reported (fit_of fit.now) res (walk_of walk) in
         Wrote out.old n out.new result es × (result ≤ n + most_wanted) }
 {
-    let len = walk.len;
     let mut k = n;
-    let mut i: usize = 0;
-    while i < len {
-        let id = walk.ids[i];
-        let wanted = walk.levels[i];
-        k = report_skill(fit, res, id, wanted, out, k);
-        i += 1;
+    // an index: two arrays are read in step
+    for i in 0..walk.len {
+        k = report_skill(fit, res, walk.ids[i], walk.levels[i], out, k);
     }
     k
 }

@@ -3,10 +3,14 @@ use Prim.Native.Nat.{ℕ, ◌+◌, ◌≤◌}
 use mathlib.Core.Path.{◌≡◌, refl, sym, ap, ◌∙◌}
 use mathlib.Core.Bool.{Bool, true, false, not, ◌&&◌, ◌||◌, cond}
 use mathlib.Core.List.{List, []}
-use Rattle.std.specs.Prelude.{None, Some}
+use Rattle.std.specs.Prelude.{Option, None, Some}
+use Rattle.std.proofs.lemmas.Option.{slice_get_past}
 use lib.Dec.{eqb, leb, ltb}
-use Rattle.words.specs.Words.{◌>>=◌, table, when, when_any, any_of, given, same}
+use borrow.Author.Tests.{ltb-false}
+use Rattle.words.specs.Words.{◌>>=◌, table, when, when_any, any_of, same}
+use Rattle.numbers.specs.declared.SlotKind.{SlotKind}
 use Rattle.numbers.specs.Slots as Slots
+use Rattle.numbers.specs.Slots.{KINDS, kind_of}
 use Rattle.numbers.specs.Categories as Categories
 use Rattle.catalogue.specs.Catalogue.{Id}
 use Rattle.entry.specs.declared.Entry.{Entry}
@@ -18,60 +22,68 @@ use Rattle.entry.proofs.Wrote.{wrote-same}
 use Rattle.context.specs.Context.{Pair, Context, is_fitted, is_in, is_fighter_slot, is_module_category}
 use Rattle.context.specs.Gathered.{slot_in, pair_count, pair_at, pairs_of}
 use Rattle.context.proofs.Pairs.{pairs-table}
-use Rattle.context.proofs.Types.{passes}
 use Rattle.slot.specs.declared.Item.{Item}
 use Rattle.slot.specs.Slot.{wrong_slot, not_a_module, not_a_drone, not_a_fighter, not_an_implant, slot_taken, wrong_slot_index}
 use Rattle.slot.specs.AtPair.{expects, Holds, Checked}
 
--- an entry that shows the slot of a byte
-slot-shown : (code : ℕ) (t : ℕ → Bool) (e : ℕ → Entry) → when (ltb code 8 && t code) (e code) ≡ ◌>>=◌ (slot_in code) (λ s. when (t s) (e s))
-unfolding slot_in ◌>>=◌ when
-slot-shown code t e = go (ltb code 8)
+-- an entry that shows the kind of a byte
+kind-shown : (code : ℕ) (t : ℕ → Bool) (e : SlotKind → Entry)
+    → ◌>>=◌ (kind_of code) (λ k. when (t code) (e k)) ≡ ◌>>=◌ (slot_in code) (λ s. ◌>>=◌ (kind_of s) (λ k. when (t s) (e k)))
+unfolding slot_in ◌>>=◌
+kind-shown code t e = go (ltb code 8) refl
   where
-    go : (b : Bool) → when (b && t code) (e code) ≡ ◌>>=◌ (cond b (Some code) None) (λ s. when (t s) (e s))
-    go true = refl
-    go false = refl
+    found : ℕ → List Entry
+    found s = ◌>>=◌ (kind_of s) (λ k. when (t s) (e k))
+
+    go : (b : Bool) → ltb code 8 ≡ b → found code ≡ ◌>>=◌ (cond b (Some code) None) found
+    go true q = refl
+    go false q = ap (λ (o : Option SlotKind). ◌>>=◌ o (λ k. when (t code) (e k))) (slice_get_past KINDS code (ltb-false code 8 q))
 
 -- ---- what each check tells
 module _ (item : Item) where
   abbrev pub is_misplaced : Bool
-  is_misplaced = ltb item.rack 8 && (leb item.slot Slots.service && not (eqb item.slot item.rack))
+  is_misplaced = leb item.slot Slots.service && not (eqb item.slot item.rack)
 
-  -- what the type is, if it is there
   abbrev pub is_of : Id → Bool
-  is_of category = given item.answer false (λ x. same x.category category)
-
-  abbrev pub is_racked : Bool
-  is_racked = given item.answer false (λ x. is_module_category x.category)
+  is_of category = same item.category category
 
   abbrev told : Rule → Entry
   told rule = on_item item.position rule
 
   module _ (x : Context) {ps : List Pair} {p : Pair} (h : Holds x ps p item) where
-    pub wrong_slot-is : when is_misplaced (told (WrongSlot item.rack)) ≡ wrong_slot x p
+    wrong_slot-is : {o : Option SlotKind} → kind_of item.rack ≡ o → ◌>>=◌ o (λ k. when is_misplaced (told (WrongSlot k))) ≡ wrong_slot x p
     unfolding wrong_slot is_fitted is_in
-    wrong_slot-is =
-        slot-shown item.rack (λ s. leb item.slot Slots.service && not (eqb item.slot s)) (λ s. told (WrongSlot s))
+    wrong_slot-is e =
+        ap (λ (o : Option SlotKind). ◌>>=◌ o (λ k. when is_misplaced (told (WrongSlot k)))) (sym e)
+        ∙ kind-shown item.rack (λ s. leb item.slot Slots.service && not (eqb item.slot s)) (λ k. told (WrongSlot k))
         ∙ rw (h.rack, h.slot, h.position)
 
-    pub not-a_module_is : when (leb item.slot Slots.service && not is_racked) (told NotAModule) ≡ not_a_module x p
+    pub wrong_slot-shown : {kind : SlotKind} → kind_of item.rack ≡ Some kind → when is_misplaced (told (WrongSlot kind)) ≡ wrong_slot x p
+    unfolding ◌>>=◌
+    wrong_slot-shown e = wrong_slot-is e
+
+    pub wrong_slot-none : kind_of item.rack ≡ None → [] ≡ wrong_slot x p
+    unfolding ◌>>=◌
+    wrong_slot-none e = wrong_slot-is e
+
+    pub not-a_module_is : when (leb item.slot Slots.service && not (is_module_category item.category)) (told NotAModule) ≡ not_a_module x p
     unfolding not_a_module is_fitted is_module_category same
-    not-a_module_is = rw (h.slot, passes is_module_category refl item.answer h.category, h.position)
+    not-a_module_is = rw (h.slot, h.category, h.position)
 
     pub not-a_drone_is : when (eqb item.slot Slots.drone_bay && not (is_of Categories.drone)) (told NotADrone)
         ≡ not_a_drone x p
     unfolding not_a_drone is_in same
-    not-a_drone_is = rw (h.slot, passes (λ c. same c Categories.drone) refl item.answer h.category, h.position)
+    not-a_drone_is = rw (h.slot, h.category, h.position)
 
     pub not-a_fighter_is : {t : Bool} → t ≡ eqb item.slot Slots.fighter_tube || eqb item.slot Slots.fighter_bay
         → when (t && not (is_of Categories.fighter)) (told NotAFighter) ≡ not_a_fighter x p
     unfolding not_a_fighter is_fighter_slot is_in same
-    not-a_fighter_is e = rw (e, h.slot, passes (λ c. same c Categories.fighter) refl item.answer h.category, h.position)
+    not-a_fighter_is e = rw (e, h.slot, h.category, h.position)
 
     pub not-an_implant_is : {t : Bool} → t ≡ eqb item.slot Slots.implant || eqb item.slot Slots.booster
         → when (t && not (is_of Categories.implant)) (told NotAnImplant) ≡ not_an_implant x p
     unfolding not_an_implant is_in same
-    not-an_implant_is e = rw (e, h.slot, passes (λ c. same c Categories.implant) refl item.answer h.category, h.position)
+    not-an_implant_is e = rw (e, h.slot, h.category, h.position)
 
     pub slot-taken_is : when item.taken (told SlotTaken) ≡ slot_taken x ps p
     unfolding slot_taken when_any

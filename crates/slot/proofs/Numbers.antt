@@ -26,6 +26,11 @@ pub context-names : (catalogue fit : List ℕ) → (catalogue_of catalogue).name
 unfolding context_of context
 context-names catalogue fit = refl
 
+pub part_named : (catalogue fit : List ℕ) {o : Option Id} → o ≡ name_id (catalogue_of catalogue).names Names.sub_system_slot
+    → o ≡ name_id (context_of catalogue fit).names Names.sub_system_slot
+unfolding context_of context
+part_named catalogue fit e = e
+
 -- ---- the number of an implant's or a booster's slot
 module _ (p : Pair) {s : ℕ} (e : s ≡ p.slot) where
   pub number-implant : s ≡ Slots.implant → slot_number_name p ≡ Some Names.implantness

@@ -6,6 +6,7 @@ use mathlib.Core.Path.{◌≡◌, refl, sym, ap, subst, ◌∙◌}
 use mathlib.Core.Bool.{Bool, true, false, not, ◌&&◌, ◌||◌, cond}
 use mathlib.Core.List.{List}
 use mathlib.Core.Logic.{⊎_elim}
+use mir.Val.{bool_byte}
 use lib.Dec.{eqb, ltb}
 use lib.ListN.{length, get_or, set}
 use lib.Seq.{get_or-set_same, get_or-set_other}
@@ -46,6 +47,15 @@ sits_same {s} {i} {a} {t} {j} {b} x y = go (eqb s t) (eqb i j) refl refl
     go true false p q = ne_eqb a b (λ e. eqb-false i j q (omega (arith, x.number, y.number, eqb-true s t p, e)))
     go false true p q = ne_eqb a b (λ e. eqb-false s t p (omega (arith, x.number, y.number, x.small, y.small, e)))
     go false false p q = ne_eqb a b (λ e. eqb-false s t p (omega (arith, x.number, y.number, x.small, y.small, e)))
+
+-- what a test adds to a count
+pub byte-cond : (b : Bool) → bool_byte b ≡ cond b 1 0
+byte-cond true = refl
+byte-cond false = refl
+
+pub byte-le : (b : Bool) → bool_byte b ≤ 1
+byte-le true = omega arith
+byte-le false = omega arith
 
 -- of the first j things, `there` pass a test, which that at `at` does: is there another?
 pub record Told (at j there : ℕ) (any : Bool) : Type 0 where

@@ -1,7 +1,7 @@
 -- validate/slot.rs: what the code holds of the names, of where pairs sit and of a pair, and what it tells of the pair.
-use Rattle.std.specs.Prelude.{ℕ, ◌+◌, ◌*◌, ◌<◌, ◌≤◌, ◌≡◌, ◌&&◌, List, [], ◌∷◌, pos, get_or}
+use Rattle.std.specs.Prelude.{ℕ, ◌+◌, ◌*◌, ◌<◌, ◌≤◌, ◌≡◌, ◌&&◌, List, [], ◌∷◌, get_or}
 use Rattle.std.specs.Prelude.{Option, None, Some}
-use Rattle.words.specs.Words.{when, any_of, given}
+use Rattle.words.specs.Words.{when, any_of}
 use Rattle.numbers.specs.Names as Names
 use Rattle.catalogue.specs.Catalogue.{catalogue_of}
 use Rattle.catalogue.specs.Lookups.{name_id}
@@ -42,7 +42,7 @@ expects p (Some index) = on p (WrongSlotIndex index) ∷ []
 pub record Holds (x : Context) (ps : List Pair) (p : Pair) (item : Item) : Type 0 where
   pub position : item.position ≡ p.position
   pub slot : item.slot ≡ p.slot
-  pub category : given item.answer (pos 0) (λ x. x.category) ≡ p.category
+  pub category : item.category ≡ p.category
   pub rack : slot_in item.rack ≡ p.rack
   pub taken : item.taken ≡ (holds_one p && any_of (shares_slot p) ps)
   pub expected : expects p item.expected ≡ wrong_slot_index x p

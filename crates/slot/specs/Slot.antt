@@ -24,7 +24,8 @@ module _ (x : Context) (p : Pair) where
   unfoldable pub wrong_slot : List Entry
   wrong_slot = do
     rack ← p.rack
-    when (is_fitted p && not (is_in rack p)) (on p (WrongSlot rack))
+    expected ← Slots.kind_of rack
+    when (is_fitted p && not (is_in rack p)) (on p (WrongSlot expected))
 
   unfoldable pub not_a_module : List Entry
   not_a_module = when (is_fitted p && not (is_module_category p.category)) (on p NotAModule)

@@ -1,9 +1,8 @@
 // What sits in the slots of a ship, and whether it may: validate/slot.rs, the checks of an item. How many there are is counted in `racks`.
 #![tactic(auto)]
 
-ghost use Rattle.std.specs.Prelude.{◌≡◌, false, not, ◌&&◌, List, ◌++◌, ℕ, ◌+◌, ◌*◌, ◌<◌, ◌≤◌};
+ghost use Rattle.std.specs.Prelude.{◌≡◌, not, ◌&&◌, List, ◌++◌, ℕ, ◌+◌, ◌*◌, ◌<◌, ◌≤◌};
 ghost use Rattle.std.specs.Prelude.{None};
-ghost use Rattle.std.specs.Float.Ieee.{eq};
 ghost use Rattle.words.specs.Words.{when, given, any_of, same};
 ghost use Rattle.numbers.specs.Sizes.{most_pairs};
 ghost use Rattle.catalogue.specs.Lookups.{name_id};
@@ -12,15 +11,14 @@ ghost use Rattle.fit.specs.Sound as Fit;
 ghost use Rattle.entry.specs.declared.Rule.TheVariants.{SubsystemTaken};
 ghost use Rattle.entry.specs.Entries.{on_item};
 ghost use Rattle.entry.specs.Wrote.{Wrote, Room};
-ghost use Rattle.context.specs.Context.{is_module_category, on};
+ghost use Rattle.context.specs.Context.{on};
 ghost use Rattle.context.specs.Gathered.{pair_count, pair_at, pairs_of, context_of, Gathered};
 ghost use Rattle.slot.specs.Slot.{wrong_slot, not_a_module, not_a_drone, not_a_fighter, not_an_implant, slot_number_name, wrong_slot_index};
 ghost use Rattle.slot.specs.Slot.{holds_one, shares_slot, shares_part, subsystem_taken, slot_checks, slot_rules};
 ghost use Rattle.slot.specs.AtPair.{Named, Sits, Places, Holds, Checked, expects};
 
-use catalogue::TypeInfo;
 use entry::{Entry, Rule, Target};
-use numbers::{categories, names, slots};
+use numbers::{SlotKind, categories, names, slots};
 
 // The attributes that the checks look up by name.
 #[derive(Clone, Copy)]
@@ -35,17 +33,14 @@ fn ids_of(catalogue: &[u8]) -> Ids
     requires { Catalogue.Sound catalogue.now }
     ensures { Named catalogue.now result }
 {
-    let implantness = catalogue::attribute_id(catalogue, names::IMPLANTNESS);
-    let boosterness = catalogue::attribute_id(catalogue, names::BOOSTERNESS);
-    let part = catalogue::attribute_id(catalogue, names::SUBSYSTEM_SLOT);
     Ids {
-        implantness,
-        boosterness,
-        part,
+        implantness: catalogue::attribute_id(catalogue, names::IMPLANTNESS),
+        boosterness: catalogue::attribute_id(catalogue, names::BOOSTERNESS),
+        part: catalogue::attribute_id(catalogue, names::SUBSYSTEM_SLOT),
     }
 }
 
-// A slot and an index as one number, so that one comparison tells both.
+// A slot and an index as one number, so that one comparison tells both: as two fields, `shares_slot` takes 4 times as many instructions.
 fn place_of(slot: u8, index: u16) -> u32
     ensures { Sits slot index result }
 {
@@ -57,12 +52,9 @@ fn places(fit: &[u8]) -> [u32; 256]
     requires { Fit.Sound fit.now }
     ensures { Places fit.now result }
 {
-    let count = fit::pair_count(fit);
     let mut places = [0u32; 256];
-    let mut i = 0;
-    while i < count {
+    for i in 0..fit::pair_count(fit) {
         places[i] = place_of(fit::item_slot(fit, i), fit::item_index(fit, i));
-        i += 1;
     }
     places
 }
@@ -73,12 +65,11 @@ fn holds_one(fit: &[u8], i: usize) -> bool
     ensures { (catalogue : List ℕ) → result ≡ holds_one (pair_at catalogue fit.now i) }
 {
     let slot = fit::item_slot(fit, i);
-    let bay = words::either(slot == slots::DRONE_BAY, slot == slots::FIGHTER_BAY);
-    !words::either(bay, slot == slots::CARGO)
+    !((slot == slots::DRONE_BAY) | (slot == slots::FIGHTER_BAY) | (slot == slots::CARGO))
 }
 
 // Whether another pair is in the slot of pair i. The pair itself is counted too, and the loop runs to its end, so that the
-// compiler can take many pairs at once.
+// compiler can take many pairs at once; `filter` and `count`, which count in 64 bits, take 3 times as many instructions.
 fn shares_slot(fit: &[u8], places: &[u32; 256], i: usize) -> bool
     requires { Fit.Sound fit.now × Places fit.now places.now × (i < pair_count fit.now) }
     ensures { let f = fit.now in
@@ -87,10 +78,8 @@ fn shares_slot(fit: &[u8], places: &[u32; 256], i: usize) -> bool
     let pairs = fit::pair_count(fit);
     let place = places[i];
     let mut there: u32 = 0;
-    let mut j: usize = 0;
-    while j < pairs {
-        there += words::one_if(places[j] == place);
-        j += 1;
+    for j in 0..pairs {
+        there += (places[j] == place) as u32;
     }
     1 < there
 }
@@ -101,10 +90,7 @@ fn slot_taken(fit: &[u8], places: &[u32; 256], i: usize) -> bool
         ((catalogue : List ℕ) →
         result ≡ (holds_one (pair_at catalogue f i) && any_of (shares_slot (pair_at catalogue f i)) (pairs_of catalogue f))) }
 {
-    if holds_one(fit, i) {
-        return shares_slot(fit, places, i);
-    }
-    false
+    holds_one(fit, i) && shares_slot(fit, places, i)
 }
 
 // The attribute in which an implant or a booster names its slot.
@@ -114,16 +100,11 @@ fn slot_number(catalogue: &[u8], fit: &[u8], ids: Ids, i: usize) -> Option<i32>
         let p = pair_at catalogue.now fit.now i in
         result ≡ given (slot_number_name p) None (name_id x.names) }
 {
-    let slot = fit::item_slot(fit, i);
-    if slot == slots::IMPLANT {
-        let id = ids.implantness;
-        return id;
+    match fit::item_slot(fit, i) {
+        slots::IMPLANT => ids.implantness,
+        slots::BOOSTER => ids.boosterness,
+        _ => None,
     }
-    if slot == slots::BOOSTER {
-        let id = ids.boosterness;
-        return id;
-    }
-    None
 }
 
 // An implant and a booster sit in a numbered slot of their own, which the item names itself.
@@ -139,32 +120,16 @@ fn wrong_slot_index(
         let p = pair_at catalogue.now fit.now i in
         expects p result ≡ wrong_slot_index x p }
 {
-    let number = slot_number(catalogue, fit, ids, i);
-    let Some(id) = number else {
-        return None;
-    };
-    let value = fit::value(fit, facts, i + 2, id);
-    let Some(v) = value else {
-        return None;
-    };
-    let expected = floats::to_u16(v);
+    let id = slot_number(catalogue, fit, ids, i)?;
+    let value = fit::value(fit, facts, i + 2, id)?;
+    let expected = floats::to_u16(value);
     if expected == fit::item_index(fit, i) {
         return None;
     }
     Some(expected)
 }
 
-// Whether a value is that of a part; a NaN is that of none.
-fn is_part(value: Option<f64>, part: f64) -> bool
-    ensures { result ≡ given value false (λ v. eq v part) }
-{
-    match value {
-        Some(v) => v == part,
-        None => false,
-    }
-}
-
-// Whether pair j is a subsystem for the part, and another than pair i.
+// Whether pair j is a subsystem for the part, and another than pair i. A NaN is no part.
 fn same_part(fit: &[u8], facts: &[u32; 2058], id: i32, part: f64, i: usize, j: usize) -> bool
     requires { Fit.Sound fit.now × Fit.Starts fit.now facts.now × (j < pair_count fit.now) }
     ensures { let f = fit.now in
@@ -176,7 +141,7 @@ fn same_part(fit: &[u8], facts: &[u32; 2058], id: i32, part: f64, i: usize, j: u
     if !context::is_in(fit, j, slots::SUBSYSTEM) {
         return false;
     }
-    is_part(fit::value(fit, facts, j + 2, id), part)
+    fit::value(fit, facts, j + 2, id).is_some_and(|v| v == part)
 }
 
 // Whether another subsystem than pair i is for the part.
@@ -185,12 +150,9 @@ fn shares_part(fit: &[u8], facts: &[u32; 2058], id: i32, part: f64, i: usize) ->
     ensures { let f = fit.now in
         ((catalogue : List ℕ) → result ≡ any_of (shares_part id part (pair_at catalogue f i)) (pairs_of catalogue f)) }
 {
-    let count = fit::pair_count(fit);
     let mut found = false;
-    let mut j = 0;
-    while j < count {
-        found = words::either(found, same_part(fit, facts, id, part, i, j));
-        j += 1;
+    for j in 0..fit::pair_count(fit) {
+        found |= same_part(fit, facts, id, part, i, j);
     }
     found
 }
@@ -206,43 +168,22 @@ fn subsystem_taken(catalogue: &[u8], fit: &[u8], facts: &[u32; 2058], ids: Ids, 
     if !context::is_in(fit, i, slots::SUBSYSTEM) {
         return false;
     }
-    let part = ids.part;
-    let Some(id) = part else {
+    let Some(id) = ids.part else {
         return false;
     };
-    let value = fit::value(fit, facts, i + 2, id);
-    let Some(part) = value else {
+    let Some(part) = fit::value(fit, facts, i + 2, id) else {
         return false;
     };
     shares_part(fit, facts, id, part, i)
 }
 
-// Whether a type is of a category. One that the catalogue lacks is of none.
-fn is_of(answer: Option<TypeInfo>, category: i32) -> bool
-    ensures { result ≡ given answer false (λ x. same x.category category) }
-{
-    match answer {
-        Some(info) => words::same_id(info.category, category),
-        None => false,
-    }
-}
-
-// Whether a type goes into a rack. One that the catalogue lacks does not.
-fn is_module(answer: Option<TypeInfo>) -> bool
-    ensures { result ≡ given answer false (λ x. is_module_category x.category) }
-{
-    let Some(info) = answer else {
-        return false;
-    };
-    context::is_module_category(info.category)
-}
-
-// What the checks look at of a pair. A rack of 8 or above is none; `taken` is its slot, `covered` its part of the ship, by another.
+// What the checks look at of a pair. A type that the catalogue lacks is of category 0. A rack of 8 or above is none, as
+// `context::rack` tells it; `taken` is its slot, `covered` its part of the ship, by another.
 #[derive(Clone, Copy)]
 struct Item {
     position: u32,
     slot: u8,
-    answer: Option<TypeInfo>,
+    category: i32,
     rack: u8,
     taken: bool,
     expected: Option<u16>,
@@ -267,7 +208,7 @@ fn item_at(
     Item {
         position: i as u32,
         slot: fit::item_slot(fit, i),
-        answer: context::type_at(catalogue, fit, facts, i),
+        category: context::type_at(catalogue, fit, facts, i).map_or(0, |info| info.category),
         rack: context::rack(catalogue, fit, facts, i),
         taken: slot_taken(fit, places, i),
         expected: wrong_slot_index(catalogue, fit, facts, ids, i),
@@ -301,35 +242,28 @@ fn push_unless(
     n: usize,
 ) -> usize
     requires { Room n 1 }
-    ensures { let test = there && not (given item.answer false (λ x. same x.category category)) in
+    ensures { let test = there && not (same item.category category) in
         Wrote out.old n out.new result (when test (on_item item.position rule)) × (result ≤ n + 1) }
 {
-    let answer = item.answer;
-    let test = words::both(there, !is_of(answer, category));
-    push_when(item, test, rule, out, n)
+    push_when(item, there & (item.category != category), rule, out, n)
 }
 
 fn wrong_slot(item: Item, out: &mut [u8], n: usize) -> usize
     requires { Room n 1 }
     ensures { Checked 1 item (λ x ps p. wrong_slot x p) out.old n out.new result }
 {
-    let rack = item.rack;
-    let misplaced = words::both(context::is_fitted(item.slot), item.slot != rack);
-    push_when(
-        item,
-        words::both(rack < 8, misplaced),
-        Rule::WrongSlot(rack),
-        out,
-        n,
-    )
+    let misplaced = context::is_fitted(item.slot) & (item.slot != item.rack);
+    match SlotKind::of(item.rack) {
+        Some(expected) => push_when(item, misplaced, Rule::WrongSlot(expected), out, n),
+        None => n,
+    }
 }
 
 fn not_a_module(item: Item, out: &mut [u8], n: usize) -> usize
     requires { Room n 1 }
     ensures { Checked 1 item (λ x ps p. not_a_module x p) out.old n out.new result }
 {
-    let answer = item.answer;
-    let test = words::both(context::is_fitted(item.slot), !is_module(answer));
+    let test = context::is_fitted(item.slot) & !context::is_module_category(item.category);
     push_when(item, test, Rule::NotAModule, out, n)
 }
 
@@ -345,10 +279,7 @@ fn not_a_fighter(item: Item, out: &mut [u8], n: usize) -> usize
     requires { Room n 1 }
     ensures { Checked 1 item (λ x ps p. not_a_fighter x p) out.old n out.new result }
 {
-    let there = words::either(
-        item.slot == slots::FIGHTER_TUBE,
-        item.slot == slots::FIGHTER_BAY,
-    );
+    let there = (item.slot == slots::FIGHTER_TUBE) | (item.slot == slots::FIGHTER_BAY);
     push_unless(item, there, categories::FIGHTER, Rule::NotAFighter, out, n)
 }
 
@@ -356,7 +287,7 @@ fn not_an_implant(item: Item, out: &mut [u8], n: usize) -> usize
     requires { Room n 1 }
     ensures { Checked 1 item (λ x ps p. not_an_implant x p) out.old n out.new result }
 {
-    let there = words::either(item.slot == slots::IMPLANT, item.slot == slots::BOOSTER);
+    let there = (item.slot == slots::IMPLANT) | (item.slot == slots::BOOSTER);
     push_unless(item, there, categories::IMPLANT, Rule::NotAnImplant, out, n)
 }
 
@@ -377,8 +308,7 @@ fn expect_index(item: Item, out: &mut [u8], n: usize) -> usize
     requires { Room n 1 }
     ensures { Checked 1 item (λ x ps p. wrong_slot_index x p) out.old n out.new result }
 {
-    let expected = item.expected;
-    match expected {
+    match item.expected {
         Some(index) => push_when(item, true, Rule::WrongSlotIndex(index), out, n),
         None => n,
     }
@@ -410,13 +340,10 @@ pub fn validate(
 {
     let ids = ids_of(catalogue);
     let places = places(fit);
-    let count = fit::pair_count(fit);
     let mut k = n;
-    let mut i = 0;
-    while i < count {
+    for i in 0..fit::pair_count(fit) {
         let item = item_at(catalogue, fit, facts, &places, ids, i);
         k = slot_checks(item, out, k);
-        i += 1;
     }
     k
 }

@@ -13,12 +13,12 @@ ghost use Rattle.fit.specs.Fit.{fit_of, skill_count};
 ghost use Rattle.fit.specs.Sound as Fit;
 ghost use Rattle.skill.specs.Held.{walk_of};
 ghost use Rattle.calls.specs.Output.{output, room_refusals};
-ghost use Rattle.calls.specs.Gave.{GaveBytes};
+ghost use Rattle.calls.specs.Gave.{GaveBytes, word_of};
 ghost use Rattle.training.specs.Training.{training_of, raised, trained_by, trained_image, train_refusals};
 ghost use Rattle.training.specs.Turns.{turn, turns, is_new, Listed, held_in, Parted};
 
-use calls::refused;
-use numbers::{refusals, sizes};
+use numbers::refusals::Refusal;
+use numbers::sizes;
 use skill::Walk;
 
 // Room for as many skills as may be listed, and on either side of them for every wanted one.
@@ -82,11 +82,7 @@ fn move_down(b: &mut [u8], at: usize, end: usize, by: usize)
     requires { (by ≤ at) × (at ≤ end) × (end ≤ length b.old) }
     ensures { b.new ≡ put b.old (at - by) (take (end - at) (drop at b.old)) }
 {
-    let mut i = at;
-    while i < end {
-        b[i - by] = b[i];
-        i += 1;
-    }
+    b.copy_within(at..end, at - by);
 }
 
 // Puts a skill that is not listed to its place, at a level. Those above it make room.
@@ -107,7 +103,7 @@ fn insert_up(ids: &mut [u8], levels: &mut [u8], span: Span, at: usize, id: i32, 
     levels[place] = level;
 }
 
-// The same, and those below it make room.
+// The same, and those below it make room. Not one with the other: what moves, which way and where to would all be parameters.
 fn insert_down(ids: &mut [u8], levels: &mut [u8], span: Span, at: usize, id: i32, level: u8)
     requires { (1 ≤ span.from) × (4 * (span.from + span.len) ≤ length ids.old) × (span.from + span.len ≤ length levels.old)
         × Parted ids.old span.from span.len id at × (ltb at span.len && same (key_at ids.old (span.from + at)) id ≡ false) }
@@ -162,18 +158,14 @@ fn take_turn(ids: &mut [u8], levels: &mut [u8], span: Span, steps: u32, id: i32,
         let given = portion(wanted, level, steps);
         levels[place] = level + given;
         return Left {
-            from: from,
-            len: len,
+            from,
+            len,
             steps: steps - (given as u32),
         };
     }
     let given = portion(wanted, 0, steps);
     if given == 0 {
-        return Left {
-            from: from,
-            len: len,
-            steps: steps,
-        };
+        return Left { from, len, steps };
     }
     let first = insert(ids, levels, span, at, id, given);
     Left {
@@ -197,24 +189,16 @@ fn take_turns(ids: &mut [u8], levels: &mut [u8], span: Span, walk: Walk, steps: 
     let mut from = span.from;
     let mut len = span.len;
     let mut left = steps;
-    let mut i: usize = 0;
-    while i < n {
+    for i in 0..n {
         let id = walk.ids[i];
         let wanted = walk.levels[i];
-        let now = Span {
-            from: from,
-            len: len,
-        };
+        let now = Span { from, len };
         let after = take_turn(ids, levels, now, left, id, wanted);
         from = after.from;
         len = after.len;
         left = after.steps;
-        i += 1;
     }
-    Span {
-        from: from,
-        len: len,
-    }
+    Span { from, len }
 }
 
 // A fit's skills once each skill of a walk had its turn.
@@ -242,8 +226,8 @@ fn planned(fit: &[u8], walk: Walk, steps: u32) -> Plan
     };
     let after = take_turns(&mut ids, &mut levels, span, walk, steps);
     Plan {
-        ids: ids,
-        levels: levels,
+        ids,
+        levels,
         from: after.from,
         len: after.len,
     }
@@ -302,12 +286,10 @@ fn new_skills(fit: &[u8], walk: Walk) -> usize
 {
     let n = walk.len;
     let mut count: usize = 0;
-    let mut i: usize = 0;
-    while i < n {
+    for i in 0..n {
         let id = walk.ids[i];
         let wanted = walk.levels[i];
         count += new_skill(fit, id, wanted);
-        i += 1;
     }
     count
 }
@@ -327,46 +309,51 @@ fn too_many_listed(fit: &[u8], walk: Walk) -> bool
 }
 
 // The fit that the steps lead to, where there is room for it.
-fn train_listed(fit: &[u8], walk: Walk, steps: u32, out: &mut [u8]) -> u64
+fn train_listed(fit: &[u8], walk: Walk, steps: u32, out: &mut [u8]) -> Result<usize, Refusal>
     requires { Fit.Sound fit.now × (walk.len ≤ Sizes.most_wanted) }
     ensures { let b = fit.now in
         let bs = trained_image b (turns (training_of (fit_of b)) steps (walk_of walk)).0 in
-        GaveBytes out.old out.new result (output (room_refusals out.old bs) bs) }
+        GaveBytes out.old out.new (word_of result) (output (room_refusals out.old bs) bs) }
 {
     let old = 5 * fit::skill_count(fit);
     let plan = planned(fit, walk, steps);
     let size = fit.len() - old + 5 * plan.len;
     if out.len() < size {
-        return refused(refusals::TOO_SHORT);
+        return Err(Refusal::TooShort);
     }
     let span = Span {
         from: plan.from,
         len: plan.len,
     };
     write_fit(fit, &plan.ids, &plan.levels, span, out);
-    size as u64
+    Ok(size)
 }
 
 // The training call on images that are accepted: 8 and 9 as the skill call gives them, 16, 10.
-pub fn train(catalogue: &[u8], fit: &[u8], res: u32, steps: u32, out: &mut [u8]) -> u64
+pub fn train(
+    catalogue: &[u8],
+    fit: &[u8],
+    res: u32,
+    steps: u32,
+    out: &mut [u8],
+) -> Result<usize, Refusal>
     requires { Catalogue.Sound catalogue.now × Fit.Sound fit.now }
     ensures { let c = catalogue_of catalogue.now in
         let b = fit.now in
         let bs = trained_image b (training_of (trained_by c res steps (fit_of b))) in
-        GaveBytes out.old out.new result
+        GaveBytes out.old out.new (word_of result)
         (output (train_refusals c (fit_of b) res ++ room_refusals out.old bs) bs) }
 {
     let res = res as usize;
     if fit::result_count(fit) + 1 < res {
-        return refused(refusals::NO_RESULT);
+        return Err(Refusal::NoResult);
     }
     let starts = fit::starts(fit);
-    let walk = skill::wanted_skills(catalogue, fit, &starts, res);
-    if sizes::MOST_WANTED < walk.len {
-        return refused(refusals::TOO_MANY_SKILLS);
-    }
+    let Ok(walk) = skill::wanted_skills(catalogue, fit, &starts, res) else {
+        return Err(Refusal::TooManySkills);
+    };
     if too_many_listed(fit, walk) {
-        return refused(refusals::TOO_MANY_LISTED);
+        return Err(Refusal::TooManyListed);
     }
     train_listed(fit, walk, steps, out)
 }

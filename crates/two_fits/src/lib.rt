@@ -6,7 +6,6 @@ ghost use Rattle.std.specs.Prelude.{◌≡◌};
 ghost use Rattle.lists.specs.Terms.{terms, limited, read_by, main};
 ghost use Rattle.fitcheck.specs.Calls.{list_call, skill_call};
 ghost use Rattle.promises.specs.Answers.{outcome};
-ghost use Rattle.promises.specs.Compare.{Bytes};
 ghost use Rattle.two_fits.specs.Kept.{left, ListsKept, SkillsKept, HeldOnce, ListsHauled, SkillsHauled};
 
 // The words of an old and of a new call.
@@ -21,18 +20,6 @@ pub struct Words {
 pub struct Page {
     pub pairs: u32,
     pub skills: u32,
-}
-
-// What a slice holds are bytes; each is looked at, so that this is proved of it. How many there are.
-fn bytes(b: &[u8]) -> usize
-    ensures { Bytes b.now }
-{
-    let mut i: usize = 0;
-    while i < b.len() {
-        let _ = image::wide32(b[i]);
-        i += 1;
-    }
-    i
 }
 
 // Two list calls of one reader with one profile and one allowance, each on its own page: their words and their buffers are the call's.
@@ -62,7 +49,6 @@ pub fn lists(
         × HeldOnce o
         × HeldOnce o' }
 {
-    let _ = bytes(new);
     let a = fitcheck::fit_list(
         reader,
         catalogue,

@@ -43,6 +43,14 @@ module _ {A : Type 0} where
   empty-length [] h = refl
   empty-length (x ∷ l) h = absurd (subst (λ (t : Bool). cond t ⊥ (Prim.Unit {0})) h tt)
 
+-- a list behind another, whose emptiness is asked only where that one is empty
+module _ {A : Type 0} (l m : List A) where
+  pub empty-behind : {b : Bool} {k : ℕ} → b ≡ is_empty l → b ≡ true → k ≡ length m → eqb k 0 ≡ is_empty (l ++ m)
+  empty-behind {b} {k} p q e = empty-count (l ++ m) k (omega (arith, e, length-append l m, empty-length l (sym p ∙ q)))
+
+  pub some-before : {b : Bool} → b ≡ is_empty l → b ≡ false → b ≡ is_empty (l ++ m)
+  some-before p q = q ∙ sym (empty-some (l ++ m) (omega (arith, length-append l m, some-length l (sym p ∙ q))))
+
 pub rules-length : (x : Context) (ps : List Pair) → length (hull_rules x ps)
     ≡ length (resources x ps) + length (racks_and_hardpoints x ps) + length (slot_rules x ps) + length (item_rules x ps) + length (limit_rules x ps)
 unfolding hull_rules

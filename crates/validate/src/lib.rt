@@ -25,61 +25,47 @@ use numbers::{categories, groups, sizes};
 // No list has more entries: the mode, the skills, 12 resources, 6 racks, 2 hardpoints; and of each pair 8 by slot.rs, 8 by item.rs.
 pub const MOST_ENTRIES: usize = 1 + sizes::MOST_SKILLS + 12 + 8 + 16 * sizes::MOST_PAIRS;
 
+#[tactic(auto, unfolding(words::specs::Words::contains, words::specs::Words::any_of, words::specs::Words::same))]
 fn is_container(group: i32) -> bool
     ensures { result ≡ contains group Groups.containers }
 {
-    let a = words::same_id(group, groups::CONTAINERS[0]);
-    let b = words::same_id(group, groups::CONTAINERS[1]);
-    let c = words::same_id(group, groups::CONTAINERS[2]);
-    let d = words::same_id(group, groups::CONTAINERS[3]);
-    words::either(words::either(a, b), words::either(c, d))
+    groups::CONTAINERS.contains(&group)
 }
 
+#[tactic(auto, unfolding(crate::specs::Kind::is_hull_kind, words::specs::Words::same))]
 fn is_hull_kind(category: i32, group: i32) -> bool
     ensures { result ≡ is_hull_kind category group }
 {
-    if words::same_id(category, categories::SHIP) {
-        return true;
-    }
-    if words::same_id(category, categories::STRUCTURE) {
-        return true;
-    }
-    is_container(group)
+    matches!(category, categories::SHIP | categories::STRUCTURE) || is_container(group)
 }
 
 // Whether the ship is one: a ship, structure or container. A type that the catalogue lacks is none.
+#[tactic(auto, unfolding(crate::specs::Kind::is_hull, words::specs::Words::given))]
 pub fn is_hull(catalogue: &[u8], fit: &[u8], facts: &[u32; 2058]) -> bool
     requires { Gathered catalogue.now fit.now facts.now }
     ensures { result ≡ is_hull (catalogue_of catalogue.now) (fit_of fit.now).frame.ship }
 {
     let answer = context::ship_type(catalogue, fit, facts);
-    match answer {
-        Some(info) => is_hull_kind(info.category, info.group),
-        None => false,
-    }
+    answer.is_some_and(|info| is_hull_kind(info.category, info.group))
 }
 
 // Whether the type is a tactical mode.
+#[tactic(auto, unfolding(crate::specs::Kind::is_mode, words::specs::Words::given, words::specs::Words::same))]
 fn is_mode(catalogue: &[u8], id: i32) -> bool
     requires { Catalogue.Sound catalogue.now }
     ensures { result ≡ is_mode (catalogue_of catalogue.now) id }
 {
     let mut none = [0u32; 0];
     let answer = catalogue::type_of(catalogue, id, &mut none);
-    let Some(info) = answer else {
-        return false;
-    };
-    words::same_id(info.group, groups::SHIP_MODIFIERS)
+    answer.is_some_and(|info| info.group == groups::SHIP_MODIFIERS)
 }
 
 // Whether a type is a skill, by what the lookup answered. One that the catalogue lacks is none.
+#[tactic(auto, unfolding(words::specs::Words::given, words::specs::Words::same))]
 fn is_skill(answer: Option<TypeInfo>) -> bool
     ensures { result ≡ given answer false (λ x. same x.category Categories.skill) }
 {
-    match answer {
-        Some(info) => words::same_id(info.category, categories::SKILL),
-        None => false,
-    }
+    answer.is_some_and(|info| info.category == categories::SKILL)
 }
 
 fn not_a_mode(catalogue: &[u8], fit: &[u8], out: &mut [u8], n: usize) -> usize
@@ -87,8 +73,7 @@ fn not_a_mode(catalogue: &[u8], fit: &[u8], out: &mut [u8], n: usize) -> usize
     ensures { let mode = mode_of (fit_of fit.now).frame in
         Wrote out.old n out.new result (not_a_mode (catalogue_of catalogue.now) mode) × (result ≤ n + 1) }
 {
-    let answer = fit::mode(fit);
-    let Some(mode) = answer else {
+    let Some(mode) = fit::mode(fit) else {
         return n;
     };
     entry::emit_when(
@@ -137,11 +122,7 @@ fn four_skills(catalogue: &[u8], fit: &[u8], i: usize, out: &mut [u8], n: usize)
     let b = fit::skill_id(fit, i + 1);
     let c = fit::skill_id(fit, i + 2);
     let d = fit::skill_id(fit, i + 3);
-    let four = catalogue::four_types(catalogue, a, b, c, d);
-    let first = four.a;
-    let second = four.b;
-    let third = four.c;
-    let fourth = four.d;
+    let [first, second, third, fourth] = catalogue::four_types(catalogue, &[a, b, c, d]);
     let j = unless_skill(a, first, out, n);
     let k = unless_skill(b, second, out, j);
     let l = unless_skill(c, third, out, k);
@@ -166,10 +147,8 @@ fn by_fours(catalogue: &[u8], fit: &[u8], count: usize, out: &mut [u8], n: usize
         es (4 * (count / 4)) out.old n out.new result }
 {
     let mut m = n;
-    let mut i = 0;
-    while i + 4 <= count {
-        m = four_skills(catalogue, fit, i, out, m);
-        i += 4;
+    for k in 0..count / 4 {
+        m = four_skills(catalogue, fit, 4 * k, out, m);
     }
     m
 }
@@ -191,10 +170,8 @@ fn one_by_one(
 {
     let count = fit::skill_count(fit);
     let mut m = n;
-    let mut i = from;
-    while i < count {
+    for i in from..count {
         m = not_a_skill_at(catalogue, fit::skill_id(fit, i), hints, out, m);
-        i += 1;
     }
     m
 }
@@ -243,19 +220,11 @@ fn no_rule_broken(catalogue: &[u8], fit: &[u8], facts: &[u32; 2058]) -> bool
         result ≡ is_empty (hull_rules x ps) }
 {
     let mut none = [0u8; 0];
-    if 0 < resource::validate(catalogue, fit, facts, &mut none, 0) {
-        return false;
-    }
-    if 0 < racks::validate(catalogue, fit, facts, &mut none, 0) {
-        return false;
-    }
-    if 0 < slot::validate(catalogue, fit, facts, &mut none, 0) {
-        return false;
-    }
-    if 0 < item::validate(catalogue, fit, facts, &mut none, 0) {
-        return false;
-    }
-    limits::validate(catalogue, fit, facts, &mut none, 0) == 0
+    resource::validate(catalogue, fit, facts, &mut none, 0) == 0
+        && racks::validate(catalogue, fit, facts, &mut none, 0) == 0
+        && slot::validate(catalogue, fit, facts, &mut none, 0) == 0
+        && item::validate(catalogue, fit, facts, &mut none, 0) == 0
+        && limits::validate(catalogue, fit, facts, &mut none, 0) == 0
 }
 
 // The list of a ship that is no hull.
@@ -312,13 +281,8 @@ pub fn is_empty(catalogue: &[u8], fit: &[u8], facts: &[u32; 2058], hints: &mut [
     requires { Gathered catalogue.now fit.now facts.now }
     ensures { result ≡ is_empty (list_of (catalogue_of catalogue.now) (fit_of fit.now)) }
 {
-    let on_hull = is_hull(catalogue, fit, facts);
-    if !on_hull {
-        return false;
-    }
-    if !no_rule_broken(catalogue, fit, facts) {
-        return false;
-    }
     let mut none = [0u8; 0];
-    kind(catalogue, fit, hints, &mut none, 0) == 0
+    is_hull(catalogue, fit, facts)
+        && no_rule_broken(catalogue, fit, facts)
+        && kind(catalogue, fit, hints, &mut none, 0) == 0
 }

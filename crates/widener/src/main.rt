@@ -4,31 +4,16 @@
 
 mod text;
 
-ghost use Rattle.std.specs.Prelude.{◌≡◌, ◌≤◌, length};
-
 use std::io;
-
-// As much as 65,536 bytes widen to: with 5,459 bases, four bytes more for each.
-fn text_buffer() -> [u8; 87372]
-    ensures { 87372 ≡ length result }
-{
-    [0; 87372]
-}
-
-fn print(rt: &impl Print, old: &[u8]) -> io::Result<()>
-    requires { length old.now ≤ 65536 }
-{
-    let mut text = text_buffer();
-    let n = text::printed(old, &mut text);
-    rt.write_all(&text[..n])
-}
 
 // One byte more than the file may have tells a longer one.
 fn main(rt: HostRuntime) -> io::Result<()> {
-    let mut types = [0u8; 65537];
-    let n = program::read(&rt, b"types.bin", &mut types);
-    if 65536 < n {
+    let mut types = [0; 65537];
+    let types = program::read(&rt, b"types.bin", &mut types);
+    if 65536 < types.len() {
         return println!(rt; "too long");
     }
-    print(&rt, &types[..n])
+    // As much as 65,536 bytes widen to: with 5,459 bases, four bytes more for each.
+    let mut text = [0; 87372];
+    rt.write_all(text::printed(types, &mut text))
 }

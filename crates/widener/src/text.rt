@@ -1,19 +1,22 @@
 // What is put on standard output: specs/Text.antt.
-ghost use Rattle.std.specs.Prelude.{◌≡◌, ◌≤◌, length, take};
-ghost use Rattle.program.specs.Counts.{IsPrefixLen};
+ghost use Rattle.std.specs.Prelude.{◌≡◌, ◌≤◌, length};
 ghost use Rattle.widener.specs.Text as Text;
 
+use arrayvec::ArrayString;
 use numbers::sizes;
 
 // The new catalogue, or the refusal's line. The buffer has room for what so short an image widens to: there is no refusal 10.
-pub fn printed(old: &[u8], text: &mut [u8]) -> usize
+pub fn printed<'t>(old: &[u8], text: &'t mut [u8]) -> &'t [u8]
     requires { (length old.now ≤ 65536) × (87372 ≤ length text.old) }
-    ensures prefix_len { IsPrefixLen result text.new }
-    ensures text_after { take result text.new ≡ Text.printed old.now }
+    ensures { result.now ≡ Text.printed old.now }
 {
     let word = fitcheck::fit_widen(old, text);
     if word < sizes::WORD {
-        return word as usize;
+        return &text[..word as usize];
     }
-    program::refused(text, 0, word / sizes::WORD)
+    let mut line = ArrayString::<29>::new();
+    program::refused(&mut line, word / sizes::WORD);
+    let whole = &mut text[..line.len()];
+    whole.copy_from_slice(line.as_bytes());
+    whole
 }

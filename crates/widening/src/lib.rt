@@ -2,48 +2,39 @@
 #![tactic(auto)]
 
 ghost use Rattle.std.specs.Prelude.{◌≡◌, ◌+◌, ◌*◌, ◌≤◌, length};
+ghost use Rattle.numbers.specs.Refused.{number_of};
 ghost use Rattle.image.specs.Bytes.{put};
 ghost use Rattle.catalogue.specs.Catalogue.{base_count, base_values_at, size_of};
 ghost use Rattle.widening.specs.Old.{old_size_of, old_value_at, old_bad_length, old_refusal};
 ghost use Rattle.widening.specs.Widen.{wide_value, wide_values, widened};
 
-use numbers::{refusals, sizes};
+use numbers::refusals::Refusal;
 
-// The length that the sizes say.
-fn size_of(old: &[u8]) -> usize
-    requires { 20 ≤ length old.now }
-    ensures { result ≡ old_size_of old.now }
-{
-    catalogue_refusals::bases_at(old) + 12 * catalogue::count(old, 16)
-}
+// Bytes of a base in the old form: two ids and an f32.
+const BASE_SIZE: usize = 12;
 
 // Refusal 1 of the old form.
+#[tactic(auto, unfolding(crate::specs::Old::old_bad_length))]
 fn bad_length(old: &[u8]) -> bool
     ensures { result ≡ old_bad_length old.now }
 {
-    if sizes::MOST_CATALOGUE_BYTES < old.len() {
-        return true;
-    }
-    if old.len() < 20 {
-        return true;
-    }
-    old.len() != size_of(old)
+    catalogue_refusals::bad_length(old, BASE_SIZE)
 }
 
-// The first refusal of 1 to 3 that holds of the old form, or 0. Keys and fields stand where the new form has them.
-pub fn number(old: &[u8]) -> u64
-    ensures { result ≡ old_refusal old.now }
+// The first refusal of 1 to 3 that holds of the old form. Keys and fields stand where the new form has them.
+pub fn check(old: &[u8]) -> Result<(), Refusal>
+    ensures { number_of result ≡ old_refusal old.now }
 {
     if bad_length(old) {
-        return refusals::BAD_LENGTH;
+        return Err(Refusal::BadLength);
     }
     if catalogue_refusals::bad_order(old) {
-        return refusals::BAD_KEYS;
+        return Err(Refusal::BadKeys);
     }
     if catalogue_refusals::bad_field(old) {
-        return refusals::BAD_ENTRY;
+        return Err(Refusal::BadEntry);
     }
-    0
+    Ok(())
 }
 
 // The bytes that the new form takes.
@@ -69,10 +60,8 @@ fn widen_values(old: &[u8], at: usize, n: usize, out: &mut [u8])
     requires { (at ≡ base_values_at old.now) × (at + 8 * n ≤ length old.now) × (at + 12 * n ≤ length out.old) }
     ensures { out.new ≡ put out.old at (wide_values old.now n) }
 {
-    let mut i = 0;
-    while i < n {
+    for i in 0..n {
         widen_value(old, at + 8 * i, out, at + 12 * i);
-        i += 1;
     }
 }
 

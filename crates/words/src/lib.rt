@@ -7,21 +7,21 @@ ghost use Rattle.words.specs.Words.{same};
 pub fn both(a: bool, b: bool) -> bool
     ensures { result ≡ (a && b) }
 {
-    if a { b } else { false }
+    a & b
 }
 
 // Whether one of two tests holds. A loop that gathers its verdict with this call has no branch of its own.
 pub fn either(a: bool, b: bool) -> bool
     ensures { result ≡ (a || b) }
 {
-    if a { true } else { b }
+    a | b
 }
 
 // What a test adds to a count.
 pub fn one_if(b: bool) -> u32
     ensures { (result ≡ cond b 1 0) × (result ≤ 1) }
 {
-    b as u32
+    u32::from(b)
 }
 
 // Two ids are the same.

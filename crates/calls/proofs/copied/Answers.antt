@@ -1,7 +1,7 @@
 -- `calls::copied` meets its contract: refusal 10, or the bytes of the place.
 use Prim.Native.Nat.{◌*◌}
 use native.Mathlib.Omega.{arith}
-use mathlib.Core.Path.{◌≡◌, ap, ◌∙◌}
+use mathlib.Core.Path.{◌≡◌, refl, ap, ◌∙◌}
 use lib.ListN.{length}
 use lib.Seq.{length-take-le}
 use Rattle.image.specs.Bytes.{put}
@@ -10,7 +10,7 @@ use Rattle.calls.proofs.Giving.{gave_short, gave_copied}
 use Rattle.calls.proofs.copied.Goals as goal
 
 pub returns-then-out-count : goal.returns-then-out-count
-returns-then-out-count c = λ es b w h. gave_short es (omega (arith, wrote_count w, c.if-out-count.true)) c.refused.ensures
+returns-then-out-count c = λ es b w h. gave_short es (omega (arith, wrote_count w, c.if-out-count.true)) refl
 
 pub copy-requires : goal.copy-requires
 copy-requires c =

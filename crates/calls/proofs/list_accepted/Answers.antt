@@ -2,6 +2,7 @@
 use native.Mathlib.Omega.{arith}
 use Rattle.catalogue.specs.Catalogue.{catalogue_of}
 use Rattle.fit.specs.Fit.{fit_of}
+use Rattle.numbers.specs.Reading.{reader_number}
 use Rattle.lists.specs.Terms.{terms, read_by}
 use Rattle.lists.specs.Lists.{list_for}
 use Rattle.calls.proofs.Giving.{gave_list}
@@ -10,19 +11,29 @@ use Rattle.calls.proofs.list_accepted.Goals as goal
 pub returns-then-most-out : goal.returns-then-most-out
 returns-then-most-out c =
     let a = c.args in
-    let t = read_by a.asked.reader (terms a.profile.now a.asked.allowance) in
+    let t = read_by (reader_number a.asked.reader) (terms a.profile.now a.asked.allowance) in
     let x = catalogue_of a.catalogue.now in
     gave_list (list_for t x (fit_of a.fit.now)) (omega (arith, c.if-most-out.true, c.most_entries-most.ensures.0 t x)) c.write.ensures.0
 
-pub small_list-requires : goal.small_list-requires
-small_list-requires c =
-    record { gathered = (c.gather-facts.ensures, c.requires.2); fit_bound = λ t x. omega (arith, c.if-most-le-SMALL_PLACE.true, c.most_entries-most.ensures.0 t x) }
+pub placed-requires : goal.placed-requires
+placed-requires c =
+    let a = c.args in
+    let t = read_by (reader_number a.asked.reader) (terms a.profile.now a.asked.allowance) in
+    record {
+      size = omega arith;
+      gathered = (c.gather-facts.ensures, c.requires.2);
+      fit_bound = omega (arith, c.if-most-le-SMALL_PLACE.true, c.most_entries-most.ensures.0 t (catalogue_of a.catalogue.now));
+    }
 
-pub returns-then-most-le-SMALL_PLACE : goal.returns-then-most-le-SMALL_PLACE
-returns-then-most-le-SMALL_PLACE c = c.small_list.ensures
-
-pub returns : goal.returns
-returns c = c.large_list.ensures
+pub placed-requires-2 : goal.placed-requires-2
+placed-requires-2 c =
+    let a = c.args in
+    let t = read_by (reader_number a.asked.reader) (terms a.profile.now a.asked.allowance) in
+    record {
+      size = omega arith;
+      gathered = (c.gather-facts.ensures, c.requires.2);
+      fit_bound = omega (arith, c.most_entries-most.ensures.1, c.most_entries-most.ensures.0 t (catalogue_of a.catalogue.now));
+    }
 
 pub overflow_mul-most : goal.overflow_mul-most
 overflow_mul-most c = omega (arith, c.most_entries-most.ensures.1)

@@ -2,7 +2,8 @@
 use Prim.Native.Nat.{◌+◌, ◌≤◌, ◌<◌}
 use native.Mathlib.Omega.{arith}
 use Rattle.fit.specs.Fit.{result_count}
-use mathlib.Core.Path.{sym, ap, ◌∙◌}
+use mathlib.Core.Path.{refl, sym, ap, ◌∙◌}
+use borrow.Author.Rules.{rules}
 use Rattle.numbers.specs.Sizes as Sizes
 use Rattle.numbers.specs.Refusals as Refusals
 use Rattle.skill.proofs.Reports.{reported-all}
@@ -16,47 +17,46 @@ pub returns-then-result_count-res : goal.returns-then-result_count-res
 returns-then-result_count-res c =
     let a = c.args in
     let None = no_result_lem a.fit.now a.res (omega (arith, c.result_count.ensures, c.if-result_count-res.true)) in
-    gave_same (sym (answer_true Refusals.no_result _ _ (omega arith) None)) (gave_refused _ Refusals.no_result c.refused.ensures)
+    gave_same (sym (answer_true Refusals.no_result _ _ (omega arith) None)) (gave_refused _ Refusals.no_result refl)
 
-pub returns-then-walk-gt-MOST_WANTED : goal.returns-then-walk-gt-MOST_WANTED
-returns-then-walk-gt-MOST_WANTED c =
+pub returns-in_default : goal.returns-in_default
+returns-in_default c =
     let a = c.args in
     let small : a.res ≤ result_count a.fit.now + 1 = omega (arith, c.result_count.ensures, c.if-result_count-res.false) in
     let below : a.res < result_count a.fit.now + 2 = omega (arith, c.result_count.ensures, c.if-result_count-res.false) in
-    let w = c.wanted_skills-walk in
-    let many = over-many a.catalogue.now a.fit.now a.res w.result w.ensures below (omega (arith, c.if-walk-gt-MOST_WANTED.true)) in
+    let many = over-many a.catalogue.now a.fit.now a.res below c.wanted_skills.result c.wanted_skills.ensures (search rules) in
     gave_same
     (sym (answer_false Refusals.no_result _ _ (has_result a.fit.now a.res small) ∙ answer_true Refusals.too_many_skills _ _ (omega arith) many))
-    (gave_refused _ Refusals.too_many_skills c.refused-then-walk-gt-MOST_WANTED.ensures)
+    (gave_refused _ Refusals.too_many_skills refl)
 
 pub returns-then-limit-walk : goal.returns-then-limit-walk
 returns-then-limit-walk c =
     let a = c.args in
     let small : a.res ≤ result_count a.fit.now + 1 = omega (arith, c.result_count.ensures, c.if-result_count-res.false) in
     let below : a.res < result_count a.fit.now + 2 = omega (arith, c.result_count.ensures, c.if-result_count-res.false) in
-    let w = c.wanted_skills-walk in
-    let most : w.result.len ≤ Sizes.most_wanted = omega (arith, c.if-walk-gt-MOST_WANTED.false) in
-    let few = over-few a.catalogue.now a.fit.now a.res w.result w.ensures below most in
-    let over = over-page a.catalogue.now a.fit.now a.res w.result w.ensures below (limited 0 a.skills main) most (omega (arith, c.if-limit-walk.true)) in
+    let w = c.in-Ok.walk in
+    let few = over-few a.catalogue.now a.fit.now a.res below w c.in-Ok.ensures in
+    let over = over-page a.catalogue.now a.fit.now a.res below w c.in-Ok.ensures (limited 0 a.skills main) (omega (arith, c.if-limit-walk.true)) in
     gave_same
     (sym
     (answer_false Refusals.no_result _ _ (has_result a.fit.now a.res small)
     ∙ answer_false Refusals.too_many_skills _ _ few
     ∙ answer_true Refusals.over_limit _ _ (omega arith) over))
-    (gave_refused _ Refusals.over_limit c.refused-then-limit-walk.ensures)
+    (gave_refused _ Refusals.over_limit refl)
+
+pub skill_list-requires : goal.skill_list-requires
+skill_list-requires c = (c.requires.1, omega (arith, c.result_count.ensures, c.if-result_count-res.false), (c.in-Ok.ensures.holds c.in-Ok.walk refl).0)
 
 pub returns : goal.returns
 returns c =
     let a = c.args in
     let small : a.res ≤ result_count a.fit.now + 1 = omega (arith, c.result_count.ensures, c.if-result_count-res.false) in
     let below : a.res < result_count a.fit.now + 2 = omega (arith, c.result_count.ensures, c.if-result_count-res.false) in
-    let w = c.wanted_skills-walk in
-    let held : w.result.len ≤ Sizes.most_wanted = omega (arith, c.if-walk-gt-MOST_WANTED.false) in
-    let few = over-few a.catalogue.now a.fit.now a.res w.result w.ensures below held in
-    let within : w.result.len ≤ a.skills = omega (arith, c.if-limit-walk.false) in
-    let on = within-page a.catalogue.now a.fit.now a.res w.result w.ensures below (limited 0 a.skills main) held within in
+    let w = c.in-Ok.walk in
+    let few = over-few a.catalogue.now a.fit.now a.res below w c.in-Ok.ensures in
+    let on = within-page a.catalogue.now a.fit.now a.res below w c.in-Ok.ensures (limited 0 a.skills main) (omega (arith, c.if-limit-walk.false)) in
     gave_same
-    (ap (lent a.out.now) (reported-all a.catalogue.now a.fit.now a.res w.result w.ensures held below)
+    (ap (lent a.out.now) (reported-all a.catalogue.now a.fit.now a.res w c.in-Ok.ensures below)
     ∙ sym
     (answer_false Refusals.no_result _ _ (has_result a.fit.now a.res small)
     ∙ answer_false Refusals.too_many_skills _ _ few

@@ -1,5 +1,6 @@
 -- `calls::skill_list` meets its contract: the list is written where there is room for any, else counted first.
 use native.Mathlib.Omega.{arith}
+use mathlib.Core.Path.{refl}
 use Rattle.entry.proofs.Wrote.{wrote_count}
 use Rattle.fit.specs.Fit.{fit_of}
 use Rattle.skill.specs.Skill.{reported}
@@ -17,7 +18,7 @@ pub returns-then-out-missing : goal.returns-then-out-missing
 returns-then-out-missing c =
     let w = c.report-missing.ensures in
     let a = c.args in
-    gave_short (reported (fit_of a.fit.now) a.res (walk_of a.walk)) (omega (arith, wrote_count w.0, c.if-out-missing.true)) c.refused.ensures
+    gave_short (reported (fit_of a.fit.now) a.res (walk_of a.walk)) (omega (arith, wrote_count w.0, c.if-out-missing.true)) refl
 
 pub returns : goal.returns
 returns c =

@@ -10,15 +10,6 @@ use Rattle.keys.specs.Keys.{Sorted, Parts, place_of}
 use Rattle.catalogue.proofs.Blocks.{find-part}
 use Rattle.catalogue.proofs.found_at.Goals as goal
 
-pub place_at-requires : goal.place_at-requires
-place_at-requires c =
-    let e = sym c.keys_of.ensures.0 in (
-      omega (arith, c.keys_of.ensures.1),
-      subst (λ (l : List ℕ). Sorted l c.args.b.n) e c.requires.n_in_bounds.1,
-      subst (λ (z : ℤ). Parts c.keys_of.result.now c.args.b.n z c.args.at) (sym (to_z-of_z w32 c.args.id c.ranges.id))
-          (subst (λ (l : List ℕ). Parts l c.args.b.n c.args.id c.args.at) e c.requires.parts),
-    )
-
 pub returns : goal.returns
 returns c =
     c.place_at.ensures

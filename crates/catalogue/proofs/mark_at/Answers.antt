@@ -11,6 +11,3 @@ read c = let e = c.effects-b.ensures in c.u32_at.ensures ∙ rw (e.0, e.1)
 pub overflow_cast-result : goal.overflow_cast-result
 overflow_cast-result c =
     omega (arith, read c, mark-small c.args.catalogue.now c.requires.0 c.args.i c.requires.1)
-
-pub returns : goal.returns
-returns c = read c

@@ -6,6 +6,6 @@ use mathlib.Core.List.{List}
 use Rattle.keys.specs.Keys.{Sorted}
 use Rattle.catalogue.proofs.seek.Goals as goal
 
-pub four_from-found-requires : goal.four_from-found-requires
-four_from-found-requires c =
-    (omega (arith, c.keys_of.ensures.1), subst (λ (l : List ℕ). Sorted l c.args.b.n) (sym c.keys_of.ensures.0) c.requires.1)
+pub each_from-found-requires : goal.each_from-found-requires
+each_from-found-requires c =
+    (omega arith, (omega arith, (omega (arith, c.keys_of.ensures.1), subst (λ (l : List ℕ). Sorted l c.args.b.n) (sym c.keys_of.ensures.0) c.requires.1)))

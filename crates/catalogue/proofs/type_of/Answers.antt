@@ -10,11 +10,3 @@ pub first_key-at-requires : goal.first_key-at-requires
 first_key-at-requires c =
     let e = c.types.ensures in
     (search rules, rw (e.0, e.1) (types-sorted c.args.catalogue.now c.requires))
-
-pub type_found-requires : goal.type_found-requires
-type_found-requires c =
-    let e = c.types.ensures in
-    (c.requires, types-part c.args.catalogue.now refl e.0 e.1 c.first_key-at.ensures)
-
-pub returns : goal.returns
-returns c = c.type_found.ensures ∙ simp (to_z-of_z w32 c.args.id c.ranges.id)

@@ -11,14 +11,6 @@ use Rattle.context.specs.Gathered.{answer_of, ship_at}
 use Rattle.context.proofs.Filling.{kept-still}
 use Rattle.context.proofs.gather.Goals as goal
 
-pub gather_pairs-requires : goal.gather_pairs-requires
-gather_pairs-requires c =
-    (c.requires.0, c.requires.1, c.facts-2-1.given)
-
-pub put_type-requires : goal.put_type-requires
-put_type-requires c =
-    (c.facts-4-1.given, omega arith)
-
 pub returns : goal.returns
 returns c =
     let p = c.put_type in

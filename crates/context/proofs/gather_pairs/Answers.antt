@@ -12,15 +12,6 @@ use Rattle.context.specs.Gathered.{pair_count, Kept, Pairs}
 use Rattle.context.proofs.Filling.{pairs-none, pairs-more}
 use Rattle.context.proofs.gather_pairs.Goals as goal
 
-pub loop-i-init : goal.loop-i-init
-loop-i-init c =
-    (omega arith, c.pair_count-n.ensures, c.requires.2, pairs-none _ _ _, λ j h. refl, refl)
-
-pub gather_pair-requires : goal.gather_pair-requires
-gather_pair-requires c =
-    let l = c.loop-i in
-    (c.requires.0, l.invariant.2, omega (arith, c.requires.1.sized.items, l.invariant.1, c.loop-i-test.true))
-
 pub loop-i-preserved : goal.loop-i-preserved
 loop-i-preserved c =
     let it = c.item_type in
@@ -39,15 +30,3 @@ loop-i-preserved c =
       λ j q. put.1 j (λ n m e. omega (arith, q, e)) ∙ l.invariant.4 j q,
       c.hints-in-loop-i-1.given ∙ c.hints-1.given ∙ l.invariant.5,
     )
-
-pub shape_of-hints : goal.shape_of-hints
-shape_of-hints c = c.loop-i.invariant.5
-
-pub shape_of-facts : goal.shape_of-facts
-shape_of-facts c = c.loop-i.invariant.2 ∙ sym c.requires.2
-
-pub returns : goal.returns
-returns c =
-    let l = c.loop-i in
-    let e : l.i ≡ pair_count c.args.fit.now = omega (arith, c.loop-i-test.false, l.invariant.0, l.invariant.1) in
-    (subst (λ (k : ℕ). Pairs c.args.catalogue.now c.args.fit.now k l.facts) e l.invariant.3, l.invariant.4)

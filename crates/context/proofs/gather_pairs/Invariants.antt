@@ -9,6 +9,3 @@ abbrev pub invariant-loop-i : goal.invariant-loop-i
 invariant-loop-i l =
     (l.i ≤ l.n) × (l.n ≡ pair_count l.fit) × (length l.facts ≡ fact_count) × Pairs l.catalogue l.fit l.i l.facts × Before groups_at l.initial.facts l.facts
     × (length l.hints ≡ length l.initial.hints)
-
-abbrev pub decreases-loop-i : goal.decreases-loop-i
-decreases-loop-i l = l.n - l.i

@@ -13,8 +13,8 @@ pub returns : goal.returns
 returns c =
     let info = c.args.info in
     let x = c.f64_bits-volume in
-    let e : c.low.result + 2 ^ 32 * c.high.result ≡ x.result = omega (arith, c.low.ensures, c.high.ensures) in
-    let volume : of_halves c.low.result c.high.result ≡ info.volume =
+    let e : c.low32.result + 2 ^ 32 * c.high32.result ≡ x.result = omega (arith, c.low32.ensures, c.high32.ensures) in
+    let volume : of_halves c.low32.result c.high32.result ≡ info.volume =
     ap (of_bits binary64) (e ∙ x.ensures) ∙ f64_bits-back info.volume (search rules) in
     rw (
       signed_kept info.group (search rules) c.bits.ensures,

@@ -1,11 +1,12 @@
 -- `entry::emit` meets its contract, by whether there is room.
-use mathlib.Core.Path.{refl}
-use native.Mathlib.Omega.{arith}
+use Rattle.std.proofs.Common.{◌∙◌, refl, arith}
 use Rattle.entry.proofs.Wrote.{wrote-room, wrote-full}
 use Rattle.entry.proofs.emit.Goals as goal
+use Rattle.entry.proofs.emit.Goals.{then-n-out, else-n-out}
 
-pub returns-then-n-out : goal.returns-then-n-out
-returns-then-n-out c = wrote-room _ (omega arith) refl c.write.ensures
-
-pub returns-else-n-out : goal.returns-else-n-out
-returns-else-n-out c = wrote-full _ (omega arith) refl
+pub returns : goal.returns
+returns c =
+    elim c.if-n-out.branch [
+      | then-n-out w ↦ wrote-room _ (omega (arith, w.if-n-out.true)) refl (w.out-is ∙ w.write.ensures)
+      | else-n-out w ↦ rw w.out-is (wrote-full _ (omega (arith, w.if-n-out.false)) refl)
+    ]

@@ -26,69 +26,23 @@ next b s j v l f e k h =
     (λ (q : k < j + 1). get_or-set_other s (j + 1) k v 0 (λ x. omega (arith, x, q)) ∙ f k (omega (arith, q)))
     (eq-or-lt_of_le h)
 
--- a result's attributes end within all
-within : (c : goal.After-count_at)
-    → let b = c.args.fit.now in
-    start_at b c.loop-j.j + count_at b c.loop-j.j ≤ attribute_count b
-within c =
-    start-within c.args.fit.now c.requires.0.sized c.loop-j.j (omega arith)
-
-pub overflow_add-n : goal.overflow_add-n
-overflow_add-n c = omega arith
-
-pub bounds-s-0 : goal.bounds-s-0
-bounds-s-0 c = omega arith
-
 pub loop-j-init : goal.loop-j-init
 loop-j-init c =
     let a = c.args in
-    let b = a.fit.now in
-    let s = a.s.now in (
-      omega arith,
-      sym (start_none b),
-      refl,
-      first b (set s 0 0) (get_or-set_same s 0 0 0 (omega arith)),
-    )
-
-pub count_at-requires : goal.count_at-requires
-count_at-requires c = omega arith
-
-pub overflow_cast-sum : goal.overflow_cast-sum
-overflow_cast-sum c = omega arith
+    record {
+      sum = sym (start_none a.fit.now);
+      begins = first a.fit.now (set a.s.now 0 0) (get_or-set_same a.s.now 0 0 0 (omega arith));
+    }
 
 pub overflow_add-sum : goal.overflow_add-sum
-overflow_add-sum c = omega (arith, within c)
-
-pub overflow_add-j : goal.overflow_add-j
-overflow_add-j c = omega arith
-
-pub offset_bounds-s-j : goal.offset_bounds-s-j
-offset_bounds-s-j c = omega arith
-
-pub bounds-s-j : goal.bounds-s-j
-bounds-s-j c =
-    let a = c.args in omega (arith, length-set a.s.now 0 0)
-
-pub loop-j-smaller : goal.loop-j-smaller
-loop-j-smaller c = omega arith
+overflow_add-sum c = omega (arith, c.loop-j.invariant.sum, start-within c.args.fit.now c.requires.0.sized c.loop-j.j (omega arith))
 
 pub loop-j-preserved : goal.loop-j-preserved
 loop-j-preserved c =
     let l = c.loop-j in
-    let a = c.args in
-    let b = a.fit.now in
-    let e : l.sum + c.count_at.result ≡ start_at b (l.j + 1) = omega (arith, start-next b l.j) in (
-      omega arith,
-      e,
-      length-set l.s (l.j + 1) _ ∙ l.invariant.2,
-      next b l.s l.j (l.sum + c.count_at.result) (omega (arith, length-set a.s.now 0 0)) l.invariant.3 e,
-    )
-
-pub shape_of-s : goal.shape_of-s
-shape_of-s c = let a = c.args in c.loop-j.invariant.2 ∙ length-set a.s.now 0 0
-
-pub returns : goal.returns
-returns c =
-    let l = c.loop-j in
-    let a = c.args in
-    record { long = omega (arith, l.invariant.2, length-set a.s.now 0 0); begins = λ k h. l.invariant.3 k (omega (arith, h)) }
+    let b = c.args.fit.now in
+    let e : l.sum + c.count_at.result ≡ start_at b (l.j + 1) = omega (arith, l.invariant.sum, start-next b l.j) in
+    record {
+      sum = e;
+      begins = next b l.s l.j (l.sum + c.count_at.result) (omega (arith, length-set c.args.s.now 0 0)) l.invariant.begins e;
+    }

@@ -7,9 +7,6 @@ use Rattle.fit.specs.Fit.{count_at, start_at}
 use Rattle.fit.specs.Sound.{ids_part}
 use Rattle.fit.proofs.ids_of.Goals as goal
 
-pub part_of-requires : goal.part_of-requires
-part_of-requires c = let p = c.requires in (p.0, p.1, p.2, omega (arith, c.ids_at.ensures, p.0.sized.size))
-
 pub returns : goal.returns
 unfolding ids_part
 returns c =

@@ -8,12 +8,12 @@ use Rattle.image.specs.Bytes.{i32_at}
 use Rattle.fit.specs.Fit.{fit_of, mode_of}
 use Rattle.fit.proofs.mode.Goals as goal
 
-pub returns-then-flag-eq0 : goal.returns-then-flag-eq0
+pub returns-then-u32_at-eq0 : goal.returns-then-u32_at-eq0
 unfolding fit_of mode_of
-returns-then-flag-eq0 c = simp (sym c.u32_at-flag.ensures, eq-eqb _ 0 c.if-flag-eq0.true)
+returns-then-u32_at-eq0 c = simp (sym c.u32_at.ensures, eq-eqb _ 0 c.if-u32_at-eq0.true)
 
-pub returns : goal.returns
+pub returns-else-u32_at-eq0 : goal.returns-else-u32_at-eq0
 unfolding fit_of mode_of
-returns c =
+returns-else-u32_at-eq0 c =
     let e : to_z w32 (of_z w32 c.i32_at.result) ≡ i32_at c.args.fit.now 24 = to_z-of_z w32 c.i32_at.result (record { sfits = c.i32_at.type_inv }) ∙ c.i32_at.ensures in
-    simp (sym c.u32_at-flag.ensures, ne_eqb _ 0 c.if-flag-eq0.false, e)
+    simp (sym c.u32_at.ensures, ne_eqb _ 0 c.if-u32_at-eq0.false, e)

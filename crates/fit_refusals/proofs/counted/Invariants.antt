@@ -5,7 +5,4 @@ use Rattle.fit.specs.Fit.{start_at}
 use Rattle.fit_refusals.proofs.counted.Given as goal
 
 abbrev pub invariant-loop-j : goal.invariant-loop-j
-invariant-loop-j l = (l.j ≤ l.n) × (l.sum ≡ start_at l.fit l.j) × (l.sum ≤ 65535 * l.j)
-
-abbrev pub decreases-loop-j : goal.decreases-loop-j
-decreases-loop-j l = l.n - l.j
+invariant-loop-j l = (l.sum ≡ start_at l.fit l.j) × (l.sum ≤ 65535 * l.j)

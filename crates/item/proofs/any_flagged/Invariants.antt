@@ -1,5 +1,4 @@
 -- `item::any_flagged` meets its contract. The invariant: whether any of the ids passed is flagged.
-use Prim.Native.Nat.{◌-◌, ◌≤◌}
 use mathlib.Core.Path.{◌≡◌}
 use Rattle.words.specs.Words.{any_of, table}
 use Rattle.keys.specs.Keys.{key_at}
@@ -7,7 +6,4 @@ use Rattle.item.specs.Flags.{flag_of}
 use Rattle.item.proofs.any_flagged.Given as goal
 
 abbrev pub invariant-loop-k : goal.invariant-loop-k
-invariant-loop-k l = (l.k ≤ l.count) × (l.found ≡ any_of (flag_of l.flags) (table l.k (key_at l.ids)))
-
-abbrev pub decreases-loop-k : goal.decreases-loop-k
-decreases-loop-k l = l.count - l.k
+invariant-loop-k l = l.found ≡ any_of (flag_of l.flags) (table l.k (key_at l.ids))

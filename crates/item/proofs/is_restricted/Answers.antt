@@ -1,16 +1,20 @@
 -- `item::is_restricted` meets its contract: an item that may list ships, by its two tests of what it lists.
-use mathlib.Core.Path.{◌≡◌, sym, ◌∙◌}
-use mathlib.Core.Bool.{false}
+use mathlib.Core.Path.{◌≡◌, sym, ap₂, ◌∙◌}
 use mir.Syntax.{w32}
+use mir.Val.{to_z, of_z}
 use mir.ValLaws.{to_z-of_z}
+use lib.IntN.{pos}
+use Rattle.item.specs.Ids.{listing}
+use mathlib.Core.Bool.{false}
+use borrow.Author.Rules.{rules}
 use Rattle.catalogue.specs.Catalogue.{catalogue_of}
 use Rattle.fit.specs.Fit.{fit_of}
 use Rattle.context.specs.Context.{context}
 use Rattle.context.specs.Gathered.{context_of, pair_at}
-use Rattle.context.proofs.Types.{told-group}
+use Rattle.context.proofs.Types.{told-group, given-option}
 use Rattle.item.specs.Item.{ship_types, ship_groups}
 use Rattle.item.specs.Flags.{any_flagged}
-use Rattle.item.proofs.Listings.{listing-of, listed-codes}
+use Rattle.item.proofs.Listings.{listed-ids}
 use Rattle.item.proofs.Flags.{nothing-listed}
 use Rattle.item.proofs.Rules.{restricted_unfitted, restricted_unlisted, restricted_fitted}
 use Rattle.item.proofs.is_restricted.Goals as goal
@@ -27,11 +31,11 @@ returns-then-not-may_list c =
     let a = c.args in
     let x = context_of a.catalogue.now a.fit.now in
     let p = pair_at a.catalogue.now a.fit.now a.i in
-    let None : any_flagged a.flags.now p.result ≡ false = sym c.may_list.ensures ∙ c.if-not-may_list.true in
+    let none : any_flagged a.flags.now p.result ≡ false = sym c.may_list.ensures ∙ c.if-not-may_list.true in
     restricted_unlisted x p
-    (sym (listed-codes x p ship_types a.types.now c.requires.ship_ids.types_known) ∙ nothing-listed a.flags.now p.result None
+    (sym (listed-ids x p ship_types a.types.now c.requires.ship_ids.types_known) ∙ nothing-listed a.flags.now p.result none
     a.types.now c.requires.ship_ids.types_flagged)
-    (sym (listed-codes x p ship_groups a.groups.now c.requires.ship_ids.groups_known) ∙ nothing-listed a.flags.now p.result None
+    (sym (listed-ids x p ship_groups a.groups.now c.requires.ship_ids.groups_known) ∙ nothing-listed a.flags.now p.result none
     a.groups.now c.requires.ship_ids.groups_flagged)
 
 pub returns : goal.returns
@@ -40,11 +44,12 @@ returns c =
     let a = c.args in
     let x = context_of a.catalogue.now a.fit.now in
     let p = pair_at a.catalogue.now a.fit.now a.i in
-    let ship = to_z-of_z w32 c.ship-ship.result (record { sfits = c.ship-ship.type_inv }) ∙ c.ship-ship.ensures in
-    let group = to_z-of_z w32 c.group_named-group.result (record { sfits = c.group_named-group.type_inv }) ∙ c.group_named-group.ensures
+    let ship : to_z w32 (of_z w32 c.ship-ship.result) ≡ x.ship =
+    to_z-of_z w32 c.ship-ship.result (record { sfits = c.ship-ship.type_inv }) ∙ c.ship-ship.ensures in
+    let group : to_z w32 (of_z w32 c.map_or-group.result) ≡ x.group =
+    to_z-of_z w32 c.map_or-group.result (record { sfits = c.map_or-group.type_inv })
+    ∙ given-option (pos 0) (λ x. x.group) c.ship_type.result (λ x e p. search rules) c.map_or-group.ensures
     ∙ told-group (catalogue_of a.catalogue.now) (fit_of a.fit.now).frame.ship c.ship_type.ensures in
-    restricted_fitted x p c.listed-of_types.result c.listed-of_groups.result c.lists_others.result
-    (sym (c.is_fitted_at.ensures a.catalogue.now) ∙ c.if-not-is_fitted_at.false)
-    (listing-of x p ship_types a.types.now _ _ c.listed-of_types.result c.requires.ship_ids.types_known ship c.listed-of_types.ensures)
-    (listing-of x p ship_groups a.groups.now _ _ c.listed-of_groups.result c.requires.ship_ids.groups_known group c.listed-of_groups.ensures)
-    c.lists_others.ensures
+    c.lists_others.ensures ∙ restricted_fitted x p (sym (c.is_fitted_at.ensures a.catalogue.now) ∙ c.if-not-is_fitted_at.false)
+    (c.listed-of_types.ensures ∙ ap₂ listing ship (listed-ids x p ship_types a.types.now c.requires.ship_ids.types_known))
+    (c.listed-of_groups.ensures ∙ ap₂ listing group (listed-ids x p ship_groups a.groups.now c.requires.ship_ids.groups_known))

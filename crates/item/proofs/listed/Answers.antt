@@ -1,41 +1,39 @@
--- `item::listed` meets its contract. The invariant: the two tests of what is listed under the ids passed.
-use Prim.Native.Nat.{ℕ}
-use native.Mathlib.Omega.{arith}
-use mathlib.Core.Path.{subst}
-use mathlib.Core.List.{List}
-use lib.IntN.{ℤ}
+-- `item::listed` meets its contract. The invariant: the ids passed name no ship or others.
+use mathlib.Core.Path.{◌≡◌, sym, ap, ◌∙◌}
 use mir.Syntax.{w32}
-use mir.ValLaws.{to_z-of_z}
-use Rattle.words.specs.Words.{each}
-use Rattle.catalogue.specs.Catalogue.{Id}
+use mir.Val.{to_z, of_z}
+use borrow.Author.Rules.{rules}
+use Rattle.std.specs.Prelude.{Some}
+use Rattle.words.proofs.Sames.{same_not}
 use Rattle.fit.specs.Fit.{result_of}
-use Rattle.item.specs.Ids.{id_in, listed_under, ListingOf}
-use Rattle.item.proofs.Listings.{listing_none, listing-more, listing-all}
+use Rattle.item.proofs.Listings.{listed_none, listed_nothing, listed_other, listed_all, listed_ship}
+use Rattle.item.proofs.listed.Goals.{in-Some+else-named-ship, in_default}
 use Rattle.item.proofs.listed.Goals as goal
 
-pub loop-k-init : goal.loop-k-init
-unfolding each
-loop-k-init c = (omega arith, listing_none _)
+pub loop-id-init : goal.loop-id-init
+loop-id-init c = listed_none _ _ _
 
-pub either-any-requires : goal.either-any-requires
-either-any-requires c = tt
+pub returns-then-named-ship : goal.returns-then-named-ship
+returns-then-named-ship c =
+    let a = c.args in
+    let e : c.in-Some.named ≡ a.ship = search rules in
+    listed_ship a.ship (result_of a.fit.now a.j) a.ids.now c.loop-id.id-index c.loop-id-test.true
+    (sym c.listed_under.ensures ∙ c.in-Some.is ∙ ap Some e)
 
-pub either-has-requires : goal.either-has-requires
-either-has-requires c = tt
-
-pub loop-k-preserved : goal.loop-k-preserved
-loop-k-preserved c =
-    let a = c.args in (
-      omega arith,
-      listing-more _ (λ code. listed_under (result_of a.fit.now a.j) (id_in code)) a.codes.now c.loop-k.k _ _
-          c.either-any.result c.either-has.result c.loop-k-test.true c.loop-k.invariant.1
-          c.listed_under-one.ensures c.either-any.ensures c.either-has.ensures,
-    )
+pub loop-id-preserved : goal.loop-id-preserved
+loop-id-preserved c =
+    let l = c.loop-id in
+    let z : to_z w32 (of_z w32 c.args.ship) ≡ c.args.ship = search rules in
+    elim c.match-listed_under.branch [
+      | in-Some+else-named-ship w ↦ rw (w.listing-is, z) (listed_other _ _ _ l.id-index c.loop-id-test.true l.listing (rw z at l.invariant) w.in-Some.named
+          (sym c.listed_under.ensures ∙ w.in-Some.is)
+          (same_not c.args.ship w.in-Some.named (λ e. w.if-named-ship.false (ap (of_z w32) (sym e)))))
+      | in_default w ↦ rw w.listing-is (listed_nothing _ _ _ l.id-index c.loop-id-test.true l.listing l.invariant
+          (sym c.listed_under.ensures ∙ w.in_default.is))
+    ]
 
 pub returns : goal.returns
 returns c =
-    let l = c.loop-k in
     let a = c.args in
-    let f : ℕ → List Id = λ code. listed_under (result_of a.fit.now a.j) (id_in code) in
-    subst (λ (z : ℤ). ListingOf z (each a.codes.now f) (record { any = l.any; has = l.has })) (to_z-of_z w32 a.id c.ranges.id)
-    (listing-all _ f a.codes.now l.k _ c.loop-k-test.false l.invariant.1)
+    let z : to_z w32 (of_z w32 a.ship) ≡ a.ship = search rules in
+    listed_all a.ship (result_of a.fit.now a.j) a.ids.now c.loop-id.id-index c.loop-id.listing c.loop-id-test.false (rw z at c.loop-id.invariant)

@@ -1,7 +1,10 @@
 -- `item::standup_at` meets its contract, by whether the ship is a structure.
 use mathlib.Core.Path.{sym, ◌∙◌}
+use mathlib.Core.Bool.{true, false}
+use Rattle.words.specs.Words.{when}
 use Rattle.context.specs.Gathered.{context_of, pair_at}
-use Rattle.item.proofs.Rules.{standup-off, standup-ship_item, standup-structure_item}
+use Rattle.item.specs.Ids.{said}
+use Rattle.item.proofs.Rules.{standup-off, standup-on}
 use Rattle.item.proofs.standup_at.Goals as goal
 
 pub returns-then-not-is_on_hull : goal.returns-then-not-is_on_hull
@@ -10,16 +13,30 @@ returns-then-not-is_on_hull c =
     standup-off (context_of a.catalogue.now a.fit.now) (pair_at a.catalogue.now a.fit.now a.i)
     (sym (c.is_on_hull.ensures a.catalogue.now) ∙ c.if-not-is_on_hull.true)
 
-pub returns-then-is_structure : goal.returns-then-is_structure
-returns-then-is_structure c =
+pub returns-in-true-false : goal.returns-in-true-false
+unfolding said when
+returns-in-true-false c =
     let a = c.args in
-    standup-ship_item (context_of a.catalogue.now a.fit.now) (pair_at a.catalogue.now a.fit.now a.i)
-    (sym (c.is_on_hull.ensures a.catalogue.now) ∙ c.if-not-is_on_hull.false)
-    (sym c.is_structure.ensures ∙ c.if-is_structure.true) c.is_standup-standup.ensures c.emit_when.ensures
+    standup-on (context_of a.catalogue.now a.fit.now) (pair_at a.catalogue.now a.fit.now a.i)
+    (sym (c.is_on_hull.ensures a.catalogue.now) ∙ c.if-not-is_on_hull.false) true false c.in-true-false.ensures c.in-true-false.ensures'
 
-pub returns : goal.returns
-returns c =
+pub returns-in-false-true : goal.returns-in-false-true
+unfolding said when
+returns-in-false-true c =
     let a = c.args in
-    standup-structure_item (context_of a.catalogue.now a.fit.now) (pair_at a.catalogue.now a.fit.now a.i)
-    (sym (c.is_on_hull.ensures a.catalogue.now) ∙ c.if-not-is_on_hull.false)
-    (sym c.is_structure.ensures ∙ c.if-is_structure.false) c.is_standup-standup.ensures c.emit_when-2.ensures
+    standup-on (context_of a.catalogue.now a.fit.now) (pair_at a.catalogue.now a.fit.now a.i)
+    (sym (c.is_on_hull.ensures a.catalogue.now) ∙ c.if-not-is_on_hull.false) false true c.in-false-true.ensures c.in-false-true.ensures'
+
+pub returns-in_default : goal.returns-in_default
+unfolding said when
+returns-in_default c =
+    let a = c.args in
+    standup-on (context_of a.catalogue.now a.fit.now) (pair_at a.catalogue.now a.fit.now a.i)
+    (sym (c.is_on_hull.ensures a.catalogue.now) ∙ c.if-not-is_on_hull.false) true true c.in_default.ensures c.in_default.ensures'
+
+pub returns-in_default-2 : goal.returns-in_default-2
+unfolding said when
+returns-in_default-2 c =
+    let a = c.args in
+    standup-on (context_of a.catalogue.now a.fit.now) (pair_at a.catalogue.now a.fit.now a.i)
+    (sym (c.is_on_hull.ensures a.catalogue.now) ∙ c.if-not-is_on_hull.false) false false c.in_default.ensures c.in_default.ensures'

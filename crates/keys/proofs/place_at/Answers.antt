@@ -16,8 +16,8 @@ returns-then-x-key c =
     c.if-n-at.false
     (sym c.rank_at-x.ensures ∙ c.if-x-key.true ∙ c.rank-key.ensures ∙ ap rank_of (to_z-of_z w32 c.args.id c.ranges.id))
 
-pub returns : goal.returns
-returns c =
+pub returns-else-x-key : goal.returns-else-x-key
+returns-else-x-key c =
     let p = c.requires.2 in
     let keys = c.args.keys.now in
     let r = c.args.at in

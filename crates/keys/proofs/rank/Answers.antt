@@ -10,4 +10,4 @@ pub returns : goal.returns
 returns c =
     let id = c.args.id in
     let fits = c.ranges.id in
-    c.wrapping_add_u32.ensures.value ∙ ap (biased 2147483648) (c.bits.ensures ∙ ap bits32 (to_z-of_z w32 id fits)) ∙ sym (rank_bits id fits.sfits)
+    ap (biased 2147483648) (c.bits.ensures ∙ ap bits32 (to_z-of_z w32 id fits)) ∙ sym (rank_bits id fits.sfits)

@@ -1,6 +1,7 @@
 -- `league::validate` meets its contract: nothing without a profile, else one rule after the other.
 use native.Mathlib.Omega.{arith}
 use mathlib.Core.Path.{sym, ap, ◌∙◌}
+use borrow.Author.Rules.{rules}
 use mathlib.Core.List.{List}
 use lib.Dec.{ltb}
 use Rattle.words.proofs.Lengths.{few-when}
@@ -15,11 +16,11 @@ use Rattle.league.proofs.Tallies.{over-is}
 use Rattle.league.proofs.Without.{no_profile}
 use Rattle.league.proofs.validate.Goals as goal
 
-pub returns-then-profile-eq0 : goal.returns-then-profile-eq0
-returns-then-profile-eq0 c =
+pub returns-then-is_empty : goal.returns-then-is_empty
+returns-then-is_empty c =
     let a = c.args in
     let ps = pairs_of a.catalogue.now a.fit.now in
-    let None = no_prices a.profile.now (omega (arith, c.if-profile-eq0.true)) in (
+    let None = no_prices a.profile.now (search rules) in (
       wrote-same (sym (ap (λ (l : List Price). league l a.allowance ps) None ∙ no_profile a.allowance ps)) (wrote_none _ _),
       omega arith,
     )

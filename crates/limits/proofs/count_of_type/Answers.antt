@@ -20,9 +20,6 @@ one_if-used-requires c = tt
 pub overflow_add-used : goal.overflow_add-used
 overflow_add-used c = omega (arith, c.loop-i.invariant [])
 
-pub overflow_add-i : goal.overflow_add-i
-overflow_add-i c = omega (arith, c.loop-i.invariant [])
-
 pub loop-i-preserved : goal.loop-i-preserved
 loop-i-preserved c = λ catalogue.
     counted-more _ _ _ c.loop-i.used c.loop-i.i c.one_if-used.result c.of_type.result (omega arith) (c.loop-i.invariant catalogue)

@@ -1,5 +1,5 @@
 -- `limits::count_of_type` meets its contract: a loop that counts.
-use Prim.Native.Nat.{ℕ, ◌-◌}
+use Prim.Native.Nat.{ℕ}
 use mathlib.Core.List.{List}
 use Rattle.limits.specs.Limits.{of_type}
 use Rattle.context.proofs.Counts.{Counted}
@@ -7,6 +7,3 @@ use Rattle.limits.proofs.count_of_type.Given as goal
 
 abbrev pub invariant-loop-i : goal.invariant-loop-i
 invariant-loop-i l = (catalogue : List ℕ) → Counted catalogue l.fit (of_type l.id) l.used l.i
-
-abbrev pub decreases-loop-i : goal.decreases-loop-i
-decreases-loop-i l = l.count - l.i

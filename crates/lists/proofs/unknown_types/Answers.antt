@@ -10,21 +10,10 @@ use Rattle.lists.proofs.unknown_types.Goals as goal
 pub loop-i-init : goal.loop-i-init
 loop-i-init c = passed_none _ _ _ _ _
 
-pub unknown_type_at-m-requires : goal.unknown_type_at-m-requires
-unknown_type_at-m-requires c = (
-  c.requires.0,
-  omega (arith, c.loop-i-test.true, c.pair_count-count.ensures),
-  omega
-      (arith, c.loop-i.invariant.few, c.loop-i-test.true, c.pair_count-count.ensures, c.requires.0.fit_sound.sized.items, c.requires.1),
-)
-
 pub loop-i-preserved : goal.loop-i-preserved
 loop-i-preserved c =
     passed_more _ _ _ (unknown-few _) (omega (arith, c.loop-i-test.true, c.pair_count-count.ensures)) c.loop-i.invariant
     c.unknown_type_at-m.ensures
-
-pub shape_of-out : goal.shape_of-out
-shape_of-out c = wrote-length c.loop-i.invariant.wrote
 
 pub returns : goal.returns
 returns c =

@@ -7,6 +7,3 @@ use Rattle.lists.proofs.unknown_types.Given as goal
 
 abbrev pub invariant-loop-i : goal.invariant-loop-i
 invariant-loop-i l = Passed l.catalogue l.fit (unknown_type_at (catalogue_of l.catalogue)) l.initial.out l.n l.out l.m l.i
-
-abbrev pub decreases-loop-i : goal.decreases-loop-i
-decreases-loop-i l = l.count - l.i

@@ -2,6 +2,7 @@
 use native.Mathlib.Omega.{arith}
 use mathlib.Core.Path.{sym, ◌∙◌}
 use Rattle.entry.proofs.Wrote.{wrote-append, wrote-same}
+use Rattle.numbers.specs.Reading.{reader_number}
 use Rattle.lists.specs.Terms.{terms, read_by}
 use Rattle.lists.proofs.Behind.{on-hull, no_hull}
 use Rattle.lists.proofs.write.Goals as goal
@@ -11,11 +12,7 @@ returns-then-not-is_hull c =
     let a = c.args in
     let off = sym c.is_hull.ensures ∙ c.if-not-is_hull.true in
     let w = c.rust_list-n.ensures in
-    (wrote-same (no_hull a.catalogue.now a.fit.now (read_by a.asked.reader (terms a.profile.now a.asked.allowance)) off) w.0, omega (arith, w.1))
-
-pub unknown_types-requires : goal.unknown_types-requires
-unknown_types-requires c =
-    (c.requires.0, omega (arith, c.rust_list-n.ensures.1, c.validate-m.ensures.1))
+    (wrote-same (no_hull a.catalogue.now a.fit.now (read_by (reader_number a.asked.reader) (terms a.profile.now a.asked.allowance)) off) w.0, omega (arith, w.1))
 
 pub returns : goal.returns
 returns c =
@@ -25,4 +22,4 @@ returns c =
     let x = c.validate-m.ensures in
     let y = c.unknown_types.ensures in
     let es = wrote-append (wrote-append w.0 x.0) y.0 in
-    (wrote-same (on-hull a.catalogue.now a.fit.now (read_by a.asked.reader (terms a.profile.now a.asked.allowance)) on) es, omega (arith, w.1, x.1, y.1))
+    (wrote-same (on-hull a.catalogue.now a.fit.now (read_by (reader_number a.asked.reader) (terms a.profile.now a.asked.allowance)) on) es, omega (arith, w.1, x.1, y.1))

@@ -1,9 +1,13 @@
--- `racks::validate` meets its contract: racks, then hardpoints.
-use native.Mathlib.Omega.{arith}
-use Rattle.entry.proofs.Wrote.{wrote-append}
+-- `racks::validate` meets its contract: racks, then hardpoints, row by row as the definitions have them.
+use Rattle.std.proofs.Common.{refl, arith}
+use Rattle.words.specs.Words.{each}
+use Rattle.entry.proofs.Wrote.{wrote-same, wrote-append}
+use Rattle.racks.specs.Racks.{racks, hardpoints}
+use Rattle.racks.specs.Taking.{takes}
 use Rattle.racks.proofs.validate.Goals as goal
 
 pub returns : goal.returns
+unfolding racks hardpoints each takes
 returns c =
-    let u = c.racks-k.ensures in
-    let v = c.hardpoints.ensures in (wrote-append u.0 v.0, omega (arith, u.1, v.1))
+    let u = c.report_all-k.ensures in
+    let v = c.report_all.ensures in (wrote-append (wrote-same refl u.0) (wrote-same refl v.0), omega (arith, u.1, v.1))

@@ -1,4 +1,4 @@
--- `resource::cargo_load` meets its contract. The invariant: the sum of the first i pairs, in order from +0.
+-- `resource::cargo_load` meets its contract: one pair more at a time.
 use Rattle.std.proofs.Common.{◌≡◌, ℕ, cond, sym, ap, ◌∙◌, arith, w32}
 use lib.Ieee.{Float, binary64, add, of_bits}
 use mir.ValLaws.{to_z-of_z}
@@ -15,35 +15,20 @@ use Rattle.resource.proofs.cargo_load.Goals as goal
 
 pub loop-i-init : goal.loop-i-init
 unfolding of_bits
-loop-i-init c =
-    let a = c.args in
-    (omega arith, c.pair_count-n.ensures, sym (cargo-none (pair_at a.catalogue.now a.fit.now)))
-
-pub cargo_with-used-requires : goal.cargo_with-used-requires
-cargo_with-used-requires c = let p = c.requires in (p, omega arith)
-
-pub overflow_add-i : goal.overflow_add-i
-overflow_add-i c = omega arith
-
-pub loop-i-smaller : goal.loop-i-smaller
-loop-i-smaller c = omega arith
+loop-i-init c = sym (cargo-none (pair_at c.args.catalogue.now c.args.fit.now))
 
 pub loop-i-preserved : goal.loop-i-preserved
 loop-i-preserved c =
     let l = c.loop-i in
-    let a = c.args in
-    let f = pair_at a.catalogue.now a.fit.now in
-    let p = f l.i in (
-      omega arith,
-      l.invariant.1,
-      c.cargo_with-used.ensures ∙ ap (λ (s : Float). cond (is_in Slots.cargo p) (add binary64 s (cargo_volume p)) s) l.invariant.2 ∙ sym (cargo-more f l.i),
-    )
+    let f = pair_at c.args.catalogue.now c.args.fit.now in
+    let p = f l.i in
+    c.cargo_with-used.ensures ∙ ap (λ (s : Float). cond (is_in Slots.cargo p) (add binary64 s (cargo_volume p)) s) l.invariant ∙ sym (cargo-more f l.i)
 
 pub returns : goal.returns
 returns c =
     let l = c.loop-i in
     let f = pair_at c.args.catalogue.now c.args.fit.now in
-    let e : l.i ≡ pair_count c.args.fit.now = omega (arith, l.invariant.1, c.loop-i-test.false) in (
-      l.invariant.2 ∙ ap (λ (k : ℕ). cargo_used (table k f)) e ∙ ap cargo_used (sym (pairs-table c.args.catalogue.now c.args.fit.now)),
+    let e : l.i ≡ pair_count c.args.fit.now = omega (arith, l.auto.i-end, c.loop-i-test.false, c.pair_count-i-end.ensures) in (
+      l.invariant ∙ ap (λ (k : ℕ). cargo_used (table k f)) e ∙ ap cargo_used (sym (pairs-table c.args.catalogue.now c.args.fit.now)),
       c.amount-available.ensures ∙ ap (amount (result_of c.args.fit.now 0)) (to_z-of_z w32 c.args.capacity c.ranges.capacity),
     )

@@ -10,7 +10,7 @@ pub returns-in-Some-available : goal.returns-in-Some-available
 returns-in-Some-available c =
     let row = c.args.row in
     let ship = amount (result_of c.args.fit.now 0) in
-    load-some c.args.catalogue.now c.args.fit.now row.kind row.load row.output
+    load-some c.args.catalogue.now c.args.fit.now row.resource row.load row.output
     (sym c.attribute_id-used.ensures ∙ c.in-Some.is) (sym c.attribute_id-available.ensures ∙ c.in-Some-available.is)
     (c.load_on_ship.ensures.0 ∙ ap ship (to_z-of_z w32 c.in-Some.u (search (rules, c.in-Some.known_told-1-own.given))))
     (c.load_on_ship.ensures.1 ∙ ap ship (to_z-of_z w32 c.in-Some-available.a (search rules)))
@@ -19,11 +19,11 @@ returns-in-Some-available c =
 pub returns-in-None-available : goal.returns-in-None-available
 returns-in-None-available c =
     let row = c.args.row in
-    load-half c.args.catalogue.now c.args.fit.now row.kind row.load row.output
+    load-half c.args.catalogue.now c.args.fit.now row.resource row.load row.output
     (sym c.attribute_id-used.ensures ∙ c.in-Some.is) (sym c.attribute_id-available.ensures ∙ c.in-None-available.is)
 
 pub returns-in-None : goal.returns-in-None
 returns-in-None c =
     let row = c.args.row in
-    load-none c.args.catalogue.now c.args.fit.now row.kind row.load row.output
+    load-none c.args.catalogue.now c.args.fit.now row.resource row.load row.output
     (sym c.attribute_id-used.ensures ∙ c.in-None.is)

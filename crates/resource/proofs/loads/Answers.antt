@@ -1,43 +1,31 @@
--- `resource::loads` meets its contract. The invariant: the first i rows are listed, at most one entry each.
-use Rattle.std.proofs.Common.{get_or, arith}
-use Rattle.entry.proofs.Wrote.{wrote-each_none, wrote-each_next, wrote-each_all, wrote-length}
+-- `resource::loads` meets its contract: the code's row is the definition's.
+use Rattle.std.proofs.Common.{get_or, ap, arith}
+use Rattle.numbers.specs.declared.Resource.TheVariants.{Cpu}
+use Rattle.entry.proofs.Wrote.{wrote-same, wrote-each_none, wrote-each_next, wrote-each_all}
 use Rattle.context.specs.Gathered.{context_of}
 use Rattle.resource.specs.Resource.{LOADS, load_of, loads}
 use Rattle.resource.proofs.Named.{few-load}
+use Rattle.resource.proofs.Rows.{row_same}
 use Rattle.resource.proofs.loads.Goals as goal
 
-pub loop-i-init : goal.loop-i-init
-loop-i-init c =
+pub loop-row-init : goal.loop-row-init
+loop-row-init c =
     let a = c.args in
-    (omega arith, wrote-each_none (load_of (context_of a.catalogue.now a.fit.now)) LOADS _ _, omega arith)
+    (wrote-each_none (load_of (context_of a.catalogue.now a.fit.now)) LOADS _ _, omega arith)
 
-pub load_at-k-requires : goal.load_at-k-requires
-load_at-k-requires c =
-    (c.requires.0, omega arith, omega (arith, c.requires.1, c.loop-i.invariant.2))
-
-pub overflow_add-i : goal.overflow_add-i
-overflow_add-i c = omega arith
-
-pub loop-i-smaller : goal.loop-i-smaller
-loop-i-smaller c = omega arith
-
-pub loop-i-preserved : goal.loop-i-preserved
-loop-i-preserved c =
-    let l = c.loop-i in
-    let a = c.args in
-    let x = context_of a.catalogue.now a.fit.now in
-    let w = c.load_at-k.ensures in (
-      omega arith,
-      wrote-each_next (load_of x) LOADS l.i (0, 0, 0) (omega arith) l.invariant.1 w,
-      omega (arith, w.count, few-load x (get_or LOADS l.i (0, 0, 0)), l.invariant.2),
+pub loop-row-preserved : goal.loop-row-preserved
+loop-row-preserved c =
+    let l = c.loop-row in
+    let i = l.row-index in
+    let x = context_of c.args.catalogue.now c.args.fit.now in
+    let w = wrote-same (ap (load_of x) (row_same i)) c.load_row-k.ensures in (
+      wrote-each_next (load_of x) LOADS i (Cpu, 0, 0) c.loop-row-test.true l.invariant.0 w,
+      omega (arith, w.count, few-load x (get_or LOADS i (Cpu, 0, 0)), l.invariant.1),
     )
-
-pub shape_of-out : goal.shape_of-out
-shape_of-out c = wrote-length c.loop-i.invariant.1
 
 pub returns : goal.returns
 unfolding loads
 returns c =
-    let l = c.loop-i in
+    let l = c.loop-row in
     let a = c.args in
-    (wrote-each_all (load_of (context_of a.catalogue.now a.fit.now)) LOADS l.i (omega (arith, c.loop-i-test.false)) l.invariant.1, omega arith)
+    (wrote-each_all (load_of (context_of a.catalogue.now a.fit.now)) LOADS l.row-index c.loop-row-test.false l.invariant.0, omega arith)

@@ -5,6 +5,7 @@ use mir.Syntax.{w32}
 use mir.ValLaws.{to_z-of_z}
 use native.Mathlib.Omega.{arith}
 use mathlib.Core.Path.{refl, ap}
+use borrow.Author.Rules.{rules}
 use Rattle.fit.specs.Fit.{fit_of}
 use Rattle.entry.proofs.Wrote.{wrote-length, wrote-same, wrote-table_none, wrote-table_next, wrote-table_all}
 use Rattle.skill.specs.Skill.{entry_of}
@@ -18,7 +19,7 @@ unfolding zip_to
 loop-i-init c =
     let a = c.args in
     let w = a.walk in
-    (omega arith, omega arith, wrote-table_none (entry_of (fit_of a.fit.now) a.res) (held_at w.ids w.levels) _ _, omega arith)
+    (wrote-table_none (entry_of (fit_of a.fit.now) a.res) (held_at w.ids w.levels) _ _, omega arith)
 
 pub loop-i-preserved : goal.loop-i-preserved
 unfolding zip_to
@@ -28,13 +29,13 @@ loop-i-preserved c =
     let w = a.walk in
     let f = entry_of (fit_of a.fit.now) a.res in
     let skill = get_or w.ids l.i (pos 0) in
-    let e = pair_eq (to_z-of_z w32 skill (record { sfits = c.id-1.given })) (refl {a = get_or w.levels l.i 0}) in
+    let e = pair_eq (to_z-of_z w32 skill (search rules)) (refl {a = get_or w.levels l.i 0}) in
     let r = wrote-same (ap f e) c.report_skill-k.ensures in
     let few = few-entry (fit_of a.fit.now) a.res (held_at w.ids w.levels l.i) in
-    (omega arith, refl, wrote-table_next f (held_at w.ids w.levels) l.i l.invariant.2 r, omega (arith, r.count, few, l.invariant.3))
+    (wrote-table_next f (held_at w.ids w.levels) l.i l.invariant.0 r, omega (arith, r.count, few, l.invariant.1))
 
 pub shape_of-out : goal.shape_of-out
-shape_of-out c = wrote-length c.loop-i.invariant.2
+shape_of-out c = wrote-length c.loop-i.invariant.0
 
 pub returns : goal.returns
 unfolding zip_to
@@ -43,6 +44,6 @@ returns c =
     let a = c.args in
     let w = a.walk in
     let f = entry_of (fit_of a.fit.now) a.res in (
-      wrote-table_all f (held_at w.ids w.levels) l.invariant.0 c.loop-i-test.false l.invariant.2,
-      omega (arith, l.invariant.0, l.invariant.3, c.requires.2),
+      wrote-table_all f (held_at w.ids w.levels) l.auto.i-end c.loop-i-test.false l.invariant.0,
+      omega (arith, l.auto.i-end, l.invariant.1, c.requires.2),
     )

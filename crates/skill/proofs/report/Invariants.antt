@@ -1,6 +1,5 @@
 -- `skill::report` meets its contract. The invariant: the entries of the first i skills are written, at most one each.
-use Prim.Native.Nat.{◌≤◌, ◌+◌, ◌-◌}
-use mathlib.Core.Path.{◌≡◌}
+use Prim.Native.Nat.{◌≤◌, ◌+◌}
 use Rattle.words.specs.Words.{each}
 use Rattle.fit.specs.Fit.{fit_of}
 use Rattle.entry.specs.Wrote.{Wrote}
@@ -10,7 +9,4 @@ use Rattle.skill.proofs.report.Given as goal
 
 abbrev pub invariant-loop-i : goal.invariant-loop-i
 invariant-loop-i l =
-    (l.i ≤ l.len) × (l.len ≡ l.walk.len) × Wrote l.initial.out l.n l.out l.k (each (held_of l.walk.ids l.walk.levels l.i) (entry_of (fit_of l.fit) l.res)) × (l.k ≤ l.n + l.i)
-
-abbrev pub decreases-loop-i : goal.decreases-loop-i
-decreases-loop-i l = l.len - l.i
+    Wrote l.initial.out l.n l.out l.k (each (held_of l.walk.ids l.walk.levels l.i) (entry_of (fit_of l.fit) l.res)) × (l.k ≤ l.n + l.i)

@@ -1,7 +1,7 @@
 -- `slot::holds_one` meets its contract: three comparisons.
 use Prim.Native.Nat.{ℕ}
-use mathlib.Core.Path.{ap, ◌∙◌}
-use mathlib.Core.Bool.{Bool, not, ◌||◌}
+use mathlib.Core.Path.{ap}
+use mathlib.Core.Bool.{not, ◌||◌}
 use lib.Dec.{eqb}
 use Rattle.numbers.specs.Slots as Slots
 use Rattle.context.specs.Context.{is_in}
@@ -10,8 +10,5 @@ use Rattle.slot.proofs.holds_one.Goals as goal
 
 pub returns : goal.returns
 unfolding holds_one is_in
-returns c =
-    let s = c.item_slot-slot in
-    λ catalogue.
-    ap not (c.either.ensures ∙ ap (λ (t : Bool). t || eqb s.result Slots.cargo) c.either-bay.ensures)
-    ∙ ap (λ (slot : ℕ). not (eqb slot Slots.drone_bay || eqb slot Slots.fighter_bay || eqb slot Slots.cargo)) s.ensures
+returns c = λ catalogue.
+    ap (λ (slot : ℕ). not (eqb slot Slots.drone_bay || eqb slot Slots.fighter_bay || eqb slot Slots.cargo)) c.item_slot-slot.ensures

@@ -1,8 +1,12 @@
 -- `slot::item_at` meets its contract: each field as its reader ensures it.
-use mathlib.Core.Path.{refl}
+use mathlib.Core.Path.{refl, ◌∙◌}
+use lib.IntN.{pos}
+use mir.Syntax.{w32}
+use mir.ValLaws.{to_z-of_z}
+use borrow.Author.Rules.{rules}
 use Rattle.catalogue.specs.Catalogue.{catalogue_of}
 use Rattle.fit.specs.Fit.{item_at}
-use Rattle.context.proofs.Types.{told-category}
+use Rattle.context.proofs.Types.{given-option, told-category}
 use Rattle.slot.proofs.item_at.Goals as goal
 
 pub returns : goal.returns
@@ -12,7 +16,9 @@ returns c =
     record {
       position = refl;
       slot = c.item_slot.ensures;
-      category = told-category (catalogue_of a.catalogue.now) (item_at a.fit.now a.i).type t.ensures;
+      category = to_z-of_z w32 c.map_or.result (record { sfits = c.map_or.type_inv })
+          ∙ given-option (pos 0) (λ x. x.category) t.result (λ x e p. search rules) c.map_or.ensures
+          ∙ told-category (catalogue_of a.catalogue.now) (item_at a.fit.now a.i).type t.ensures;
       rack = c.rack.ensures;
       taken = c.slot_taken.ensures a.catalogue.now;
       expected = c.wrong_slot_index.ensures;

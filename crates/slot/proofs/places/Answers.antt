@@ -10,29 +10,19 @@ None : (k : ℕ) → k < 0 → ⊥
 None k h = omega arith
 
 pub loop-i-init : goal.loop-i-init
-loop-i-init c = (omega arith, refl, λ k h. absurd (None k h))
-
-pub offset_bounds-places-i : goal.offset_bounds-places-i
-offset_bounds-places-i c = omega arith
+loop-i-init c = (refl, λ k h. absurd (None k h))
 
 pub bounds-places-i : goal.bounds-places-i
 bounds-places-i c = omega (arith, c.requires.sized.items)
 
-pub overflow_add-i : goal.overflow_add-i
-overflow_add-i c = omega arith
-
-pub loop-i-smaller : goal.loop-i-smaller
-loop-i-smaller c = omega arith
-
 pub loop-i-preserved : goal.loop-i-preserved
 loop-i-preserved c =
     let l = c.loop-i in
-    let b : l.i < length l.places = omega (arith, l.invariant.1, c.requires.sized.items) in (
-      omega arith,
-      length-set l.places l.i _ ∙ l.invariant.1,
-      placed_next c.args.fit.now l.places l.i b l.invariant.2
+    let b : l.i < length l.places = omega (arith, l.invariant.0, c.requires.sized.items) in (
+      length-set l.places l.i _ ∙ l.invariant.0,
+      placed_next c.args.fit.now l.places l.i b l.invariant.1
           (sits_as c.item_slot.ensures c.item_index.ensures c.place_of.ensures),
     )
 
 pub returns : goal.returns
-returns c = λ i h. c.loop-i.invariant.2 i (omega (arith, h, c.loop-i-test.false, c.pair_count-count.ensures))
+returns c = λ i h. c.loop-i.invariant.1 i (omega (arith, h, c.loop-i-test.false, c.pair_count-i-end.ensures))

@@ -1,12 +1,8 @@
 -- `slot::places` meets its contract. The invariant: the first i pairs have been placed.
-use Prim.Native.Nat.{◌-◌, ◌≤◌}
 use mathlib.Core.Path.{◌≡◌}
 use lib.ListN.{length}
 use Rattle.slot.specs.AtPair.{Placed}
 use Rattle.slot.proofs.places.Given as goal
 
 abbrev pub invariant-loop-i : goal.invariant-loop-i
-invariant-loop-i l = (l.i ≤ l.count) × (length l.places ≡ 256) × Placed l.i l.fit l.places
-
-abbrev pub decreases-loop-i : goal.decreases-loop-i
-decreases-loop-i l = l.count - l.i
+invariant-loop-i l = (length l.places ≡ 256) × Placed l.i l.fit l.places

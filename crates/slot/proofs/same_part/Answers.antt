@@ -6,11 +6,13 @@ use mathlib.Core.Bool.{false}
 use Rattle.std.specs.Prelude.{Option}
 use lib.Ieee.{Float, eq}
 use mir.Syntax.{w32}
+use borrow.Author.Rules.{rules}
 use mir.ValLaws.{to_z-of_z}
 use Rattle.words.specs.Words.{given}
 use Rattle.fit.specs.Fit.{result_of}
 use Rattle.fit.specs.Lookups.{value}
 use Rattle.context.specs.Gathered.{pair_at}
+use Rattle.context.proofs.Types.{given-option}
 use Rattle.slot.proofs.Numbers.{part-own, part-elsewhere, part-is}
 use Rattle.slot.proofs.same_part.Goals as goal
 
@@ -35,8 +37,8 @@ returns c =
     let a = c.args in
     let read = value (result_of a.fit.now (a.j + 2)) in
     let v : c.value.result ≡ read a.id = c.value.ensures ∙ ap read (to_z-of_z w32 a.id c.ranges.id) in
-    let e : c.is_part.result ≡ given (read a.id) false (λ v. eq v a.part) =
-    c.is_part.ensures ∙ ap (λ (o : Option Float). given o false (λ v. eq v a.part)) v in
+    let e : c.is_some_and.result ≡ given (read a.id) false (λ v. eq v a.part) =
+    given-option false (λ v. eq v a.part) c.value.result (λ x e p. search rules) c.is_some_and.ensures ∙ ap (λ (o : Option Float). given o false (λ v. eq v a.part)) v in
     λ catalogue.
     let pair = pair_at catalogue a.fit.now in
     part-is a.id a.part (pair a.i) (pair a.j) c.if-j-i.false

@@ -1,6 +1,6 @@
 -- `slot::shares_part` meets its contract. The invariant: the answer so far is that of the first j pairs.
 use native.Mathlib.Omega.{arith}
-use mathlib.Core.Path.{sym, ap, ◌∙◌}
+use mathlib.Core.Path.{refl, sym, ap, ◌∙◌}
 use lib.IntN.{ℤ}
 use mir.Syntax.{w32}
 use mir.Val.{of_z, to_z}
@@ -14,32 +14,21 @@ use Rattle.slot.proofs.Checks.{any-all}
 use Rattle.slot.proofs.shares_part.Goals as goal
 
 pub loop-j-init : goal.loop-j-init
-loop-j-init c = (omega arith, λ catalogue. sym (any_none _ _))
-
-pub same_part-requires : goal.same_part-requires
-same_part-requires c = (c.requires.0, c.requires.1, omega arith)
-
-pub overflow_add-j : goal.overflow_add-j
-overflow_add-j c = omega arith
-
-pub loop-j-smaller : goal.loop-j-smaller
-loop-j-smaller c = omega arith
+loop-j-init c = λ catalogue. sym (any_none _ _)
 
 pub loop-j-preserved : goal.loop-j-preserved
 loop-j-preserved c =
     let l = c.loop-j in
-    let a = c.args in (
-      omega arith,
-      λ catalogue.
-          let pair = pair_at catalogue a.fit.now in
-          any-turn (shares_part (to_z w32 (of_z w32 a.id)) a.part (pair a.i)) pair l.j _ _ _ (l.invariant.1 catalogue)
-          (c.same_part.ensures catalogue) c.either-found.ensures,
-    )
+    let a = c.args in
+    λ catalogue.
+    let pair = pair_at catalogue a.fit.now in
+    any-turn (shares_part (to_z w32 (of_z w32 a.id)) a.part (pair a.i)) pair l.j _ _ c.same_part-found.result (l.invariant catalogue)
+    (c.same_part-found.ensures catalogue) refl
 
 pub returns : goal.returns
 returns c =
     let a = c.args in
     λ catalogue.
     let p = pair_at catalogue a.fit.now a.i in
-    any-all (shares_part (to_z w32 (of_z w32 a.id)) a.part p) catalogue a.fit.now (omega arith) (c.loop-j.invariant.1 catalogue)
+    any-all (shares_part (to_z w32 (of_z w32 a.id)) a.part p) catalogue a.fit.now (omega arith) (c.loop-j.invariant catalogue)
     ∙ ap (λ (z : ℤ). any_of (shares_part z a.part p) (pairs_of catalogue a.fit.now)) (to_z-of_z w32 a.id c.ranges.id)

@@ -21,10 +21,10 @@ pub loop-i-init : goal.loop-i-init
 unfolding zip_to
 loop-i-init c =
     let a = c.args in
-    (omega arith, refl, sym (count_none (held_at a.walk.ids a.walk.levels) (is_new (training_of (fit_of a.fit.now)))), omega arith)
+    (refl, sym (count_none (held_at a.walk.ids a.walk.levels) (is_new (training_of (fit_of a.fit.now)))), omega arith)
 
 pub overflow_add-count : goal.overflow_add-count
-overflow_add-count c = let l = c.loop-i in omega (arith, c.new_skill-count.ensures.1, l.invariant.3, l.invariant.0, l.invariant.1, c.requires)
+overflow_add-count c = let l = c.loop-i in omega (arith, c.new_skill-count.ensures.1, l.invariant.2, l.invariant.0, c.requires)
 
 pub loop-i-preserved : goal.loop-i-preserved
 unfolding zip_to
@@ -36,13 +36,13 @@ loop-i-preserved c =
     let e = pair_eq (to_z-of_z w32 skill (record { sfits = c.id-1.given })) (refl {a = get_or a.walk.levels l.i 0}) in
     let r = c.new_skill-count.ensures.0 ∙ ap (λ (w : Demand). cond (new w) 1 0) e in
     let more = count-more (held_at a.walk.ids a.walk.levels) new l.i in
-    (omega (arith, c.loop-i-test.true), l.invariant.1, omega (arith, r, more, l.invariant.2), omega (arith, c.new_skill-count.ensures.1, l.invariant.3))
+    (l.invariant.0, omega (arith, r, more, l.invariant.1), omega (arith, c.new_skill-count.ensures.1, l.invariant.2))
 
 pub returns : goal.returns
 returns c =
     let l = c.loop-i in
     let a = c.args in
-    let all : l.i ≡ a.walk.len = omega (arith, c.loop-i-test.false, l.invariant.0, l.invariant.1) in (
-      l.invariant.2 ∙ ap (λ (k : ℕ). count_of (is_new (training_of (fit_of a.fit.now))) (held_of a.walk.ids a.walk.levels k)) all,
-      omega (arith, l.invariant.3, all, c.requires),
+    let all : l.i ≡ a.walk.len = omega (arith, l.invariant.0) in (
+      l.invariant.1 ∙ ap (λ (k : ℕ). count_of (is_new (training_of (fit_of a.fit.now))) (held_of a.walk.ids a.walk.levels k)) all,
+      omega (arith, l.invariant.2, all, c.requires),
     )

@@ -1,5 +1,5 @@
 -- `training::new_skills` meets its contract. The invariant: of the first i skills those that lack and are not listed are counted.
-use Prim.Native.Nat.{◌-◌, ◌≤◌}
+use Prim.Native.Nat.{◌≤◌}
 use mathlib.Core.Path.{◌≡◌}
 use Rattle.words.specs.Words.{count_of}
 use Rattle.fit.specs.Fit.{fit_of}
@@ -10,7 +10,4 @@ use Rattle.training.proofs.new_skills.Given as goal
 
 abbrev pub invariant-loop-i : goal.invariant-loop-i
 invariant-loop-i l =
-    (l.i ≤ l.n) × (l.n ≡ l.walk.len) × (l.count ≡ count_of (is_new (training_of (fit_of l.fit))) (held_of l.walk.ids l.walk.levels l.i)) × (l.count ≤ l.i)
-
-abbrev pub decreases-loop-i : goal.decreases-loop-i
-decreases-loop-i l = l.n - l.i
+    (l.n ≡ l.walk.len) × (l.count ≡ count_of (is_new (training_of (fit_of l.fit))) (held_of l.walk.ids l.walk.levels l.i)) × (l.count ≤ l.i)

@@ -18,7 +18,7 @@ pub loop-i-init : goal.loop-i-init
 loop-i-init c =
     let a = c.args in
     let t = held_in a.ids.now a.levels.now a.span.from a.span.len in
-    (omega arith, refl, turns-none t a.steps a.walk.ids a.walk.levels, omega arith, omega arith, omega arith, refl, refl)
+    (refl, turns-none t a.steps a.walk.ids a.walk.levels, omega arith, omega arith, omega arith, refl, refl)
 
 pub take_turn-after-requires : goal.take_turn-after-requires
 take_turn-after-requires c =
@@ -26,10 +26,10 @@ take_turn-after-requires c =
     let a = c.args in
     let t = held_in a.ids.now a.levels.now a.span.from a.span.len in
     let test = c.loop-i-test.true in (
-      omega (arith, l.invariant.1, l.invariant.5, test, c.requires),
-      omega (arith, l.invariant.1, l.invariant.3, l.invariant.4, l.invariant.6, test, c.requires),
-      omega (arith, l.invariant.1, l.invariant.3, l.invariant.4, l.invariant.7, test, c.requires),
-      subst Listed (sym (ap (λ (p : Training × ℕ). p.0) l.invariant.2))
+      omega (arith, l.invariant.0, l.invariant.4, test, c.requires),
+      omega (arith, l.invariant.0, l.invariant.2, l.invariant.3, l.invariant.5, test, c.requires),
+      omega (arith, l.invariant.0, l.invariant.2, l.invariant.3, l.invariant.6, test, c.requires),
+      subst Listed (sym (ap (λ (p : Training × ℕ). p.0) l.invariant.1))
           (turns-listed (held_of a.walk.ids a.walk.levels l.i) t a.steps c.requires.4),
     )
 
@@ -42,31 +42,24 @@ loop-i-preserved c =
     let e = pair_eq (to_z-of_z w32 skill (record { sfits = c.id-1.given })) (refl {a = get_or a.walk.levels l.i 0}) in
     let now = held_in l.ids l.levels l.from l.len in
     let r = c.take_turn-after.ensures in (
-      omega (arith, c.loop-i-test.true),
-      l.invariant.1,
-      r.0 ∙ ap (λ (w : Demand). turn (now, l.left) w) e ∙ turns_next t a.steps a.walk.ids a.walk.levels l.i l.invariant.2,
-      omega (arith, r.1, l.invariant.3),
-      omega (arith, r.2, l.invariant.4),
-      omega (arith, r.3, l.invariant.5),
-      r.4 ∙ l.invariant.6,
-      r.5 ∙ l.invariant.7,
+      l.invariant.0,
+      r.0 ∙ ap (λ (w : Demand). turn (now, l.left) w) e ∙ turns_next t a.steps a.walk.ids a.walk.levels l.i l.invariant.1,
+      omega (arith, r.1, l.invariant.2),
+      omega (arith, r.2, l.invariant.3),
+      omega (arith, r.3, l.invariant.4),
+      r.4 ∙ l.invariant.5,
+      r.5 ∙ l.invariant.6,
     )
-
-pub shape_of-ids : goal.shape_of-ids
-shape_of-ids c = c.loop-i.invariant.6
-
-pub shape_of-levels : goal.shape_of-levels
-shape_of-levels c = c.loop-i.invariant.7
 
 pub returns : goal.returns
 returns c =
     let l = c.loop-i in
     let a = c.args in
     let t = held_in a.ids.now a.levels.now a.span.from a.span.len in
-    let all : l.i ≡ a.walk.len = omega (arith, c.loop-i-test.false, l.invariant.0, l.invariant.1) in (
-      ap (λ (p : Training × ℕ). p.0) l.invariant.2 ∙ ap (λ (k : ℕ). (turns t a.steps (held_of a.walk.ids a.walk.levels k)).0) all,
-      omega (arith, l.invariant.3, all, c.requires),
-      l.invariant.4,
+    let all : l.i ≡ a.walk.len = omega (arith, l.invariant.0) in (
+      ap (λ (p : Training × ℕ). p.0) l.invariant.1 ∙ ap (λ (k : ℕ). (turns t a.steps (held_of a.walk.ids a.walk.levels k)).0) all,
+      omega (arith, l.invariant.2, all, c.requires),
+      l.invariant.3,
+      l.invariant.5,
       l.invariant.6,
-      l.invariant.7,
     )

@@ -16,22 +16,9 @@ returns c = λ b k v.
     let id₂ = to_z-of_z w32 c.skill_id-b.result (record { sfits = c.skill_id-b.type_inv }) ∙ c.skill_id-b.ensures in
     let id₃ = to_z-of_z w32 c.skill_id-c.result (record { sfits = c.skill_id-c.type_inv }) ∙ c.skill_id-c.ensures in
     let id₄ = to_z-of_z w32 c.skill_id-d.result (record { sfits = c.skill_id-d.type_inv }) ∙ c.skill_id-d.ensures in
-    let found = c.four_types-four.ensures in
-    let four = c.four_types-four.result in
+    let found = c.four_types.ensures in
     skills-four x a.fit.now a.i v
-    (wrote-same (skill-told x four.a id₁ id₁ found.0) c.unless_skill-j.ensures.0)
-    (wrote-same (skill-told x four.b id₂ id₂ found.1) c.unless_skill-k.ensures.0)
-    (wrote-same (skill-told x four.c id₃ id₃ found.2) c.unless_skill-l.ensures.0)
-    (wrote-same (skill-told x four.d id₄ id₄ found.3) c.unless_skill.ensures.0)
-
-pub unless_skill-k-requires : goal.unless_skill-k-requires
-unless_skill-k-requires c =
-    omega (arith, c.unless_skill-j.ensures.1, c.requires.3)
-
-pub unless_skill-l-requires : goal.unless_skill-l-requires
-unless_skill-l-requires c =
-    omega (arith, c.unless_skill-k.ensures.1, c.unless_skill-j.ensures.1, c.requires.3)
-
-pub unless_skill-requires : goal.unless_skill-requires
-unless_skill-requires c =
-    omega (arith, c.unless_skill-l.ensures.1, c.unless_skill-k.ensures.1, c.unless_skill-j.ensures.1, c.requires.3)
+    (wrote-same (skill-told x _ id₁ id₁ (found 0 (omega arith))) c.unless_skill-j.ensures.0)
+    (wrote-same (skill-told x _ id₂ id₂ (found 1 (omega arith))) c.unless_skill-k.ensures.0)
+    (wrote-same (skill-told x _ id₃ id₃ (found 2 (omega arith))) c.unless_skill-l.ensures.0)
+    (wrote-same (skill-told x _ id₄ id₄ (found 3 (omega arith))) c.unless_skill.ensures.0)

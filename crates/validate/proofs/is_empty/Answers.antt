@@ -7,27 +7,32 @@ use Rattle.entry.proofs.Wrote.{wrote_count}
 use Rattle.context.specs.Gathered.{context_of, pairs_of}
 use Rattle.validate.specs.Validate.{hull_rules, list_of}
 use Rattle.validate.proofs.Empty.{empty-some, empty-count, some-length, empty-length, off_hull_some, on-hull_length}
+use Rattle.validate.proofs.is_empty.Goals.{then-is_hull, else-is_hull}
 use Rattle.validate.proofs.is_empty.Goals as goal
 
-pub returns-then-not-on_hull : goal.returns-then-not-on_hull
-returns-then-not-on_hull c =
-    let a = c.args in
-    sym (off_hull_some a.catalogue.now a.fit.now (sym c.is_hull-on_hull.ensures ∙ c.if-not-on_hull.true))
+pub returns-then-no_rule_broken : goal.returns-then-no_rule_broken
+returns-then-no_rule_broken c =
+    let catalogue = c.args.catalogue.now in
+    let fit = c.args.fit.now in
+    elim c.if-is_hull.branch [
+      | then-is_hull w ↦
+          let on = on-hull_length catalogue fit (sym c.is_hull.ensures ∙ w.if-is_hull.true) in
+          let none = empty-length (hull_rules (context_of catalogue fit) (pairs_of catalogue fit))
+          (sym w.no_rule_broken.ensures ∙ sym w.value-is ∙ c.if-no_rule_broken.true) in
+          empty-count (list_of (catalogue_of catalogue) (fit_of fit)) c.kind.result (omega (arith, on, none, wrote_count c.kind.ensures.0))
+      | else-is_hull w ↦ cc (w.if-is_hull.false)
+    ]
 
-pub returns-then-not-no_rule_broken : goal.returns-then-not-no_rule_broken
-returns-then-not-no_rule_broken c =
-    let a = c.args in
-    let catalogue = a.catalogue.now in
-    let fit = a.fit.now in
-    let on = on-hull_length catalogue fit (sym c.is_hull-on_hull.ensures ∙ c.if-not-on_hull.false) in
-    let Some = some-length (hull_rules (context_of catalogue fit) (pairs_of catalogue fit)) (sym c.no_rule_broken.ensures ∙ c.if-not-no_rule_broken.true) in
-    sym (empty-some (list_of (catalogue_of catalogue) (fit_of fit)) (omega (arith, on, Some)))
-
-pub returns : goal.returns
-returns c =
-    let a = c.args in
-    let catalogue = a.catalogue.now in
-    let fit = a.fit.now in
-    let on = on-hull_length catalogue fit (sym c.is_hull-on_hull.ensures ∙ c.if-not-on_hull.false) in
-    let None = empty-length (hull_rules (context_of catalogue fit) (pairs_of catalogue fit)) (sym c.no_rule_broken.ensures ∙ c.if-not-no_rule_broken.false) in
-    empty-count (list_of (catalogue_of catalogue) (fit_of fit)) c.kind.result (omega (arith, on, None, wrote_count c.kind.ensures.0))
+pub returns-else-no_rule_broken : goal.returns-else-no_rule_broken
+returns-else-no_rule_broken c =
+    let catalogue = c.args.catalogue.now in
+    let fit = c.args.fit.now in
+    c.if-no_rule_broken.false
+    ∙ elim c.if-is_hull.branch [
+      | then-is_hull w ↦
+          let on = on-hull_length catalogue fit (sym c.is_hull.ensures ∙ w.if-is_hull.true) in
+          let some = some-length (hull_rules (context_of catalogue fit) (pairs_of catalogue fit))
+          (sym w.no_rule_broken.ensures ∙ sym w.value-is ∙ c.if-no_rule_broken.false) in
+          sym (empty-some (list_of (catalogue_of catalogue) (fit_of fit)) (omega (arith, on, some)))
+      | else-is_hull w ↦ sym (off_hull_some catalogue fit (sym c.is_hull.ensures ∙ w.if-is_hull.false))
+    ]

@@ -13,7 +13,7 @@ use Rattle.validate.proofs.not_a_mode.Goals as goal
 pub returns-in_default : goal.returns-in_default
 returns-in_default c =
     let a = c.args in
-    let e = sym c.mode-answer.ensures ∙ c.in_default.is in
+    let e = sym c.mode.ensures ∙ c.in_default.is in
     (mode-none (catalogue_of a.catalogue.now) (mode_of (fit_of a.fit.now).frame) e, omega arith)
 
 pub returns : goal.returns
@@ -21,7 +21,7 @@ returns c =
     let a = c.args in
     let cat = catalogue_of a.catalogue.now in
     let mode = mode_of (fit_of a.fit.now).frame in
-    let e = sym c.mode-answer.ensures ∙ c.in-Some.is in
+    let e = sym c.mode.ensures ∙ c.in-Some.is in
     let q = c.is_mode.ensures ∙ ap (is_mode cat) (to_z-of_z w32 c.in-Some.mode (search rules)) in
     let v = mode-some cat mode c.in-Some.mode _ e q c.emit_when.ensures in
     (v, omega (arith, v.count, mode-few cat mode))

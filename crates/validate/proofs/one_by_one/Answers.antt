@@ -11,14 +11,6 @@ use Rattle.validate.specs.Skills.{skill_at}
 use Rattle.validate.proofs.Tests.{skill-few, skills-at}
 use Rattle.validate.proofs.one_by_one.Goals as goal
 
-pub loop-i-init : goal.loop-i-init
-loop-i-init c = (omega arith, c.requires.2, omega arith, refl, refl, λ b k v. v)
-
-pub not_a_skill_at-m-requires : goal.not_a_skill_at-m-requires
-not_a_skill_at-m-requires c =
-    let more = c.loop-i-test.true in
-    (c.requires.0, omega (arith, more, c.skill_count-count.ensures, c.loop-i.invariant.0, c.loop-i.invariant.2, c.requires.3))
-
 pub loop-i-preserved : goal.loop-i-preserved
 loop-i-preserved c =
     let a = c.args in
@@ -34,15 +26,3 @@ loop-i-preserved c =
       wrote-length e ∙ c.loop-i.invariant.4,
       λ b n v. wrote-table_next f (skill_at a.fit.now) c.loop-i.i (c.loop-i.invariant.5 b n v) e,
     )
-
-pub shape_of-hints : goal.shape_of-hints
-shape_of-hints c = c.loop-i.invariant.3
-
-pub shape_of-out : goal.shape_of-out
-shape_of-out c = c.loop-i.invariant.4
-
-pub returns : goal.returns
-returns c = λ b k v.
-    let a = c.args in
-    let end : c.loop-i.i ≡ skill_count a.fit.now = omega (arith, c.loop-i.invariant.1, c.loop-i-test.false, c.skill_count-count.ensures) in
-    skills-at (catalogue_of a.catalogue.now) a.fit.now end (c.loop-i.invariant.5 b k v)

@@ -12,6 +12,3 @@ abbrev pub invariant-loop-i : goal.invariant-loop-i
 invariant-loop-i l =
     (l.from ≤ l.i) × (l.i ≤ skill_count l.fit) × (l.m ≤ l.n + (l.i - l.from)) × (length l.hints ≡ length l.initial.hints) × (length l.out ≡ length l.initial.out)
     × ((b : List ℕ) (k : ℕ) → OfSkills (catalogue_of l.catalogue) l.fit l.from b k l.initial.out l.n → OfSkills (catalogue_of l.catalogue) l.fit l.i b k l.out l.m)
-
-abbrev pub decreases-loop-i : goal.decreases-loop-i
-decreases-loop-i l = l.count - l.i

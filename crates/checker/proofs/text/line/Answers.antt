@@ -1,12 +1,8 @@
 -- `checker::text::line` meets its contract: the heading, then the payload.
-use native.Mathlib.Omega.{arith}
+use Rattle.std.proofs.Common.{append_assoc}
 use Rattle.checker.specs.Text.{line}
-use Rattle.program.proofs.Putting.{put-append}
 use Rattle.checker.proofs.text.line.Goals as goal
 
-pub returns : goal.returns
+pub returns-clause-text : goal.returns-clause-text
 unfolding line
-returns c =
-    let p = c.payload.ensures in
-    let h = c.heading-middle.ensures in
-    (put-append h.0 p.0, omega (arith, h.1, p.1))
+returns-clause-text c = rw (c.payload.ensures.text, c.heading.ensures.text, append_assoc)

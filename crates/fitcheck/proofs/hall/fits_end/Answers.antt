@@ -12,7 +12,7 @@ pub overflow_add-at : goal.overflow_add-at
 overflow_add-at c = omega arith
 
 pub loop-i-init : goal.loop-i-init
-loop-i-init c = (omega arith, omega (arith, start_none c.args.input.now), omega arith)
+loop-i-init c = (omega (arith, start_none c.args.input.now), omega arith)
 
 pub length_at-at-requires : goal.length_at-at-requires
 length_at-at-requires c = omega arith
@@ -20,21 +20,15 @@ length_at-at-requires c = omega arith
 pub overflow_add-at-in-loop-i : goal.overflow_add-at-in-loop-i
 overflow_add-at-in-loop-i c = omega arith
 
-pub overflow_add-i : goal.overflow_add-i
-overflow_add-i c = omega arith
-
-pub loop-i-smaller : goal.loop-i-smaller
-loop-i-smaller c = omega arith
-
 pub loop-i-preserved : goal.loop-i-preserved
 loop-i-preserved c =
     let l = c.loop-i in
     let b = c.args.input.now in
-    (omega arith, omega (arith, start-next b l.i), omega arith)
+    (omega (arith, start-next b l.i), omega arith)
 
 pub returns : goal.returns
 returns c =
     let l = c.loop-i in
     let b = c.args.input.now in
     let e : l.i ≡ fit_count b = omega arith in
-    l.invariant.1 ∙ ap (fit_start b) e
+    l.invariant.0 ∙ ap (fit_start b) e

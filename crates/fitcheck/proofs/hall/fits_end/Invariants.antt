@@ -5,7 +5,4 @@ use Rattle.fitcheck.specs.Hall.{fit_start}
 use Rattle.fitcheck.proofs.hall.fits_end.Given as goal
 
 abbrev pub invariant-loop-i : goal.invariant-loop-i
-invariant-loop-i l = (l.i ≤ l.n) × (l.at ≡ fit_start l.input l.i) × (l.at ≤ 260 + 4294967296 * l.i)
-
-abbrev pub decreases-loop-i : goal.decreases-loop-i
-decreases-loop-i l = l.n - l.i
+invariant-loop-i l = (l.at ≡ fit_start l.input l.i) × (l.at ≤ 260 + 4294967296 * l.i)

@@ -1,0 +1,33 @@
+-- `calls::check_page` meets its contract: the images' refusals come first, then the limit of pairs.
+use Rattle.std.proofs.Common.{◌≡◌, true, false, sym, ap, ◌∙◌, Err, rules, arith}
+use Rattle.numbers.specs.Refused.{number_of}
+use Rattle.lists.specs.Terms.{limited, main}
+use Rattle.calls.specs.Answers.{image_refusals}
+use Rattle.calls.proofs.First.{images_sound, limit-first}
+use Rattle.calls.proofs.Results.{stays}
+use Rattle.calls.proofs.Pages.{over-pairs, pairs-within}
+use Rattle.calls.proofs.check_page.Goals as goal
+
+pub returns-in_err-check_images : goal.returns-in_err-check_images
+returns-in_err-check_images c =
+    let e : c.from_residual.result ≡ Err c.in_err-check_images.field-0.0 = search rules in
+    ap number_of e ∙ stays _ (image_refusals c.args.catalogue.now c.args.fit.now) c.in_err-check_images.ensures _
+
+pub pair_count-requires : goal.pair_count-requires
+pair_count-requires c = (images_sound c.args.catalogue.now c.args.fit.now (sym c.in_ok-check_images.ensures)).1
+
+pub returns-then-limit-pair_count : goal.returns-then-limit-pair_count
+returns-then-limit-pair_count c =
+    let a = c.args in
+    let t = limited a.pairs 0 main in
+    let over = over-pairs t a.catalogue.now a.fit.now (omega (arith, c.pair_count.ensures, c.if-limit-pair_count.true)) in
+    sym (limit-first t a.catalogue.now a.fit.now (sym c.in_ok-check_images.ensures) true over)
+
+pub returns : goal.returns
+returns c =
+    let a = c.args in
+    let t = limited a.pairs 0 main in
+    let past = sym c.in_ok-check_images.ensures in
+    let sound = (images_sound a.catalogue.now a.fit.now past).1 in
+    let within = pairs-within t a.catalogue.now a.fit.now sound (omega (arith, c.pair_count.ensures, c.if-limit-pair_count.false)) in
+    sym (limit-first t a.catalogue.now a.fit.now past false within)

@@ -1,0 +1,39 @@
+-- `catalogue::attribute_id` meets its contract: the id behind the number that is found; no number is over 87.
+use mathlib.Core.Path.{◌∙◌, sym, ap}
+use native.Mathlib.Omega.{arith}
+use Rattle.std.specs.Prelude.{Some}
+use mir.Syntax.{w32}
+use mir.ValLaws.{to_z-of_z, to_z_pos}
+use Rattle.words.specs.Words.{given}
+use Rattle.words.proofs.Tables.{find-below}
+use Rattle.catalogue.proofs.Reading.{names-sorted}
+use Rattle.catalogue.proofs.Finding.{name_told, name_none}
+use borrow.Author.Rules.{rules}
+use Rattle.catalogue.proofs.attribute_id.Goals as goal
+
+pub returns-then-name-gt-REQUIRED_SKILL_6_LEVEL : goal.returns-then-name-gt-REQUIRED_SKILL_6_LEVEL
+returns-then-name-gt-REQUIRED_SKILL_6_LEVEL c = sym (name_none c.args.catalogue.now c.requires c.args.name c.if-name-gt-REQUIRED_SKILL_6_LEVEL.true)
+
+pub find_near-requires : goal.find_near-requires
+find_near-requires c =
+    let e = c.names-b.ensures in
+    (search rules, rw (e.0, e.1) (names-sorted c.args.catalogue.now c.requires))
+
+pub returns-in_err-i : goal.returns-in_err-i
+unfolding given
+returns-in_err-i c =
+    let e = c.names-b.ensures in
+    c.from_residual.ensures ∙ name_told c.args.catalogue.now c.in_err-i.ensures c.requires c.args.name e.0 e.1 (to_z_pos w32 c.args.name (omega arith))
+
+pub id_at-requires : goal.id_at-requires
+id_at-requires c =
+    let e = c.names-b.ensures in
+    (omega (arith, e, c.requires.size), find-below _ _ _ (sym c.in_ok-i.ensures))
+
+pub returns : goal.returns
+unfolding given
+returns c =
+    let e = c.names-b.ensures in
+    let i = c.id_at in
+    ap Some (to_z-of_z w32 i.result (record { sfits = i.type_inv }) ∙ i.ensures ∙ rw (e.0, e.1))
+    ∙ name_told c.args.catalogue.now c.in_ok-i.ensures c.requires c.args.name e.0 e.1 (to_z_pos w32 c.args.name (omega arith))

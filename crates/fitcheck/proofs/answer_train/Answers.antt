@@ -1,0 +1,23 @@
+-- `fitcheck::answer_train` meets its contract: refusals 1 to 6 of the images, then the training.
+use Rattle.std.proofs.Common.{◌≡◌, sym, Err, rules}
+use Rattle.calls.specs.Answers.{image_refusals}
+use Rattle.calls.proofs.First.{images_sound}
+use Rattle.calls.proofs.Outputs.{bytes_same, bytes-first}
+use Rattle.fitcheck.specs.Train.{train_call}
+use Rattle.fitcheck.proofs.Training.{train_past}
+use Rattle.fitcheck.proofs.answer_train.Goals as goal
+
+pub returns-in_err-check_images : goal.returns-in_err-check_images
+unfolding train_call
+returns-in_err-check_images c =
+    let a = c.args in
+    let e : c.from_residual.result ≡ Err c.in_err-check_images.field-0.0 = search rules in
+    bytes-first a.out.now e (image_refusals a.catalogue.now a.fit.now) c.in_err-check_images.ensures _ _
+
+pub train-requires : goal.train-requires
+train-requires c = images_sound c.args.catalogue.now c.args.fit.now (sym c.in_ok-check_images.ensures)
+
+pub returns : goal.returns
+returns c =
+    let a = c.args in
+    bytes_same (sym (train_past a.catalogue.now a.fit.now a.res a.steps a.out.now (sym c.in_ok-check_images.ensures))) c.train.ensures

@@ -1,0 +1,49 @@
+-- `hall::judge` meets its contract: refusals 4 to 6, items and results in unequal numbers, then the list.
+use Rattle.std.proofs.Common.{ℕ, Bool, ◌≡◌, ◌<◌, sym, ◌∙◌, Result, Ok, Err, true, false, arith}
+use Rattle.std.specs.Result.{is_err}
+use mathlib.Core.Bool.{true≢false}
+use Rattle.numbers.specs.Refused.{number_of}
+use Rattle.numbers.specs.declared.refusals.Refusal.{Refusal}
+use Rattle.numbers.proofs.Refused.{some-number}
+use Rattle.catalogue.specs.Catalogue.{catalogue_of}
+use Rattle.fit.specs.Refusals.{fit_refusal}
+use Rattle.fit.proofs.Soundness.{sound}
+use Rattle.fitcheck.proofs.HallLaws.{share_unread, share_unequal, share_clear, share_faulted}
+use Rattle.fitcheck.proofs.hall.judge.Goals as goal
+
+refused : {A : Type 0} {n : ℕ} {t : Bool} (r : Result A Refusal) → number_of r ≡ n → t ≡ is_err r → t ≡ true → 0 < n
+refused (Ok x) e p q = absurd (true≢false (sym q ∙ p))
+refused (Err x) e p q = omega (arith, e, some-number x)
+
+accepted : {A : Type 0} {n : ℕ} {t : Bool} (r : Result A Refusal) → number_of r ≡ n → t ≡ is_err r → t ≡ false → n ≡ 0
+accepted (Ok x) e p q = sym e
+accepted (Err x) e p q = absurd (true≢false (sym p ∙ q))
+
+pub returns-then-is_err : goal.returns-then-is_err
+returns-then-is_err c =
+    share_unread (catalogue_of c.args.catalogue.now) c.args.fit.now (refused c.check.result c.check.ensures c.is_err.ensures.value c.if-is_err.true)
+
+pub item_count-requires : goal.item_count-requires
+item_count-requires c = sound _ (accepted c.check.result c.check.ensures c.is_err.ensures.value c.if-is_err.false)
+
+pub result_count-requires : goal.result_count-requires
+result_count-requires c = sound _ (accepted c.check.result c.check.ensures c.is_err.ensures.value c.if-is_err.false)
+
+pub returns-then-item_count-result_count : goal.returns-then-item_count-result_count
+returns-then-item_count-result_count c =
+    share_unequal (catalogue_of c.args.catalogue.now) c.args.fit.now (accepted c.check.result c.check.ensures c.is_err.ensures.value c.if-is_err.false)
+    (λ q. omega (arith, c.item_count.ensures, c.result_count.ensures, c.if-item_count-result_count.true, q))
+
+pub gather-facts-requires : goal.gather-facts-requires
+gather-facts-requires c = (c.requires, sound _ (accepted c.check.result c.check.ensures c.is_err.ensures.value c.if-is_err.false))
+
+pub returns-then-is_empty : goal.returns-then-is_empty
+returns-then-is_empty c =
+    share_clear (catalogue_of c.args.catalogue.now) c.args.fit.now (accepted c.check.result c.check.ensures c.is_err.ensures.value c.if-is_err.false)
+    (sym c.is_empty.ensures ∙ c.if-is_empty.true)
+    (omega (arith, c.item_count.ensures, c.result_count.ensures, c.if-item_count-result_count.false))
+
+pub returns : goal.returns
+returns c =
+    share_faulted (catalogue_of c.args.catalogue.now) c.args.fit.now (accepted c.check.result c.check.ensures c.is_err.ensures.value c.if-is_err.false)
+    (sym c.is_empty.ensures ∙ c.if-is_empty.false)

@@ -1,0 +1,16 @@
+-- `league::tally` meets its contract. The invariant: rule 24 and the points of the first i pairs, at most 1,000,000 each.
+use Prim.Native.Nat.{◌*◌, ◌≤◌}
+use mathlib.Core.Path.{◌≡◌}
+use Rattle.words.specs.Words.{table}
+use Rattle.numbers.specs.Sizes as Sizes
+use Rattle.profile.specs.Profile.{prices_of}
+use Rattle.context.specs.Gathered.{pair_at}
+use Rattle.context.proofs.Loops.{Passed}
+use Rattle.league.specs.League.{banned_at, points}
+use Rattle.league.proofs.tally.Given as goal
+
+abbrev pub invariant-loop-i : goal.invariant-loop-i
+invariant-loop-i l =
+    Passed l.catalogue l.fit (banned_at (prices_of l.profile)) l.initial.out l.n l.out l.k l.i
+    × (l.points ≡ points (prices_of l.profile) (table l.i (pair_at l.catalogue l.fit)))
+    × (l.points ≤ Sizes.most_points * l.i)

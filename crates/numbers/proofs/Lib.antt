@@ -1,0 +1,3 @@
+-- Laws of the enums: their casts, and the numbers of refusals.
+pub mod Casts
+pub mod Refused
