@@ -156,7 +156,7 @@ pub fn emit(out: &mut [u8], n: usize, e: Entry) -> usize
     n + 1
 }
 
-// An entry where a test holds.
+// An entry where a test holds. Beside `emit`, since an `if` at each of its calls would be longer.
 pub fn emit_when(out: &mut [u8], n: usize, test: bool, e: Entry) -> usize
     requires { Room n 1 }
     ensures { Wrote out.old n out.new result (when test e) }

@@ -1,5 +1,6 @@
 -- Laws that belong to no one function, lowest first.
 pub mod Bits
+pub mod Casts
 pub mod Sizes
 pub mod Order
 pub mod Rounding

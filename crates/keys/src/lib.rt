@@ -41,7 +41,7 @@ fn falls(keys: &[u8], i: usize) -> bool
 }
 
 // Whether none of 4h + 1 signed keys stands behind the next: four runs of h + 1 keys, each from the last key of the one before, in step.
-// One run alone waits for memory. The bias is known here: as a parameter of this loop it makes it take twice as long.
+// One run alone waits for memory. Bias and strictness are known here: with both as parameters the loop took twice as long.
 fn four_runs(keys: &[u8], h: usize) -> bool
     requires { 16 * h + 4 ≤ length keys.now }
     ensures { result ≡ in_order nat_le (table (4 * h + 1) (λ i. biased sign (u32_at keys.now (4 * i)))) }

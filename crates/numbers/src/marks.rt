@@ -1,5 +1,5 @@
 // Marks follow the named arms of `slots_of`; 0 is any other effect. Marks 1 to 6 are racks, 7 and 8 hardpoints.
-// Numbers: a catalogue has them in bytes, which a loop over links compares; an enum would add a decode to each.
+// Numbers: documents and definitions number what stands in a catalogue, and mark m is slot m - 1; an enum would say no more there.
 pub const HI_POWER: u8 = 1;
 
 pub const MED_POWER: u8 = 2;

@@ -1,5 +1,5 @@
 // Document 01, "Records", Names: the numbers of the 88 attributes that the rules look up, under their names in the game.
-// Numbers: keys by which the catalogue's sorted names are searched.
+// Numbers: keys by which the catalogue's sorted names are searched; an enum of 88 would be cast at each search.
 // LOADS: load, then output.
 pub const CPU_LOAD: u32 = 0;
 

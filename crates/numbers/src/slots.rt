@@ -1,5 +1,5 @@
 // Rust's `Slot`.
-// Numbers: a fit has it in a byte, which loops over pairs compare; an enum would add a decode to each.
+// Numbers: documents and definitions number what stands in a fit's byte, and rules compare the byte; an enum would say no more there.
 pub const HIGH: u8 = 0;
 
 pub const MEDIUM: u8 = 1;

@@ -1,5 +1,5 @@
 // Rust's `State`.
-// Numbers: a result has it in a byte, which loops over pairs compare in order; an enum would add a decode to each.
+// Numbers: documents and definitions number what stands in a result's byte, and rules compare it in order; an enum would say no more.
 pub const OFFLINE: u8 = 0;
 
 pub const ONLINE: u8 = 1;

@@ -10,7 +10,16 @@ use anyhow::Result;
 use numbers::refusals::Refusal;
 use std::fs;
 
-// A line for each row: its name, and the number that its image is refused with, or 0. A line of the file without a colon is a comment.
+// A refusal's number, or 0.
+fn number(checked: std::result::Result<(), Refusal>) -> u64 {
+    match checked {
+        Ok(()) => 0,
+        Err(refusal) => refusal.number(),
+    }
+}
+
+// A line for each row: its name, and the number that its image is refused with, or 0. A row that is none goes to standard error. A line of
+// the file without a colon is a comment.
 fn say_file<F>(rt: &HostRuntime, path: &str, check: F) -> Result<()>
 where
     F: Fn(&[u8]) -> std::result::Result<(), Refusal>,
@@ -25,12 +34,10 @@ where
     };
     for line in text.lines() {
         if let Some((name, row)) = line.split_once(':') {
-            let image = drawing::draw(rt.alloc(), row)?;
-            let number = match check(&image) {
-                Ok(()) => 0,
-                Err(refusal) => refusal.number(),
-            };
-            println!(rt; "{name}: {number}")?;
+            match drawing::draw(rt.alloc(), row) {
+                Ok(image) => println!(rt; "{name}: {}", number(check(&image)))?,
+                Err(e) => eprintln!(rt; "{name}: {e}")?,
+            }
         }
     }
     Ok(())

@@ -33,7 +33,7 @@ const REQUIRED: [(u32, u32); 6] = [
 pub struct TooMany;
 
 // The skills noted so far, in the order met, each with the highest level asked of it. Two arrays: `is_among` reads ids alone, and took
-// half as long again on 200 of an array of pairs.
+// two thirds longer on 200 of an array of pairs.
 #[derive(Clone, Copy)]
 pub struct Walk {
     pub ids: [i32; MOST_WANTED],

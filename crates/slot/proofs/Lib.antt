@@ -2,3 +2,4 @@
 pub mod Checks
 pub mod Sharing
 pub mod Numbers
+pub mod Placing

@@ -22,6 +22,7 @@ slot_number_name p = cond (is_in Slots.implant p) (Some Names.implantness) (cond
 
 module _ (x : Context) (p : Pair) where
   unfoldable pub wrong_slot : List Entry
+  -- each rack that a type asks for has a kind: `rack_kind` in proofs/Placing.antt
   wrong_slot = do
     rack ← p.rack
     expected ← Slots.kind_of rack

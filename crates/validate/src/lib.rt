@@ -260,7 +260,7 @@ pub fn validate(
     hull_rules(catalogue, fit, facts, out, n)
 }
 
-// The list of a fit as if it listed no skills: none is looked up.
+// The list of a fit as if it listed no skills: none is looked up. Beside `validate`, as a flag for the skills would be no plainer.
 pub fn without_skills(catalogue: &[u8], fit: &[u8], facts: &[u32; 2058], out: &mut [u8]) -> usize
     requires { Gathered catalogue.now fit.now facts.now }
     ensures { let f = fit_of fit.now in
