@@ -8,13 +8,9 @@ ghost use Rattle.numbers.specs.Sizes as Sizes;
 ghost use Rattle.numbers.specs.Refused.{number_of};
 ghost use Rattle.numbers.specs.Reading.{reader_number};
 ghost use Rattle.catalogue.specs.Catalogue.{Catalogue, catalogue_of};
-ghost use Rattle.catalogue.specs.Sound as Catalogue;
 ghost use Rattle.fit.specs.Fit.{fit_of, result_count};
-ghost use Rattle.fit.specs.Sound as Fit;
 ghost use Rattle.entry.specs.declared.Entry.{Entry};
 ghost use Rattle.entry.specs.Wrote.{Wrote};
-ghost use Rattle.context.specs.Gathered.{Gathered};
-ghost use Rattle.profile.specs.Sound as Profile;
 ghost use Rattle.skill.specs.Skill.{reported, skill_list};
 ghost use Rattle.skill.specs.Held.{walk_of};
 ghost use Rattle.lists.specs.Terms.{Terms, terms, limited, read_by, main};
@@ -22,9 +18,13 @@ ghost use Rattle.lists.specs.Lists.{list_for, most_entries};
 ghost use Rattle.calls.specs.Answers.{answer, image_refusals, page_refusals, input_refusals, buffer_refusals, skill_refusals};
 ghost use Rattle.calls.specs.Gave.{Gave, lent, word_of};
 
+use catalogue::Catalogue;
+use context::Context;
+use fit::{Fit, layout};
 use lists::Asked;
 use numbers::refusals::Refusal;
 use numbers::sizes;
+use profile::Profile;
 use skill::Walk;
 
 // The bytes of the longest list of any fit.
@@ -60,7 +60,7 @@ fn check_page(catalogue: &[u8], fit: &[u8], pairs: u32) -> Result<(), Refusal>
 {
     check_images(catalogue, fit)?;
     let limit = pairs as usize;
-    if limit < fit::pair_count(fit) {
+    if limit < layout::pairs(fit) {
         return Err(Refusal::OverLimit);
     }
     Ok(())
@@ -93,49 +93,45 @@ fn copied(count: usize, place: &[u8], out: &mut [u8]) -> Result<usize, Refusal>
 // A list that a place of so many bytes holds, for a buffer that may be too short: it is run once, into the place.
 fn placed<const SIZE: usize>(
     asked: Asked,
-    catalogue: &[u8],
-    fit: &[u8],
-    profile: &[u8],
-    facts: &[u32; 2058],
+    profile: &Profile,
+    context: &Context,
     hints: &mut [u32],
     out: &mut [u8],
 ) -> Result<usize, Refusal>
     requires size { SIZE < 2 ^ 32 }
-    requires gathered { Gathered catalogue.now fit.now facts.now × Profile.Sound profile.now }
     requires fit_bound { let t = read_by (reader_number asked.reader) (terms profile.now asked.allowance) in
-        24 * length (list_for t (catalogue_of catalogue.now) (fit_of fit.now)) ≤ SIZE }
+        24 * length (list_for t (catalogue_of context.now.catalogue.now) (fit_of context.now.fit.now)) ≤ SIZE }
     ensures { let t = read_by (reader_number asked.reader) (terms profile.now asked.allowance) in
-        let es = list_for t (catalogue_of catalogue.now) (fit_of fit.now) in
+        let es = list_for t (catalogue_of context.now.catalogue.now) (fit_of context.now.fit.now) in
         Gave out.old out.new (word_of result) (lent out.old es) }
 {
     let mut place = [0u8; SIZE];
-    let count = lists::write(asked, catalogue, fit, profile, facts, hints, &mut place);
+    let count = lists::write(asked, profile, context, hints, &mut place);
     copied(count, &place, out)
 }
 
 // The list call on images and a profile that are accepted. Where the buffer holds any list of the fit, it is written there at once.
 fn list_accepted(
     asked: Asked,
-    catalogue: &[u8],
-    fit: &[u8],
-    profile: &[u8],
+    catalogue: &Catalogue,
+    fit: &Fit,
+    profile: &Profile,
     out: &mut [u8],
 ) -> Result<usize, Refusal>
-    requires { Catalogue.Sound catalogue.now × Fit.Sound fit.now × Profile.Sound profile.now }
     ensures { let t = read_by (reader_number asked.reader) (terms profile.now asked.allowance) in
         let es = list_for t (catalogue_of catalogue.now) (fit_of fit.now) in
         Gave out.old out.new (word_of result) (lent out.old es) }
 {
     let most = sizes::ENTRY_SIZE * lists::most_entries(fit);
     let mut hints = [0u32; context::LIST_HINTS];
-    let facts = context::gather(catalogue, fit, &mut hints);
+    let context = Context::new(catalogue, fit, &mut hints);
     if most <= out.len() {
-        return Ok(lists::write(asked, catalogue, fit, profile, &facts, &mut hints, out));
+        return Ok(lists::write(asked, profile, &context, &mut hints, out));
     }
     if most <= SMALL_PLACE {
-        return placed::<SMALL_PLACE>(asked, catalogue, fit, profile, &facts, &mut hints, out);
+        return placed::<SMALL_PLACE>(asked, profile, &context, &mut hints, out);
     }
-    placed::<ANY_LIST>(asked, catalogue, fit, profile, &facts, &mut hints, out)
+    placed::<ANY_LIST>(asked, profile, &context, &mut hints, out)
 }
 
 // The list call of a reader that there is.
@@ -153,46 +149,48 @@ pub fn read_list(
         Gave out.old out.new (word_of result) (answer refusals es) }
 {
     check_inputs(catalogue, fit, pairs, profile)?;
-    list_accepted(asked, catalogue, fit, profile, out)
+    let catalogue = Catalogue::new(catalogue);
+    let fit = Fit::new(fit);
+    let profile = Profile::new(profile);
+    list_accepted(asked, &catalogue, &fit, &profile, out)
 }
 
 // The skill list of a walk.
-fn skill_list(fit: &[u8], res: usize, walk: Walk, out: &mut [u8]) -> Result<usize, Refusal>
-    requires { Fit.Sound fit.now × (res < result_count fit.now + 2) × (walk.len ≤ Sizes.most_wanted) }
+fn skill_list(fit: &Fit, res: usize, walk: Walk, out: &mut [u8]) -> Result<usize, Refusal>
+    requires { (res < result_count fit.now + 2) × (walk.len ≤ Sizes.most_wanted) }
     ensures { let es = reported (fit_of fit.now) res (walk_of walk) in
         Gave out.old out.new (word_of result) (lent out.old es) }
 {
     if ANY_SKILL_LIST <= out.len() {
-        return Ok(skill::report(fit, res, walk, out, 0));
+        return Ok(skill::write(fit, res, walk, out));
     }
     let mut none = [0u8; 0];
-    let missing = skill::report(fit, res, walk, &mut none, 0);
+    let missing = skill::write(fit, res, walk, &mut none);
     if out.len() / sizes::ENTRY_SIZE < missing {
         return Err(Refusal::TooShort);
     }
-    Ok(skill::report(fit, res, walk, out, 0))
+    Ok(skill::write(fit, res, walk, out))
 }
 
 // The skill call on images that are accepted. The walk is the main page's, whatever the limit.
 fn skill_accepted(
-    catalogue: &[u8],
-    fit: &[u8],
+    catalogue: &Catalogue,
+    fit: &Fit,
     res: u32,
     skills: u32,
     out: &mut [u8],
 ) -> Result<usize, Refusal>
-    requires { Catalogue.Sound catalogue.now × Fit.Sound fit.now }
     ensures { let c = catalogue_of catalogue.now in
         let f = fit_of fit.now in
         let refusals = skill_refusals (limited 0 skills main) c f res out.old in
         Gave out.old out.new (word_of result) (answer refusals (skill_list c f res)) }
 {
+    fit.is_sound();
     let res = res as usize;
-    if fit::result_count(fit) + 1 < res {
+    if fit.result_count() + 1 < res {
         return Err(Refusal::NoResult);
     }
-    let starts = fit::starts(fit);
-    let Ok(walk) = skill::wanted_skills(catalogue, fit, &starts, res) else {
+    let Ok(walk) = skill::wanted_skills(catalogue, fit, res) else {
         return Err(Refusal::TooManySkills);
     };
     let limit = skills as usize;
@@ -218,5 +216,7 @@ pub fn read_skills(
         Gave out.old out.new (word_of result) (answer refusals (skill_list c f res)) }
 {
     check_page(catalogue, fit, pairs)?;
-    skill_accepted(catalogue, fit, res, skills, out)
+    let catalogue = Catalogue::new(catalogue);
+    let fit = Fit::new(fit);
+    skill_accepted(&catalogue, &fit, res, skills, out)
 }

@@ -17,6 +17,7 @@ ghost use Rattle.catalogue.specs.Answers.{info_of_type};
 ghost use Rattle.catalogue.specs.Walks.{Ends, SpanOf, span_value, in_rack, on_hardpoint, link_marks};
 
 use numbers::{marks, names};
+use std::marker::Model;
 
 // What a type is. Its volume is 0 where none is given.
 #[derive(Clone, Copy)]
@@ -113,7 +114,7 @@ pub fn keys_of(catalogue: &[u8], b: Block) -> &[u8]
     image::part(catalogue, b.at, 4 * b.n)
 }
 
-// ---- lookups of one record
+// ---- searches among the keys of a block
 
 // Where `hints`, 8,192 or 64 of them, has an id of a block. By the upper bits of a product, which spread ids that are evenly apart.
 fn hint_of(b: Block, id: i32, hints: usize) -> usize {
@@ -191,37 +192,6 @@ fn id_at(catalogue: &[u8], b: Block, i: usize) -> i32
     image::i32_at(catalogue, b.at + 4 * b.n + 4 * i)
 }
 
-// The attribute of a name. Name numbers are at most 87, so that the order of the signed numbers is theirs; where all are there, each
-// stands at its own number.
-pub fn attribute_id(catalogue: &[u8], name: u32) -> Option<i32>
-    requires { Sound catalogue.now }
-    ensures { result ≡ name_id (catalogue_of catalogue.now).names name }
-{
-    if names::REQUIRED_SKILL_6_LEVEL < name {
-        return None;
-    }
-    let b = names(catalogue);
-    let i = find_near(catalogue, b, name as i32, name as usize)?;
-    Some(id_at(catalogue, b, i))
-}
-
-fn mark_at(catalogue: &[u8], i: usize) -> u8
-    requires { Sound catalogue.now × (i < effect_count catalogue.now) }
-    ensures { result ≡ (effect_at catalogue.now i).mark }
-{
-    let b = effects(catalogue);
-    image::u32_at(catalogue, b.at + 4 * b.n + 4 * i) as u8
-}
-
-// The mark of an effect.
-pub fn effect_mark(catalogue: &[u8], id: i32, hints: &mut [u32]) -> Option<u8>
-    requires { Sound catalogue.now }
-    ensures { result ≡ effect_mark (catalogue_of catalogue.now) id }
-{
-    let i = find_key(catalogue, effects(catalogue), id, hints)?;
-    Some(mark_at(catalogue, i))
-}
-
 // The volume of the type whose value begins at a place.
 fn volume_at(catalogue: &[u8], at: usize) -> f64
     requires { at + 16 ≤ length catalogue.now }
@@ -235,62 +205,7 @@ fn volume_at(catalogue: &[u8], at: usize) -> f64
     }
 }
 
-fn type_at(catalogue: &[u8], i: usize) -> TypeInfo
-    requires { (length catalogue.now ≡ size_of catalogue.now) × (i < type_count catalogue.now) }
-    ensures { result ≡ info_of_type (type_at catalogue.now i) }
-{
-    let b = types(catalogue);
-    let at = b.at + 4 * b.n + 16 * i;
-    TypeInfo {
-        group: image::i32_at(catalogue, at),
-        category: image::i32_at(catalogue, at + 4),
-        volume: volume_at(catalogue, at),
-    }
-}
-
-// Looks for four types at once, and leaves hints for `type_of`.
-pub fn seek_types(catalogue: &[u8], ids: &[i32; 4], hints: &mut [u32])
-    requires { Sound catalogue.now }
-{
-    seek(catalogue, types(catalogue), ids, hints);
-}
-
-// What a type is, given how many types are under its id.
-fn type_found(catalogue: &[u8], id: i32, at: usize) -> Option<TypeInfo>
-    requires { let keys = take (4 * type_count catalogue.now) (drop (types_at catalogue.now) catalogue.now) in
-        Sound catalogue.now × Parts keys (type_count catalogue.now) id at }
-    ensures { result ≡ given (type_of (catalogue_of catalogue.now) id) None (λ x. Some (info_of_type x)) }
-{
-    let i = found_at(catalogue, types(catalogue), id, at)?;
-    Some(type_at(catalogue, i))
-}
-
-// `get_type` of four types, looked for at once.
-pub fn four_types(catalogue: &[u8], ids: &[i32; 4]) -> [Option<TypeInfo>; 4]
-    requires { Sound catalogue.now }
-    ensures { let c = catalogue_of catalogue.now in
-        (j : ℕ) → j < 4 →
-        slice_index_or result j None ≡ given (type_of c (slice_index_or ids.now j (pos 0))) None (λ x. Some (info_of_type x)) }
-{
-    let b = types(catalogue);
-    let found = keys::each_from(keys_of(catalogue, b), b.n, ids);
-    let mut answers = [None; 4];
-    for j in 0..4 {
-        answers[j] = type_found(catalogue, ids[j], found[j]);
-    }
-    answers
-}
-
-// `get_type`: what a type is. `hints` are any numbers: where ids stood that were looked for before with the same catalogue.
-pub fn type_of(catalogue: &[u8], id: i32, hints: &mut [u32]) -> Option<TypeInfo>
-    requires { Sound catalogue.now }
-    ensures { result ≡ given (type_of (catalogue_of catalogue.now) id) None (λ x. Some (info_of_type x)) }
-{
-    let at = first_key(catalogue, types(catalogue), id, hints);
-    type_found(catalogue, id, at)
-}
-
-// ---- walks over the links and the bases of a type
+// ---- what a catalogue says
 
 // Whether the number at a place is an id.
 fn is_id(catalogue: &[u8], at: usize, id: i32) -> bool
@@ -318,47 +233,6 @@ fn with_mark(found: SlotMarks, mark: u8) -> SlotMarks
     }
 }
 
-fn with_link(catalogue: &[u8], found: SlotMarks, i: usize, hints: &mut [u32]) -> SlotMarks
-    requires { Sound catalogue.now × (i < link_count catalogue.now) }
-    ensures rack { let ms = link_marks (catalogue_of catalogue.now) (link_at catalogue.now i) in
-        result.rack ≡ foldl in_rack found.rack ms }
-    ensures hardpoint { let ms = link_marks (catalogue_of catalogue.now) (link_at catalogue.now i) in
-        result.hardpoint ≡ foldl on_hardpoint found.hardpoint ms }
-{
-    let effect = id_at(catalogue, links(catalogue), i);
-    match effect_mark(catalogue, effect, hints) {
-        Some(mark) => with_mark(found, mark),
-        None => found,
-    }
-}
-
-// Looks for the links of four types at once, and leaves hints for `slots_of`.
-pub fn seek_links(catalogue: &[u8], ids: &[i32; 4], hints: &mut [u32])
-    requires { Sound catalogue.now }
-{
-    seek(catalogue, links(catalogue), ids, hints);
-}
-
-// The slot effects EVE marks an item with, in the order of its links. `hints` as in `type_of`.
-pub fn slots_of(catalogue: &[u8], id: i32, hints: &mut [u32]) -> SlotMarks
-    requires { Sound catalogue.now }
-    ensures rack { result.rack ≡ rack_of (catalogue_of catalogue.now) id }
-    ensures hardpoint { result.hardpoint ≡ hardpoint_of (catalogue_of catalogue.now) id }
-{
-    let b = links(catalogue);
-    let mut found = SlotMarks {
-        rack: None,
-        hardpoint: None,
-    };
-    for i in first_key(catalogue, b, id, hints)..b.n {
-        if !is_id(catalogue, b.at + 4 * i, id) {
-            return found;
-        }
-        found = with_link(catalogue, found, i, hints);
-    }
-    found
-}
-
 // The place behind the last of the keys from a place on that are an id.
 fn run_end(catalogue: &[u8], b: Block, first: usize, id: i32) -> usize
     requires { (b.at + 4 * b.n ≤ length catalogue.now) × (first ≤ b.n) }
@@ -372,32 +246,183 @@ fn run_end(catalogue: &[u8], b: Block, first: usize, id: i32) -> usize
     b.n
 }
 
-// Where the bases of a type stand.
-pub fn bases_of(catalogue: &[u8], id: i32) -> Span
-    requires { Sound catalogue.now }
-    ensures { SpanOf catalogue.now id result }
-{
-    let b = bases(catalogue);
-    let mut none = [0u32; 0];
-    let from = first_key(catalogue, b, id, &mut none);
-    Span {
-        from,
-        to: run_end(catalogue, b, from, id),
-    }
+// A catalogue that is not refused: every rule reads it through this, and its bytes are known to be sound.
+#[derive(Drop)]
+pub struct Catalogue<'a> {
+    bytes: &'a [u8],
 }
 
-// What an attribute starts at on the type of a span.
-pub fn base_value(catalogue: &[u8], span: Span, attribute: i32) -> Option<f64>
-    requires catalogue_len { length catalogue.now ≡ size_of catalogue.now }
-    requires from_le_to { (span.from ≤ span.to) × (span.to ≤ base_count catalogue.now) }
-    ensures { result ≡ span_value catalogue.now span.from span.to attribute }
-{
-    let b = bases(catalogue);
-    let at = b.at + 4 * b.n;
-    for i in span.from..span.to {
-        if is_id(catalogue, at + 12 * i, attribute) {
-            return Some(floats::f64_at(catalogue, at + 12 * i + 4));
+impl<'a> Model for Catalogue<'a> {
+    ghost use Rattle.std.specs.Prelude.{List, ℕ};
+    ghost use Rattle.catalogue.specs.Sound.{Sound};
+
+    ghost Value = { List ℕ };
+
+    ghost view = { λ s. s.bytes.now };
+
+    ghost invariant = { λ s. Sound s.bytes.now };
+}
+
+impl<'a> Catalogue<'a> {
+    // Of bytes that `catalogue_refusals::check` passed.
+    pub fn new(bytes: &'a [u8]) -> Self
+        requires { Sound bytes.now }
+        ensures { result ≡ bytes.now }
+    {
+        Catalogue { bytes }
+    }
+
+    // What every value of this type is: for a proof that asks for it.
+    pub fn is_sound(&self)
+        ensures { Sound self.now }
+    {
+        let _ = &self.bytes;
+    }
+
+    // The attribute of a name. Name numbers are at most 87, so that the order of the signed numbers is theirs; where all are there, each
+    // stands at its own number.
+    pub fn attribute_id(&self, name: u32) -> Option<i32>
+        ensures { result ≡ name_id (catalogue_of self.now).names name }
+    {
+        let bytes = self.bytes;
+        if names::REQUIRED_SKILL_6_LEVEL < name {
+            return None;
+        }
+        let b = names(bytes);
+        let i = find_near(bytes, b, name as i32, name as usize)?;
+        Some(id_at(bytes, b, i))
+    }
+
+    fn mark_at(&self, i: usize) -> u8
+        requires { i < effect_count self.now }
+        ensures { result ≡ (effect_at self.now i).mark }
+    {
+        let b = effects(self.bytes);
+        image::u32_at(self.bytes, b.at + 4 * b.n + 4 * i) as u8
+    }
+
+    // The mark of an effect.
+    pub fn effect_mark(&self, id: i32, hints: &mut [u32]) -> Option<u8>
+        ensures { result ≡ effect_mark (catalogue_of self.now) id }
+    {
+        let i = find_key(self.bytes, effects(self.bytes), id, hints)?;
+        Some(self.mark_at(i))
+    }
+
+    fn type_at(&self, i: usize) -> TypeInfo
+        requires { i < type_count self.now }
+        ensures { result ≡ info_of_type (type_at self.now i) }
+    {
+        let b = types(self.bytes);
+        let at = b.at + 4 * b.n + 16 * i;
+        TypeInfo {
+            group: image::i32_at(self.bytes, at),
+            category: image::i32_at(self.bytes, at + 4),
+            volume: volume_at(self.bytes, at),
         }
     }
-    None
+
+    // Looks for four types at once, and leaves hints for `type_of`.
+    pub fn seek_types(&self, ids: &[i32; 4], hints: &mut [u32]) {
+        seek(self.bytes, types(self.bytes), ids, hints);
+    }
+
+    // What a type is, given how many types are under its id.
+    fn type_found(&self, id: i32, at: usize) -> Option<TypeInfo>
+        requires { let keys = take (4 * type_count self.now) (drop (types_at self.now) self.now) in
+            Parts keys (type_count self.now) id at }
+        ensures { result ≡ given (type_of (catalogue_of self.now) id) None (λ x. Some (info_of_type x)) }
+    {
+        let i = found_at(self.bytes, types(self.bytes), id, at)?;
+        Some(self.type_at(i))
+    }
+
+    // `get_type` of four types, looked for at once.
+    pub fn four_types(&self, ids: &[i32; 4]) -> [Option<TypeInfo>; 4]
+        ensures { let c = catalogue_of self.now in
+            (j : ℕ) → j < 4 →
+            slice_index_or result j None ≡ given (type_of c (slice_index_or ids.now j (pos 0))) None (λ x. Some (info_of_type x)) }
+    {
+        let b = types(self.bytes);
+        let found = keys::each_from(keys_of(self.bytes, b), b.n, ids);
+        let mut answers = [None; 4];
+        for j in 0..4 {
+            answers[j] = self.type_found(ids[j], found[j]);
+        }
+        answers
+    }
+
+    // `get_type`: what a type is. `hints` are any numbers: where ids stood that were looked for before with the same catalogue.
+    pub fn type_of(&self, id: i32, hints: &mut [u32]) -> Option<TypeInfo>
+        ensures { result ≡ given (type_of (catalogue_of self.now) id) None (λ x. Some (info_of_type x)) }
+    {
+        let at = first_key(self.bytes, types(self.bytes), id, hints);
+        self.type_found(id, at)
+    }
+
+    fn with_link(&self, found: SlotMarks, i: usize, hints: &mut [u32]) -> SlotMarks
+        requires { i < link_count self.now }
+        ensures rack { let ms = link_marks (catalogue_of self.now) (link_at self.now i) in
+            result.rack ≡ foldl in_rack found.rack ms }
+        ensures hardpoint { let ms = link_marks (catalogue_of self.now) (link_at self.now i) in
+            result.hardpoint ≡ foldl on_hardpoint found.hardpoint ms }
+    {
+        let effect = id_at(self.bytes, links(self.bytes), i);
+        match self.effect_mark(effect, hints) {
+            Some(mark) => with_mark(found, mark),
+            None => found,
+        }
+    }
+
+    // Looks for the links of four types at once, and leaves hints for `slots_of`.
+    pub fn seek_links(&self, ids: &[i32; 4], hints: &mut [u32]) {
+        seek(self.bytes, links(self.bytes), ids, hints);
+    }
+
+    // The slot effects EVE marks an item with, in the order of its links. `hints` as in `type_of`.
+    pub fn slots_of(&self, id: i32, hints: &mut [u32]) -> SlotMarks
+        ensures rack { result.rack ≡ rack_of (catalogue_of self.now) id }
+        ensures hardpoint { result.hardpoint ≡ hardpoint_of (catalogue_of self.now) id }
+    {
+        let b = links(self.bytes);
+        let mut found = SlotMarks {
+            rack: None,
+            hardpoint: None,
+        };
+        for i in first_key(self.bytes, b, id, hints)..b.n {
+            if !is_id(self.bytes, b.at + 4 * i, id) {
+                return found;
+            }
+            found = self.with_link(found, i, hints);
+        }
+        found
+    }
+
+    // Where the bases of a type stand.
+    pub fn bases_of(&self, id: i32) -> Span
+        ensures { SpanOf self.now id result }
+    {
+        let b = bases(self.bytes);
+        let mut none = [0u32; 0];
+        let from = first_key(self.bytes, b, id, &mut none);
+        Span {
+            from,
+            to: run_end(self.bytes, b, from, id),
+        }
+    }
+
+    // What an attribute starts at on the type of a span.
+    pub fn base_value(&self, span: Span, attribute: i32) -> Option<f64>
+        requires { (span.from ≤ span.to) × (span.to ≤ base_count self.now) }
+        ensures { result ≡ span_value self.now span.from span.to attribute }
+    {
+        let b = bases(self.bytes);
+        let at = b.at + 4 * b.n;
+        for i in span.from..span.to {
+            if is_id(self.bytes, at + 12 * i, attribute) {
+                return Some(floats::f64_at(self.bytes, at + 12 * i + 4));
+            }
+        }
+        None
+    }
 }

@@ -92,6 +92,7 @@ pub fn bad_order(catalogue: &[u8]) -> bool
 }
 
 // Whether any of n numbers, each `step` bytes after the last, is above a limit. Like an order check it runs to its end.
+// A loop of its own, as `fit_refusals::any` is: its one line as a closure would want a function and a contract for what it reads.
 fn any_above(b: &[u8], at: usize, n: usize, step: usize, limit: u32) -> bool
     requires { (i : ℕ) → i < n → at + step * i + 4 ≤ length b.now }
     ensures { result ≡ any_of (ltb limit) (table n (λ i. u32_at b.now (at + step * i))) }

@@ -1,7 +1,6 @@
 -- Laws of pairs and of what is gathered of them.
 pub mod Pairs
-pub mod Filling
-pub mod Marks
+pub mod Gathering
 pub mod Types
-pub mod Loops
 pub mod Counts
+pub mod Loops

@@ -1,6 +1,6 @@
 -- validate/mod.rs, `Context` and `Item`: a fit's items and results side by side, with what the catalogue says of each, gathered once.
 use Rattle.std.specs.Prelude.{ℕ, suc, Bool, not, ◌||◌, List, [], ◌∷◌, eqb, leb, Float}
-use Rattle.std.specs.Prelude.{Option}
+use Rattle.std.specs.Prelude.{Option, None, Some}
 use Rattle.words.specs.Words.{same}
 use Rattle.numbers.specs.Slots as Slots
 use Rattle.numbers.specs.Categories as Categories
@@ -83,6 +83,11 @@ is_other p o = not (eqb o.position p.position)
 -- an entry about a pair
 abbrev pub on : Pair → Rule → Entry
 on p r = on_item p.position r
+
+-- the entry about a pair that breaks a rule
+unfoldable pub said : Pair → Option Rule → List Entry
+said p None = []
+said p (Some r) = on p r ∷ []
 
 -- `is_module_category`: modules, subsystems and structure modules
 unfoldable pub is_module_category : Id → Bool

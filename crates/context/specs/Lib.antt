@@ -1,2 +1,3 @@
 pub mod Context
 pub mod Gathered
+pub mod Held

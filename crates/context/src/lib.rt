@@ -1,173 +1,74 @@
 // What the rules read of a catalogue and a fit, gathered once per call: Rust's `Context::new`.
 #![tactic(auto)]
 
-ghost use Rattle.std.specs.Prelude.{◌≡◌, List, [], ◌∷◌, ℕ, ◌+◌, ◌/◌, ◌%◌, ◌^◌, ◌<◌, Bool, eqb, leb, length, get_or};
-ghost use Rattle.words.specs.Words.{count_of};
+ghost use Rattle.std.specs.Prelude.{◌≡◌, Bool, List, ℕ, ◌+◌, ◌<◌, ◌≤◌, leb};
+ghost use Rattle.words.specs.Words.{count_of, each};
+ghost use Rattle.numbers.specs.Sizes.{most_pairs};
 ghost use Rattle.numbers.specs.Slots as Slots;
 ghost use Rattle.catalogue.specs.Catalogue.{catalogue_of};
-ghost use Rattle.catalogue.specs.Sound as Catalogue;
 ghost use Rattle.fit.specs.Fit.{fit_of};
-ghost use Rattle.fit.specs.Sound as Fit;
+ghost use Rattle.entry.specs.declared.Entry.{Entry};
+ghost use Rattle.entry.specs.Wrote.{Room};
+ghost use Rattle.entry.specs.Emitted.{Emitted};
 ghost use Rattle.context.specs.Context.{Pair, is_fitted, is_in, is_on_hull, is_module_category};
-ghost use Rattle.context.specs.Gathered.{pair_count, pair_at, pairs_of, Tests, slot_in};
-ghost use Rattle.context.specs.Gathered.{of_halves, info_of_words, info_at, type_in, answer_of};
-ghost use Rattle.context.specs.Gathered.{groups_at, knowns_at, place_count, fact_count, Kept, Pairs, Before, Gathered};
-ghost use Rattle.context.specs.Gathered.{fill, list_of_words, Only, TypePut, MarksPut, Below};
+ghost use Rattle.context.specs.Gathered.{pair_count, pair_at, pairs_of, Tests, Says, answer_of, facts_of, Pairs, Gathered};
 
-use catalogue::{SlotMarks, TypeInfo};
+use catalogue::{Catalogue, SlotMarks, TypeInfo};
+use entry::{Entries, Entry, Rule, Target};
+use fit::Fit;
 use numbers::{categories, slots};
-
-// What a call gathers stands in one array of words: where each result's attributes begin, then sections of 257, with a place for each
-// pair and the last for the ship. They keep what the catalogue says of a type: whether it is there, and of one that is there its group,
-// its category and its volume. Of a type that it lacks none of these is put. A slot of 8 is none.
-const SHIP: usize = 256;
-
-const GROUPS: usize = 259;
-
-const CATEGORIES: usize = 516;
-
-// The two halves of a volume's bits.
-const LOWS: usize = 773;
-
-const HIGHS: usize = 1030;
-
-// 1 where the type is there.
-const KNOWNS: usize = 1287;
-
-// Those of the pairs alone.
-const RACKS: usize = 1544;
-
-const HARDPOINTS: usize = 1801;
 
 // So many hints has a list: four searches in step fill them just ahead of use. A hall, whose fits name the same types again, has more.
 pub const LIST_HINTS: usize = 64;
 
-// What is kept of a type that is there.
+// What the catalogue says of a pair's type: what it is, if it is there, and the marks, which stand by its id whether it is there or not.
 #[derive(Clone, Copy)]
-struct TypeWords {
-    group: u32,
-    category: u32,
-    low: u32,
-    high: u32,
-}
-
-// A slot as a word.
-fn code(slot: Option<u8>) -> u32
-    requires { Below 8 slot }
-    ensures { slot_in result ≡ slot }
-{
-    match slot {
-        Some(s) => image::wide32(s),
-        None => 8,
-    }
-}
-
-fn words_of(info: TypeInfo) -> TypeWords
-    ensures { info_of_words result.group result.category result.low result.high ≡ info }
-{
-    let volume = floats::f64_bits(info.volume);
-    TypeWords {
-        group: image::bits(info.group),
-        category: image::bits(info.category),
-        low: image::low32(volume),
-        high: image::high32(volume),
-    }
-}
-
-fn put_words(facts: &mut [u32], i: usize, w: TypeWords)
-    requires { (length facts.old ≡ fact_count) × (i < place_count) }
-    ensures { facts.new ≡ fill facts.old i groups_at (list_of_words w) }
-{
-    facts[GROUPS + i] = w.group;
-    facts[CATEGORIES + i] = w.category;
-    facts[LOWS + i] = w.low;
-    facts[HIGHS + i] = w.high;
-    facts[KNOWNS + i] = 1;
-}
-
-fn put_missing(facts: &mut [u32], i: usize)
-    requires { (length facts.old ≡ fact_count) × (i < place_count) }
-    ensures { facts.new ≡ fill facts.old i knowns_at (0 ∷ []) }
-{
-    facts[KNOWNS + i] = 0;
-}
-
-// What the lookup answered of a type, at its place.
-fn put_type(facts: &mut [u32], i: usize, answer: Option<TypeInfo>)
-    requires { (length facts.old ≡ fact_count) × (i < place_count) }
-    ensures { TypePut i answer facts.old facts.new }
-{
-    match answer {
-        Some(info) => put_words(facts, i, words_of(info)),
-        None => put_missing(facts, i),
-    }
-}
-
-fn put_marks(facts: &mut [u32], i: usize, marks: SlotMarks)
-    requires facts_len { (length facts.old ≡ fact_count) × (i < place_count) }
-    requires below { Below 8 marks.rack × Below 8 marks.hardpoint }
-    ensures { MarksPut i marks facts.old facts.new }
-{
-    let rack = marks.rack;
-    let hardpoint = marks.hardpoint;
-    facts[RACKS + i] = code(rack);
-    facts[HARDPOINTS + i] = code(hardpoint);
+struct PairFacts {
+    info: Option<TypeInfo>,
+    marks: SlotMarks,
 }
 
 // At every fourth pair the next four are looked for at once. A hall, which has more hints than a list, looks for none twice.
-fn seek_pairs(catalogue: &[u8], fit: &[u8], i: usize, hints: &mut [u32])
-    requires { Catalogue.Sound catalogue.now × Fit.Sound fit.now × (i < pair_count fit.now) }
+fn seek_pairs(catalogue: &Catalogue, fit: &Fit, i: usize, hints: &mut [u32])
+    requires { i < pair_count fit.now }
 {
-    if LIST_HINTS < hints.len() || i % 4 != 0 || fit::pair_count(fit) < i + 4 {
+    if LIST_HINTS < hints.len() || i % 4 != 0 || fit.pair_count() - i < 4 {
         return;
     }
     let ids = [
-        fit::item_type(fit, i),
-        fit::item_type(fit, i + 1),
-        fit::item_type(fit, i + 2),
-        fit::item_type(fit, i + 3),
+        fit.item_type(i),
+        fit.item_type(i + 1),
+        fit.item_type(i + 2),
+        fit.item_type(i + 3),
     ];
-    catalogue::seek_types(catalogue, &ids, hints);
-    catalogue::seek_links(catalogue, &ids, hints);
+    catalogue.seek_types(&ids, hints);
+    catalogue.seek_links(&ids, hints);
 }
 
-// The facts of pair i, whose type has this id: the marks stand by it, whether the type is there or not.
-fn gather_pair(catalogue: &[u8], id: i32, i: usize, hints: &mut [u32], facts: &mut [u32])
-    requires { Catalogue.Sound catalogue.now × (length facts.old ≡ fact_count) × (i < place_count) }
-    ensures { let c = catalogue_of catalogue.now in
-        Kept c id i facts.new × Only i groups_at 7 facts.old facts.new }
+// What the catalogue says of one type.
+fn pair_facts(catalogue: &Catalogue, id: i32, hints: &mut [u32]) -> PairFacts
+    ensures { result ≡ facts_of (catalogue_of catalogue.now) id }
 {
-    let marks = catalogue::slots_of(catalogue, id, hints);
-    put_marks(facts, i, marks);
-    let answer = catalogue::type_of(catalogue, id, hints);
-    put_type(facts, i, answer);
+    let marks = catalogue.slots_of(id, hints);
+    let info = catalogue.type_of(id, hints);
+    PairFacts { info, marks }
 }
 
-// The facts of all pairs; what stands before them stays.
-fn gather_pairs(catalogue: &[u8], fit: &[u8], hints: &mut [u32], facts: &mut [u32])
-    requires { Catalogue.Sound catalogue.now × Fit.Sound fit.now × (length facts.old ≡ fact_count) }
-    ensures { let c = catalogue.now in
-        let f = fit.now in
-        Pairs c f (pair_count f) facts.new × Before groups_at facts.old facts.new }
+// The facts of all pairs; behind them nothing is known.
+fn gather_pairs(catalogue: &Catalogue, fit: &Fit, hints: &mut [u32]) -> [PairFacts; 256]
+    ensures { Pairs catalogue.now fit.now (pair_count fit.now) result }
 {
-    let n = fit::pair_count(fit);
-    for i in 0..n {
+    let marks = SlotMarks {
+        rack: None,
+        hardpoint: None,
+    };
+    let mut pairs = [PairFacts { info: None, marks }; 256];
+    fit.is_sound();
+    for i in 0..fit.pair_count() {
         seek_pairs(catalogue, fit, i, hints);
-        gather_pair(catalogue, fit::item_type(fit, i), i, hints, facts);
+        pairs[i] = pair_facts(catalogue, fit.item_type(i), hints);
     }
-}
-
-// `hints` are those of `catalogue::type_of`.
-pub fn gather(catalogue: &[u8], fit: &[u8], hints: &mut [u32]) -> [u32; 2058]
-    requires { Catalogue.Sound catalogue.now × Fit.Sound fit.now }
-    ensures { Gathered catalogue.now fit.now result }
-{
-    let mut facts = [0u32; 2058];
-    fit::find_starts(fit, &mut facts);
-    gather_pairs(catalogue, fit, hints, &mut facts);
-    let answer = catalogue::type_of(catalogue, fit::ship(fit), hints);
-    put_type(&mut facts, SHIP, answer);
-    facts
+    pairs
 }
 
 // Modules, subsystems and structure modules.
@@ -181,92 +82,6 @@ pub fn is_module_category(category: i32) -> bool
     )
 }
 
-// ---- what was gathered
-
-fn word(facts: &[u32; 2058], at: usize) -> u32
-    requires { at < fact_count }
-    ensures { result ≡ get_or facts.now at 0 }
-{
-    facts[at]
-}
-
-// A slot from a word.
-fn slot_in(w: u32) -> u8
-    ensures { slot_in result ≡ slot_in w }
-{
-    if w < 8 { w as u8 } else { 8 }
-}
-
-fn of_halves(lower: u32, upper: u32) -> f64
-    ensures { result ≡ of_halves lower upper }
-{
-    std::num::f64_from_bits_with_nan((lower as u64) + 4294967296 * (upper as u64))
-}
-
-fn info_in(facts: &[u32; 2058], place: usize) -> TypeInfo
-    requires { place < place_count }
-    ensures { result ≡ info_at facts.now place }
-{
-    let lower = word(facts, LOWS + place);
-    let upper = word(facts, HIGHS + place);
-    TypeInfo {
-        group: image::signed(word(facts, GROUPS + place)),
-        category: image::signed(word(facts, CATEGORIES + place)),
-        volume: of_halves(lower, upper),
-    }
-}
-
-fn is_kept(facts: &[u32; 2058], place: usize) -> bool
-    requires { place < place_count }
-    ensures { result ≡ eqb (get_or facts.now (knowns_at + place) 0) 1 }
-{
-    word(facts, KNOWNS + place) == 1
-}
-
-// What was kept of the type at a place.
-fn type_in(facts: &[u32; 2058], place: usize) -> Option<TypeInfo>
-    requires { place < place_count }
-    ensures { result ≡ type_in facts.now place }
-{
-    if is_kept(facts, place) {
-        return Some(info_in(facts, place));
-    }
-    None
-}
-
-// What the lookup answered of the ship's type.
-pub fn ship_type(catalogue: &[u8], fit: &[u8], facts: &[u32; 2058]) -> Option<TypeInfo>
-    requires { Gathered catalogue.now fit.now facts.now }
-    ensures { result ≡ answer_of (catalogue_of catalogue.now) (fit_of fit.now).frame.ship }
-{
-    type_in(facts, SHIP)
-}
-
-// What it answered of the type of pair i.
-pub fn type_at(catalogue: &[u8], fit: &[u8], facts: &[u32; 2058], i: usize) -> Option<TypeInfo>
-    requires { Gathered catalogue.now fit.now facts.now × (i < pair_count fit.now) }
-    ensures { let c = catalogue.now in
-        result ≡ answer_of (catalogue_of c) (pair_at c fit.now i).type }
-{
-    type_in(facts, i)
-}
-
-// The rack that pair i asks for; 8 and above are none.
-pub fn rack(catalogue: &[u8], fit: &[u8], facts: &[u32; 2058], i: usize) -> u8
-    requires { Gathered catalogue.now fit.now facts.now × (i < pair_count fit.now) }
-    ensures { slot_in result ≡ (pair_at catalogue.now fit.now i).rack }
-{
-    slot_in(word(facts, RACKS + i))
-}
-
-// The hardpoint that it takes; 8 and above are none.
-pub fn hardpoint(catalogue: &[u8], fit: &[u8], facts: &[u32; 2058], i: usize) -> u8
-    requires { Gathered catalogue.now fit.now facts.now × (i < pair_count fit.now) }
-    ensures { slot_in result ≡ (pair_at catalogue.now fit.now i).hardpoint }
-{
-    slot_in(word(facts, HARDPOINTS + i))
-}
-
 // ---- where a pair is
 
 pub fn is_fitted(slot: u8) -> bool
@@ -275,39 +90,118 @@ pub fn is_fitted(slot: u8) -> bool
     slot <= slots::SERVICE
 }
 
-// Whether pair i is in a rack.
-pub fn is_in(fit: &[u8], i: usize, slot: u8) -> bool
-    requires { Fit.Sound fit.now × (i < pair_count fit.now) }
-    ensures { (catalogue : List ℕ) → result ≡ is_in slot (pair_at catalogue fit.now i) }
-{
-    fit::item_slot(fit, i) == slot
+// What the rules read: Rust's `Context`, gathered once per call.
+#[derive(Drop)]
+pub struct Context<'a> {
+    pub catalogue: &'a Catalogue<'a>,
+    pub fit: &'a Fit<'a>,
+    ship: Option<TypeInfo>,
+    pairs: [PairFacts; 256],
+    ghost gathered: { Gathered catalogue.now fit.now ship pairs },
 }
 
-pub fn is_fitted_at(fit: &[u8], i: usize) -> bool
-    requires { Fit.Sound fit.now × (i < pair_count fit.now) }
-    ensures { (catalogue : List ℕ) → result ≡ is_fitted (pair_at catalogue fit.now i) }
-{
-    is_fitted(fit::item_slot(fit, i))
-}
-
-// Fitted, or a fighter that the ship launches.
-pub fn is_on_hull(fit: &[u8], i: usize) -> bool
-    requires { Fit.Sound fit.now × (i < pair_count fit.now) }
-    ensures { (catalogue : List ℕ) → result ≡ is_on_hull (pair_at catalogue fit.now i) }
-{
-    fit::item_slot(fit, i) <= slots::FIGHTER_BAY
-}
-
-// How many pairs pass a test.
-pub fn count<F: Fn(usize) -> bool>(fit: &[u8], test: F) -> u32
-    requires sound { Fit.Sound fit.now }
-    requires callable { (i : ℕ) → i < pair_count fit.now → F.pre test i }
-    ensures { (catalogue : List ℕ) (t : Pair → Bool) → Tests (F.post test) t catalogue fit.now
-        → result ≡ count_of t (pairs_of catalogue fit.now) }
-{
-    let mut n: u32 = 0;
-    for i in 0..fit::pair_count(fit) {
-        n += words::one_if(test(i));
+impl<'a> Context<'a> {
+    // `hints` are those of `Catalogue::type_of`.
+    pub fn new(catalogue: &'a Catalogue<'a>, fit: &'a Fit<'a>, hints: &mut [u32]) -> Self
+        ensures { (result.catalogue.now ≡ catalogue.now) × (result.fit.now ≡ fit.now) }
+    {
+        catalogue.is_sound();
+        fit.is_sound();
+        let pairs = gather_pairs(catalogue, fit, hints);
+        let ship = catalogue.type_of(fit.ship(), hints);
+        Context {
+            catalogue,
+            fit,
+            ship,
+            pairs,
+        }
     }
-    n
+
+    // What the lookup answered of the ship's type.
+    pub fn ship_type(&self) -> Option<TypeInfo>
+        ensures { result ≡ answer_of (catalogue_of self.now.catalogue.now) (fit_of self.now.fit.now).frame.ship }
+    {
+        self.ship
+    }
+
+    // What it answered of the type of pair i.
+    pub fn type_at(&self, i: usize) -> Option<TypeInfo>
+        requires { i < pair_count self.now.fit.now }
+        ensures { let c = self.now.catalogue.now in
+            result ≡ answer_of (catalogue_of c) (pair_at c self.now.fit.now i).type }
+    {
+        self.pairs[i].info
+    }
+
+    // The rack that pair i asks for.
+    pub fn rack(&self, i: usize) -> Option<u8>
+        requires { i < pair_count self.now.fit.now }
+        ensures { result ≡ (pair_at self.now.catalogue.now self.now.fit.now i).rack }
+    {
+        self.pairs[i].marks.rack
+    }
+
+    // The hardpoint that it takes.
+    pub fn hardpoint(&self, i: usize) -> Option<u8>
+        requires { i < pair_count self.now.fit.now }
+        ensures { result ≡ (pair_at self.now.catalogue.now self.now.fit.now i).hardpoint }
+    {
+        self.pairs[i].marks.hardpoint
+    }
+
+    // Whether pair i is in a rack.
+    pub fn is_in(&self, i: usize, slot: u8) -> bool
+        requires { i < pair_count self.now.fit.now }
+        ensures { result ≡ is_in slot (pair_at self.now.catalogue.now self.now.fit.now i) }
+    {
+        self.fit.item_slot(i) == slot
+    }
+
+    pub fn is_fitted_at(&self, i: usize) -> bool
+        requires { i < pair_count self.now.fit.now }
+        ensures { result ≡ is_fitted (pair_at self.now.catalogue.now self.now.fit.now i) }
+    {
+        is_fitted(self.fit.item_slot(i))
+    }
+
+    // Fitted, or a fighter that the ship launches.
+    pub fn is_on_hull(&self, i: usize) -> bool
+        requires { i < pair_count self.now.fit.now }
+        ensures { result ≡ is_on_hull (pair_at self.now.catalogue.now self.now.fit.now i) }
+    {
+        self.fit.item_slot(i) <= slots::FIGHTER_BAY
+    }
+
+    // How many pairs pass a test.
+    pub fn count<F: Fn(usize) -> bool>(&self, test: F) -> u32
+        requires { (i : ℕ) → i < pair_count self.now.fit.now → F.pre test i }
+        ensures { let c = self.now.catalogue.now in
+            let f = self.now.fit.now in
+            ((t : Pair → Bool) → Tests (F.post test) t c f → result ≡ count_of t (pairs_of c f)) }
+    {
+        let mut n: u32 = 0;
+        for i in 0..self.fit.pair_count() {
+            n += words::one_if(test(i));
+        }
+        n
+    }
+
+    // An entry about each pair that breaks a rule.
+    pub fn report<F: Fn(usize) -> Option<Rule>>(&self, broken: F, entries: &mut Entries)
+        requires room { Room entries.old.n most_pairs }
+        requires callable { (i : ℕ) → i < pair_count self.now.fit.now → F.pre broken i }
+        ensures { let c = self.now.catalogue.now in
+            let f = self.now.fit.now in
+            let before = entries.old in
+            let after = entries.new in
+            ((rule : Pair → List Entry) → Says (F.post broken) rule c f
+            → Emitted before after (each (pairs_of c f) rule) × (after.n ≤ before.n + most_pairs)) }
+    {
+        for i in 0..self.fit.pair_count() {
+            if let Some(rule) = broken(i) {
+                let target = Target::Item(i as u32);
+                entries.emit(Entry { target, rule });
+            }
+        }
+    }
 }

@@ -5,7 +5,8 @@ ghost use Rattle.std.specs.Prelude.{◌≡◌, [], ◌∷◌, ◌++◌, ◌+◌,
 ghost use Rattle.words.specs.Words.{when};
 ghost use Rattle.image.specs.Bytes.{put};
 ghost use Rattle.entry.specs.Entries.{fields, place, entry_bytes};
-ghost use Rattle.entry.specs.Wrote.{Room, Wrote};
+ghost use Rattle.entry.specs.Wrote.{Room};
+ghost use Rattle.entry.specs.Emitted.{Emitted, Fresh};
 
 use numbers::{GroupLimit, Resource, SlotKind};
 
@@ -145,21 +146,48 @@ fn write(out: &mut [u8], at: usize, e: Entry)
     }
 }
 
-// Entry number n, where out has room for it, and the number of the next in any case: over an empty slice it counts.
-pub fn emit(out: &mut [u8], n: usize, e: Entry) -> usize
-    requires { Room n 1 }
-    ensures { Wrote out.old n out.new result (e ∷ []) }
-{
-    if n < out.len() / 24 {
-        write(out, 24 * n, e);
-    }
-    n + 1
+// Entries as they are written: a buffer, and how many were emitted to it so far. That the count has room for more (`Room`) is asked in
+// clauses: for how many more is each function's own number, and no fact about a writer.
+#[derive(Drop)]
+pub struct Entries<'a> {
+    out: &'a mut [u8],
+    n: usize,
 }
 
-// An entry where a test holds. Beside `emit`, since an `if` at each of its calls would be longer.
-pub fn emit_when(out: &mut [u8], n: usize, test: bool, e: Entry) -> usize
-    requires { Room n 1 }
-    ensures { Wrote out.old n out.new result (when test e) }
-{
-    if test { emit(out, n, e) } else { n }
+impl<'a> Entries<'a> {
+    // None yet, in front of a buffer.
+    pub fn new(out: &'a mut [u8]) -> Self
+        ensures { Fresh out.entry result }
+    {
+        Entries { out, n: 0 }
+    }
+
+    // How many were emitted, whether or not there was room.
+    pub fn count(&self) -> usize
+        ensures { result ≡ self.now.n }
+    {
+        self.n
+    }
+
+    // Entry number n, where the buffer has room for it; it counts in any case, and over an empty buffer it only counts.
+    pub fn emit(&mut self, e: Entry)
+        requires { Room self.old.n 1 }
+        ensures { Emitted self.old self.new (e ∷ []) }
+    {
+        let n = self.n;
+        self.n = n + 1;
+        if n < self.out.len() / 24 {
+            write(self.out, 24 * n, e);
+        }
+    }
+
+    // An entry where a test holds. Beside `emit`, since an `if` at each of its calls would be longer.
+    pub fn emit_when(&mut self, test: bool, e: Entry)
+        requires { Room self.old.n 1 }
+        ensures { Emitted self.old self.new (when test e) }
+    {
+        if test {
+            self.emit(e);
+        }
+    }
 }

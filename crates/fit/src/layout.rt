@@ -1,5 +1,5 @@
 // Where the blocks of a fit's image stand: document 01, "Records", Fit.
-ghost use Rattle.std.specs.Prelude.{◌≡◌, ◌+◌, ◌*◌, ◌<◌, ◌≤◌, length};
+ghost use Rattle.std.specs.Prelude.{◌≡◌, ◌+◌, ◌*◌, ◌<◌, ◌≤◌, min, length};
 ghost use Rattle.image.specs.Bytes.{u32_at};
 ghost use Rattle.fit.specs.Fit.{skill_count, item_count, result_count, attribute_count};
 ghost use Rattle.fit.specs.Fit.{levels_at, items_at, results_at, ids_at, values_at, count_at};
@@ -32,6 +32,14 @@ pub fn results(fit: &[u8]) -> usize
     ensures { result ≡ result_count fit.now }
 {
     size_at(fit, 8)
+}
+
+// Items that have a result.
+pub fn pairs(fit: &[u8]) -> usize
+    requires { Sized fit.now }
+    ensures { result ≡ min (item_count fit.now) (result_count fit.now) }
+{
+    results(fit).min(items(fit))
 }
 
 pub fn attributes(fit: &[u8]) -> usize

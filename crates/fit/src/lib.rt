@@ -11,118 +11,20 @@ ghost use Rattle.fit.specs.Fit.{skills_at, item_at, count_at, start_at, result_o
 ghost use Rattle.fit.specs.Sound.{Sound, Starts, ids_part, values_part};
 ghost use Rattle.fit.specs.Lookups.{value, amount, trained};
 
-pub fn ship(fit: &[u8]) -> i32
+use std::marker::Model;
+
+// Where each result's attributes begin among all, and at last how many there are.
+fn starts(fit: &[u8]) -> [u32; 259]
     requires { Sound fit.now }
-    ensures { result ≡ (fit_of fit.now).frame.ship }
-{
-    image::i32_at(fit, 16)
-}
-
-pub fn mode(fit: &[u8]) -> Option<i32>
-    requires { Sound fit.now }
-    ensures { result ≡ mode_of (fit_of fit.now).frame }
-{
-    if image::u32_at(fit, 20) == 0 {
-        None
-    } else {
-        Some(image::i32_at(fit, 24))
-    }
-}
-
-pub fn skill_count(fit: &[u8]) -> usize
-    requires { Sound fit.now }
-    ensures { result ≡ skill_count fit.now }
-{
-    layout::skills(fit)
-}
-
-pub fn item_count(fit: &[u8]) -> usize
-    requires { Sound fit.now }
-    ensures { result ≡ item_count fit.now }
-{
-    layout::items(fit)
-}
-
-// The items' results; the ship's and the character's stand before them.
-pub fn result_count(fit: &[u8]) -> usize
-    requires { Sound fit.now }
-    ensures { result ≡ result_count fit.now }
-{
-    layout::results(fit)
-}
-
-// Items that have a result.
-pub fn pair_count(fit: &[u8]) -> usize
-    requires { Sound fit.now }
-    ensures { result ≡ min (item_count fit.now) (result_count fit.now) }
-{
-    layout::results(fit).min(layout::items(fit))
-}
-
-pub fn skill_id(fit: &[u8], i: usize) -> i32
-    requires { Sound fit.now × (i < skill_count fit.now) }
-    ensures { result ≡ i32_at fit.now (skills_at fit.now + 4 * i) }
-{
-    image::i32_at(fit, 28 + 4 * i)
-}
-
-pub fn item_type(fit: &[u8], i: usize) -> i32
-    requires { Sound fit.now × (i < item_count fit.now) }
-    ensures { result ≡ (item_at fit.now i).type }
-{
-    image::i32_at(fit, layout::items_at(fit) + 12 * i)
-}
-
-pub fn item_quantity(fit: &[u8], i: usize) -> u32
-    requires { Sound fit.now × (i < item_count fit.now) }
-    ensures { result ≡ (item_at fit.now i).quantity }
-{
-    image::u32_at(fit, layout::items_at(fit) + 12 * i + 4)
-}
-
-pub fn item_slot(fit: &[u8], i: usize) -> u8
-    requires { Sound fit.now × (i < item_count fit.now) }
-    ensures { result ≡ (item_at fit.now i).slot }
-{
-    image::u8_at(fit, layout::items_at(fit) + 12 * i + 8)
-}
-
-pub fn item_index(fit: &[u8], i: usize) -> u16
-    requires { Sound fit.now × (i < item_count fit.now) }
-    ensures { result ≡ (item_at fit.now i).index }
-{
-    image::u16_at(fit, layout::items_at(fit) + 12 * i + 10)
-}
-
-// Result 0 is the ship's, 1 the character's, 2 the first item's.
-pub fn result_state(fit: &[u8], j: usize) -> u8
-    requires { Sound fit.now × (j < result_count fit.now + 2) }
-    ensures { result ≡ (result_of fit.now j).state }
-{
-    image::u8_at(fit, layout::results_at(fit) + 4 * j)
-}
-
-// Where each result's attributes begin among all, and at last how many there are: found once for all lookups. `s` may be longer.
-pub fn find_starts(fit: &[u8], s: &mut [u32])
-    requires { Sound fit.now × (most_results + 2 < length s.old) }
-    ensures { Starts fit.now s.new }
+    ensures { Starts fit.now result }
 {
     let first = layout::results_at(fit);
+    let mut s = [0u32; 259];
     let mut sum: u32 = 0;
-    s[0] = 0;
     for j in 0..layout::results(fit) + 2 {
         sum += layout::count_at(fit, first, j) as u32;
         s[j + 1] = sum;
     }
-}
-
-// The same, for a call that gathers nothing else.
-pub fn starts(fit: &[u8]) -> [u32; 259]
-    requires { Sound fit.now }
-    ensures { Starts fit.now result }
-{
-    let mut s = [0u32; 259];
-    find_starts(fit, &mut s);
     s
 }
 
@@ -134,61 +36,191 @@ fn start_of(starts: &[u32], j: usize) -> usize
     starts[j] as usize
 }
 
-// The part of the caller's bytes that holds what result j has in the block from `first` on, `width` bytes for each attribute.
-fn part_of<'a>(fit: &'a [u8], starts: &[u32], j: usize, first: usize, width: usize) -> &'a [u8]
-    requires { let f = fit.now in
-        Sound f × Starts f starts.now × (j < result_count f + 2) × (first + width * attribute_count f ≤ length f) }
-    ensures { let f = fit.now in
-        result.now ≡ take (width * count_at f j) (drop (first + width * start_at f j) f) }
-{
-    let start = start_of(starts, j);
-    let end = start_of(starts, j + 1);
-    &fit[first + width * start..first + width * end]
+// A fit that is not refused: its bytes are known to be sound. Where results begin is found once for all lookups.
+#[derive(Drop)]
+pub struct Fit<'a> {
+    bytes: &'a [u8],
+    starts: [u32; 259],
 }
 
-// Result j's attribute ids.
-pub fn ids_of<'a>(fit: &'a [u8], starts: &[u32], j: usize) -> &'a [u8]
-    requires { Sound fit.now × Starts fit.now starts.now × (j < result_count fit.now + 2) }
-    ensures { result.now ≡ ids_part fit.now (start_at fit.now j) (count_at fit.now j) }
-{
-    part_of(fit, starts, j, layout::ids_at(fit), 4)
+impl<'a> Model for Fit<'a> {
+    ghost use Rattle.std.specs.Prelude.{List, ℕ};
+    ghost use Rattle.fit.specs.Sound.{Sound, Starts};
+
+    ghost Value = { List ℕ };
+
+    ghost view = { λ s. s.bytes.now };
+
+    ghost invariant = { λ s. Sound s.bytes.now × Starts s.bytes.now s.starts };
 }
 
-// Result j's values, in the order of its ids.
-fn values_of<'a>(fit: &'a [u8], starts: &[u32], j: usize) -> &'a [u8]
-    requires { Sound fit.now × Starts fit.now starts.now × (j < result_count fit.now + 2) }
-    ensures { result.now ≡ values_part fit.now (start_at fit.now j) (count_at fit.now j) }
-{
-    part_of(fit, starts, j, layout::values_at(fit), 8)
-}
+impl<'a> Fit<'a> {
+    // Of bytes that `fit_refusals::check` passed.
+    pub fn new(bytes: &'a [u8]) -> Self
+        requires { Sound bytes.now }
+        ensures { result ≡ bytes.now }
+    {
+        Fit {
+            bytes,
+            starts: starts(bytes),
+        }
+    }
 
-// What an attribute of result j reached: its value stands among the result's values where its id stands among the ids.
-pub fn value(fit: &[u8], starts: &[u32], j: usize, id: i32) -> Option<f64>
-    requires { Sound fit.now × Starts fit.now starts.now × (j < result_count fit.now + 2) }
-    ensures { result ≡ value (result_of fit.now j) id }
-{
-    let ids = ids_of(fit, starts, j);
-    let i = keys::place_of(ids, ids.len() / 4, id)?;
-    Some(floats::f64_at(values_of(fit, starts, j), 8 * i))
-}
+    // What every value of this type is: for a proof that asks for it.
+    pub fn is_sound(&self)
+        ensures { Sound self.now }
+    {
+        let _ = &self.bytes;
+    }
 
-// What an attribute of result j reached; one that is missing reads as 0.
-pub fn amount(fit: &[u8], starts: &[u32], j: usize, id: i32) -> f64
-    requires { Sound fit.now × Starts fit.now starts.now × (j < result_count fit.now + 2) }
-    ensures { result ≡ amount (result_of fit.now j) id }
-{
-    floats::amount(value(fit, starts, j, id))
-}
+    // The image itself, for who copies it.
+    pub fn bytes(&self) -> &'a [u8]
+        ensures { (result.now ≡ self.now) × Sound self.now }
+    {
+        self.bytes
+    }
 
-// The level that the character has in a skill; 0 where it is not listed.
-pub fn trained_level(fit: &[u8], id: i32) -> u8
-    requires { Sound fit.now }
-    ensures { result ≡ trained (fit_of fit.now).skills (fit_of fit.now).levels id }
-{
-    let n = layout::skills(fit);
-    let ids = image::part(fit, 28, 4 * n);
-    match keys::place_of(ids, n, id) {
-        Some(i) => image::u8_at(fit, layout::levels_at(fit) + i),
-        None => 0,
+    pub fn ship(&self) -> i32
+        ensures { result ≡ (fit_of self.now).frame.ship }
+    {
+        image::i32_at(self.bytes, 16)
+    }
+
+    pub fn mode(&self) -> Option<i32>
+        ensures { result ≡ mode_of (fit_of self.now).frame }
+    {
+        if image::u32_at(self.bytes, 20) == 0 {
+            None
+        } else {
+            Some(image::i32_at(self.bytes, 24))
+        }
+    }
+
+    pub fn skill_count(&self) -> usize
+        ensures { result ≡ skill_count self.now }
+    {
+        layout::skills(self.bytes)
+    }
+
+    pub fn item_count(&self) -> usize
+        ensures { result ≡ item_count self.now }
+    {
+        layout::items(self.bytes)
+    }
+
+    // The items' results; the ship's and the character's stand before them.
+    pub fn result_count(&self) -> usize
+        ensures { result ≡ result_count self.now }
+    {
+        layout::results(self.bytes)
+    }
+
+    // Items that have a result.
+    pub fn pair_count(&self) -> usize
+        ensures { result ≡ min (item_count self.now) (result_count self.now) }
+    {
+        layout::pairs(self.bytes)
+    }
+
+    pub fn skill_id(&self, i: usize) -> i32
+        requires { i < skill_count self.now }
+        ensures { result ≡ i32_at self.now (skills_at self.now + 4 * i) }
+    {
+        image::i32_at(self.bytes, 28 + 4 * i)
+    }
+
+    pub fn item_type(&self, i: usize) -> i32
+        requires { i < item_count self.now }
+        ensures { result ≡ (item_at self.now i).type }
+    {
+        image::i32_at(self.bytes, layout::items_at(self.bytes) + 12 * i)
+    }
+
+    pub fn item_quantity(&self, i: usize) -> u32
+        requires { i < item_count self.now }
+        ensures { result ≡ (item_at self.now i).quantity }
+    {
+        image::u32_at(self.bytes, layout::items_at(self.bytes) + 12 * i + 4)
+    }
+
+    pub fn item_slot(&self, i: usize) -> u8
+        requires { i < item_count self.now }
+        ensures { result ≡ (item_at self.now i).slot }
+    {
+        image::u8_at(self.bytes, layout::items_at(self.bytes) + 12 * i + 8)
+    }
+
+    pub fn item_index(&self, i: usize) -> u16
+        requires { i < item_count self.now }
+        ensures { result ≡ (item_at self.now i).index }
+    {
+        image::u16_at(self.bytes, layout::items_at(self.bytes) + 12 * i + 10)
+    }
+
+    // Result 0 is the ship's, 1 the character's, 2 the first item's.
+    pub fn result_state(&self, j: usize) -> u8
+        requires { j < result_count self.now + 2 }
+        ensures { result ≡ (result_of self.now j).state }
+    {
+        image::u8_at(self.bytes, layout::results_at(self.bytes) + 4 * j)
+    }
+
+    // The part of the caller's bytes that holds what result j has in the block from `first` on, `width` bytes for each attribute.
+    fn part_of(&self, j: usize, first: usize, width: usize) -> &'a [u8]
+        requires { let f = self.now in
+            (j < result_count f + 2) × (first + width * attribute_count f ≤ length f) }
+        ensures { let f = self.now in
+            result.now ≡ take (width * count_at f j) (drop (first + width * start_at f j) f) }
+    {
+        let start = start_of(&self.starts, j);
+        let end = start_of(&self.starts, j + 1);
+        &self.bytes[first + width * start..first + width * end]
+    }
+
+    // Result j's attribute ids.
+    pub fn ids_of(&self, j: usize) -> &'a [u8]
+        requires { j < result_count self.now + 2 }
+        ensures { result.now ≡ ids_part self.now (start_at self.now j) (count_at self.now j) }
+    {
+        self.part_of(j, layout::ids_at(self.bytes), 4)
+    }
+
+    // Result j's values, in the order of its ids.
+    fn values_of(&self, j: usize) -> &'a [u8]
+        requires { j < result_count self.now + 2 }
+        ensures { result.now ≡ values_part self.now (start_at self.now j) (count_at self.now j) }
+    {
+        self.part_of(j, layout::values_at(self.bytes), 8)
+    }
+
+    // What an attribute of result j reached: its value stands among the result's values where its id stands among the ids.
+    pub fn value(&self, j: usize, id: i32) -> Option<f64>
+        requires { j < result_count self.now + 2 }
+        ensures { result ≡ value (result_of self.now j) id }
+    {
+        self.is_sound();
+        let ids = self.ids_of(j);
+        let i = keys::place_of(ids, ids.len() / 4, id)?;
+        Some(floats::f64_at(self.values_of(j), 8 * i))
+    }
+
+    // What an attribute of result j reached; one that is missing reads as 0.
+    pub fn amount(&self, j: usize, id: i32) -> f64
+        requires { j < result_count self.now + 2 }
+        ensures { result ≡ amount (result_of self.now j) id }
+    {
+        floats::amount(self.value(j, id))
+    }
+
+    // The level that the character has in a skill; 0 where it is not listed.
+    pub fn trained_level(&self, id: i32) -> u8
+        ensures { result ≡ trained (fit_of self.now).skills (fit_of self.now).levels id }
+    {
+        let n = layout::skills(self.bytes);
+        let ids = image::part(self.bytes, 28, 4 * n);
+        match keys::place_of(ids, n, id) {
+            Some(i) => image::u8_at(self.bytes, layout::levels_at(self.bytes) + i),
+            None => 0,
+        }
     }
 }

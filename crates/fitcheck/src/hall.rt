@@ -3,10 +3,12 @@ ghost use Rattle.std.specs.Prelude.{◌≡◌, ◌+◌, ◌*◌, ◌<◌, ◌≤
 ghost use Rattle.numbers.specs.Sizes as Sizes;
 ghost use Rattle.image.specs.Bytes.{u32_at};
 ghost use Rattle.catalogue.specs.Catalogue.{catalogue_of};
-ghost use Rattle.catalogue.specs.Sound as Catalogue;
 ghost use Rattle.fitcheck.specs.Hall.{fit_count, length_at, fit_start, fits, bad_input, Laid, share_of, word_of};
 ghost use Rattle.fitcheck.specs.Standing.{share};
 
+use catalogue::Catalogue;
+use context::Context;
+use fit::{Fit, layout};
 use numbers::sizes;
 
 // What is said of a fit, by what it adds to the word.
@@ -77,26 +79,26 @@ pub fn bad_input(input: &[u8]) -> bool
 }
 
 // Whatever the bytes of a fit are.
-fn judge(catalogue: &[u8], fit: &[u8], hints: &mut [u32]) -> Standing
-    requires { Catalogue.Sound catalogue.now }
+fn judge(catalogue: &Catalogue, fit: &[u8], hints: &mut [u32]) -> Standing
     ensures { share result ≡ share_of (catalogue_of catalogue.now) fit.now }
 {
     if fit_refusals::check(fit).is_err() {
         return Standing::Refused; // 4 to 6
     }
-    if fit::item_count(fit) != fit::result_count(fit) {
+    if layout::items(fit) != layout::results(fit) {
         return Standing::Faulted; // whatever is listed: not all of it is read
     }
-    let facts = context::gather(catalogue, fit, hints);
-    if lists::is_empty(catalogue, fit, &facts, hints) {
+    let fit = Fit::new(fit);
+    let context = Context::new(catalogue, &fit, hints);
+    if lists::is_empty(&context, hints) {
         return Standing::Clear;
     }
     Standing::Faulted
 }
 
 // The word of a hall whose catalogue and lengths are accepted.
-pub fn word(catalogue: &[u8], input: &[u8]) -> usize
-    requires { Catalogue.Sound catalogue.now × Laid input.now }
+pub fn word(catalogue: &Catalogue, input: &[u8]) -> usize
+    requires { Laid input.now }
     ensures { result ≡ word_of (catalogue_of catalogue.now) (fits input.now) }
 {
     let n = size_at(input, 0);

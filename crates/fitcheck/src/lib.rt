@@ -14,6 +14,8 @@ ghost use Rattle.fitcheck.specs.Widen.{widen_call};
 ghost use Rattle.fitcheck.specs.Train.{train_call};
 
 use calls::word;
+use catalogue::Catalogue;
+use fit::Fit;
 use lists::Asked;
 use numbers::readers::Reader;
 use numbers::refusals::Refusal;
@@ -106,7 +108,8 @@ fn answer_hall(catalogue: &[u8], input: &[u8]) -> Result<usize, Refusal>
     if hall::bad_input(input) {
         return Err(Refusal::BadSize);
     }
-    Ok(hall::word(catalogue, input))
+    let catalogue = Catalogue::new(catalogue);
+    Ok(hall::word(&catalogue, input))
 }
 
 // The hall call: how many of up to 64 fits are clear, faulted and refused.
@@ -146,7 +149,9 @@ fn answer_train(
     ensures { GaveBytes out.old out.new (word_of result) (train_call catalogue.now fit.now res steps out.old) }
 {
     calls::check_images(catalogue, fit)?;
-    training::train(catalogue, fit, res, steps, out)
+    let catalogue = Catalogue::new(catalogue);
+    let fit = Fit::new(fit);
+    training::train(&catalogue, &fit, res, steps, out)
 }
 
 // The training: the fit that so many steps lead to, for one of its results.

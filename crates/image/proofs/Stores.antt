@@ -91,15 +91,4 @@ put-part l at vs ws k e h room =
     ∙ put-paste l at vs (length vs) room (omega arith)
     ∙ ap (put l at) (take_all (length vs) vs (omega arith))
 
--- three runs of eight bytes, one after the other, are one run
-pub put_three : (l l₁ l₂ l₃ : List ℕ) (at : ℕ) (xs ys zs : List ℕ) → length xs ≡ 8 → length ys ≡ 8
-    → l₁ ≡ put l at xs → l₂ ≡ put l₁ (at + 8) ys → l₃ ≡ put l₂ (at + 16) zs → l₃ ≡ put l at (xs ++ (ys ++ zs))
-put_three l l₁ l₂ l₃ at xs ys zs hx hy e₁ e₂ e₃ =
-    e₃
-    ∙ ap (λ (m : List ℕ). put m (at + 16) zs) (e₂ ∙ ap (λ (m : List ℕ). put m (at + 8) ys) e₁)
-    ∙ ap (λ (k : ℕ). put (put (put l at xs) (at + 8) ys) k zs) (omega (arith, hy))
-    ∙ sym (put-append (put l at xs) (at + 8) ys zs)
-    ∙ ap (λ (k : ℕ). put (put l at xs) k (ys ++ zs)) (omega (arith, hx))
-    ∙ sym (put-append l at xs (ys ++ zs))
-
 pub ruleset stores = (put-part, put-paste, length-drop)

@@ -12,13 +12,6 @@ pub fn u8_at(b: &[u8], at: usize) -> u8
     b[at]
 }
 
-// A byte as a number of 32 bits.
-pub fn wide32(x: u8) -> u32
-    ensures { (result ≡ x) × (result < 256) }
-{
-    u32::from(x)
-}
-
 // The N bytes from a place on.
 fn bytes<const N: usize>(b: &[u8], at: usize) -> [u8; N]
     requires { at + N ≤ length b.now }

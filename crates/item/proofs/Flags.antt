@@ -23,7 +23,7 @@ use Rattle.fit.specs.Sound.{ids_part}
 use Rattle.fit.proofs.Decoded.{attribute-ids, ids_all}
 use Rattle.item.specs.Ids.{listed_under, listed_in}
 use Rattle.item.specs.Flags.{flag_of, Flagged, OnlyAdded, any_flagged}
-use Rattle.item.proofs.Marks.{any-map}
+use Rattle.item.proofs.Marking.{any-map}
 
 -- ---- one flag more
 set_keeps : (l : List Bool) (p i : ℕ) → get_or l i false ≡ true → get_or (set l p true) i false ≡ true

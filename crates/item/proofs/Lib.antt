@@ -1,6 +1,6 @@
 -- Laws of the rules on items.
 pub mod Tests
-pub mod Marks
+pub mod Marking
 pub mod Flags
 pub mod Listings
 pub mod Rules

@@ -1,9 +1,8 @@
 -- From the tests and values that the code finds to what a rule says of a pair.
-use Prim.Native.Nat.{ℕ, ◌+◌, ◌<◌}
-use native.Mathlib.Omega.{arith}
+use Prim.Native.Nat.{ℕ}
 use mathlib.Core.Path.{◌≡◌, refl, ◌∙◌}
 use mathlib.Core.Bool.{Bool, true, false, not, ◌&&◌, ◌||◌, cond}
-use mathlib.Core.List.{List, [], ◌∷◌}
+use mathlib.Core.List.{List, []}
 use Rattle.std.specs.Prelude.{Option, None, Some}
 use Rattle.std.specs.Bool.{then_some}
 use lib.Ieee.{Float, ne, lt}
@@ -15,24 +14,17 @@ use Rattle.catalogue.specs.Catalogue.{Id}
 use Rattle.catalogue.specs.Lookups.{name_id}
 use Rattle.fit.specs.Lookups.{value, amount}
 use Rattle.entry.specs.declared.Entry.{Entry}
-use Rattle.entry.specs.declared.Rule.{Rule}
 use Rattle.entry.specs.declared.Rule.TheVariants.{RigSize, ShipRestricted, CapitalItem, StructureItem, ShipItem}
-use Rattle.entry.specs.Wrote.{Wrote}
-use Rattle.entry.proofs.Wrote.{wrote_none, wrote-same, wrote-table_next, wrote-past, wrote-return, wrote-bind, wrote-bind_none}
-use Rattle.context.specs.Context.{Pair, Context, is_fitted, is_in, is_on_hull, on}
+use Rattle.entry.specs.declared.Entries.{Entries}
+use Rattle.entry.specs.Emitted.{Emitted}
+use Rattle.entry.proofs.Emitted.{emitted-past, emitted-return, emitted-bind, emitted-bind_none}
+use Rattle.context.proofs.Loops.{said-then}
+use Rattle.context.specs.Context.{Pair, Context, is_fitted, is_in, is_on_hull, on, said}
 use Rattle.item.specs.declared.Listing.{Listing}
 use Rattle.item.specs.declared.Listing.TheVariants.{Nothing, Others, Ship}
 use Rattle.item.specs.Item.{ship_types, ship_groups, listed, is_structure, is_capital_item, is_standup, is_restricted, capital_volume}
 use Rattle.item.specs.Item.{rig_size_at, rig_size, ship_restricted_at, capital_item_at, capital_item, standup_at}
-use Rattle.context.specs.Gathered.{pair_count, pair_at}
-use Rattle.context.proofs.Loops.{Passed}
-use Rattle.item.specs.Ids.{said, listing, lists_others}
-
--- an entry where a test holds
-pub said-then : (p : Pair) (b : Bool) (r : Rule) → said p (then_some b r) ≡ when b (on p r)
-unfolding said when
-said-then p true r = refl
-said-then p false r = refl
+use Rattle.item.specs.Ids.{listing, lists_others}
 
 -- ---- rig sizes
 module _ (id : Id) (ship : Float) (p : Pair) where
@@ -54,19 +46,19 @@ module _ (id : Id) (ship : Float) (p : Pair) where
   rig-some {size} {x} {y} r e g h = said-then p (ne size ship) (RigSize x y) ∙ rw (e, r, g, h)
 
 module _ (x : Context) (ps : List Pair) where
-  pub rig-no_name : {b : List ℕ} {n : ℕ} → name_id x.names Names.rig_size ≡ None → Wrote b n b n (rig_size x ps)
+  pub rig-no_name : {b : Entries} → name_id x.names Names.rig_size ≡ None → Emitted b b (rig_size x ps)
   unfolding rig_size
-  rig-no_name e = wrote-bind_none _ e
+  rig-no_name e = emitted-bind_none _ e
 
-  pub rig-no_ship : {b : List ℕ} {n : ℕ} (id : Id) → name_id x.names Names.rig_size ≡ Some id → value x.ship_result id ≡ None
-      → Wrote b n b n (rig_size x ps)
+  pub rig-no_ship : {b : Entries} (id : Id) → name_id x.names Names.rig_size ≡ Some id → value x.ship_result id ≡ None
+      → Emitted b b (rig_size x ps)
   unfolding rig_size
-  rig-no_ship id e q = wrote-bind _ e (wrote-bind_none _ q)
+  rig-no_ship id e q = emitted-bind _ e (emitted-bind_none _ q)
 
-  pub rig-each : {b a : List ℕ} {n k : ℕ} (id : Id) (ship : Float) → name_id x.names Names.rig_size ≡ Some id → value x.ship_result id ≡ Some ship
-      → Wrote b n a k (each ps (rig_size_at id ship)) → Wrote b n a k (rig_size x ps)
+  pub rig-each : {b a : Entries} (id : Id) (ship : Float) → name_id x.names Names.rig_size ≡ Some id → value x.ship_result id ≡ Some ship
+      → Emitted b a (each ps (rig_size_at id ship)) → Emitted b a (rig_size x ps)
   unfolding rig_size
-  rig-each id ship e q w = wrote-bind _ e (wrote-bind _ q w)
+  rig-each id ship e q w = emitted-bind _ e (emitted-bind _ q w)
 
 -- ---- restricted items
 module _ (x : Context) (p : Pair) where
@@ -132,27 +124,27 @@ module _ (volume : Id) (p : Pair) where
   said-capital = said-then p (is_capital_item volume p) CapitalItem
 
 module _ (x : Context) (ps : List Pair) where
-  pub capital_no_volume : {b : List ℕ} {n : ℕ} → name_id x.names Names.volume ≡ None → Wrote b n b n (capital_item x ps)
+  pub capital_no_volume : {b : Entries} → name_id x.names Names.volume ≡ None → Emitted b b (capital_item x ps)
   unfolding capital_item
-  capital_no_volume e = wrote-bind_none _ e
+  capital_no_volume e = emitted-bind_none _ e
 
-  pub capital_no_capital : {b : List ℕ} {n : ℕ} (volume : Id) → name_id x.names Names.volume ≡ Some volume
-      → name_id x.names Names.is_capital_size ≡ None → Wrote b n b n (capital_item x ps)
+  pub capital_no_capital : {b : Entries} (volume : Id) → name_id x.names Names.volume ≡ Some volume
+      → name_id x.names Names.is_capital_size ≡ None → Emitted b b (capital_item x ps)
   unfolding capital_item
-  capital_no_capital volume e q = wrote-bind _ e (wrote-bind_none _ q)
+  capital_no_capital volume e q = emitted-bind _ e (emitted-bind_none _ q)
 
-  pub capital_taken : {b : List ℕ} {n : ℕ} (volume capital : Id) → name_id x.names Names.volume ≡ Some volume
+  pub capital_taken : {b : Entries} (volume capital : Id) → name_id x.names Names.volume ≡ Some volume
       → name_id x.names Names.is_capital_size ≡ Some capital
-      → ne (amount x.ship_result capital) zero_f || is_structure x ≡ true → Wrote b n b n (capital_item x ps)
+      → ne (amount x.ship_result capital) zero_f || is_structure x ≡ true → Emitted b b (capital_item x ps)
   unfolding capital_item
-  capital_taken volume capital e q t = wrote-bind _ e (wrote-bind _ q (wrote-return _ t))
+  capital_taken volume capital e q t = emitted-bind _ e (emitted-bind _ q (emitted-return _ t))
 
-  pub capital_each : {b a : List ℕ} {n k : ℕ} (volume capital : Id) → name_id x.names Names.volume ≡ Some volume
+  pub capital_each : {b a : Entries} (volume capital : Id) → name_id x.names Names.volume ≡ Some volume
       → name_id x.names Names.is_capital_size ≡ Some capital
-      → ne (amount x.ship_result capital) zero_f || is_structure x ≡ false → Wrote b n a k (each ps (capital_item_at volume))
-      → Wrote b n a k (capital_item x ps)
+      → ne (amount x.ship_result capital) zero_f || is_structure x ≡ false → Emitted b a (each ps (capital_item_at volume))
+      → Emitted b a (capital_item x ps)
   unfolding capital_item
-  capital_each volume capital e q t w = wrote-bind _ e (wrote-bind _ q (wrote-past t w))
+  capital_each volume capital e q t w = emitted-bind _ e (emitted-bind _ q (emitted-past t w))
 
 -- ---- items of structures and of ships
 module _ (x : Context) (p : Pair) where
@@ -168,25 +160,3 @@ module _ (x : Context) (p : Pair) where
       → cond s (when (not t) (on p ShipItem)) (when t (on p StructureItem)) ≡ standup_at x p
   unfolding standup_at
   standup-on e s t q h = rw (e, q, h)
-
--- ---- a loop over the pairs
-module _ (catalogue fit : List ℕ) (rule : Pair → List Entry) {b a : List ℕ} {n k i : ℕ} (h : i < pair_count fit) where
-  -- one pair more, with an entry about it
-  pub passed_entry : {r : Rule} {a' : List ℕ} {k' : ℕ} → said (pair_at catalogue fit i) (Some r) ≡ rule (pair_at catalogue fit i)
-      → Wrote a k a' k' (on (pair_at catalogue fit i) r ∷ []) → Passed catalogue fit rule b n a k i → Passed catalogue fit rule b n a' k' (i + 1)
-  unfolding said
-  passed_entry e w v = record {
-    within = omega arith;
-    few = omega (arith, v.few, w.count);
-    wrote = wrote-table_next rule (pair_at catalogue fit) i v.wrote (wrote-same e w);
-  }
-
-  -- and with none
-  pub passed_silent : said (pair_at catalogue fit i) None ≡ rule (pair_at catalogue fit i) → Passed catalogue fit rule b n a k i
-      → Passed catalogue fit rule b n a k (i + 1)
-  unfolding said
-  passed_silent e v = record {
-    within = omega arith;
-    few = omega (arith, v.few);
-    wrote = wrote-table_next rule (pair_at catalogue fit) i v.wrote (wrote-same e (wrote_none a k));
-  }

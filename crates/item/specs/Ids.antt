@@ -9,16 +9,8 @@ use Rattle.catalogue.specs.Catalogue.{Id, Name}
 use Rattle.catalogue.specs.Lookups.{name_id}
 use Rattle.fit.specs.Fit.{Result}
 use Rattle.fit.specs.Lookups.{value, amount}
-use Rattle.entry.specs.declared.Entry.{Entry}
-use Rattle.entry.specs.declared.Rule.{Rule}
-use Rattle.context.specs.Context.{Pair, on}
 use Rattle.item.specs.declared.Listing.{Listing}
 use Rattle.item.specs.declared.Listing.TheVariants.{Nothing, Others, Ship}
-
--- the entry about a pair that breaks a rule
-unfoldable pub said : Pair → Option Rule → List Entry
-said p None = []
-said p (Some r) = on p r ∷ []
 
 -- the ids of the names in the rows of a table
 abbrev pub IdsOf : List Name → List ℕ → List (Option Id) → Type 0

@@ -8,23 +8,24 @@ ghost use Rattle.numbers.specs.Sizes.{most_pairs};
 ghost use Rattle.floats.specs.Floats.{zero_f};
 ghost use Rattle.keys.specs.Keys.{key_at};
 ghost use Rattle.catalogue.specs.Catalogue.{catalogue_of};
-ghost use Rattle.catalogue.specs.Sound as Catalogue;
 ghost use Rattle.fit.specs.Fit.{result_count, result_of};
 ghost use Rattle.fit.specs.Lookups.{amount};
-ghost use Rattle.fit.specs.Sound as Fit;
-ghost use Rattle.fit.specs.Sound.{Starts};
 ghost use Rattle.entry.specs.declared.Entry.{Entry};
 ghost use Rattle.entry.specs.declared.Rule.{Rule};
-ghost use Rattle.entry.specs.Wrote.{Room, Wrote};
-ghost use Rattle.context.specs.Context.{Pair};
-ghost use Rattle.context.specs.Gathered.{pair_count, pair_at, pairs_of, context_of, Gathered};
+ghost use Rattle.entry.specs.Wrote.{Room};
+ghost use Rattle.entry.specs.Emitted.{Emitted};
+ghost use Rattle.context.specs.Context.{said};
+ghost use Rattle.context.specs.Gathered.{pair_count, pair_at, pairs_of};
+ghost use Rattle.context.specs.Held.{pair_in, pairs_in, context_in};
 ghost use Rattle.item.specs.Item as Item;
 ghost use Rattle.item.specs.Item.{ship_types, ship_groups, standup_fighters, is_restricted, is_structure, is_capital_item, is_standup};
 ghost use Rattle.item.specs.Item.{rig_size_at, ship_restricted_at, capital_item_at, standup_at, item_rules};
-ghost use Rattle.item.specs.Ids.{IdsOf, said, listing, listed_under, listed_in, lists_others, marked_under, marked_in};
+ghost use Rattle.item.specs.Ids.{IdsOf, listing, listed_under, listed_in, lists_others, marked_under, marked_in};
 ghost use Rattle.item.specs.Flags.{flag_of, Flagged, OnlyAdded, any_flagged, ShipIds};
 
-use entry::{Entry, Rule, Target};
+use catalogue::Catalogue;
+use context::Context;
+use entry::{Entries, Entry, Rule, Target};
 use numbers::{categories, names, slots};
 
 // The attributes naming the ship types an item may go on.
@@ -87,69 +88,41 @@ pub enum Listing {
 }
 
 // The ids of the names in a table: looked up once per rule.
-fn ids_of<const N: usize>(catalogue: &[u8], rows: &[u32; N]) -> [Option<i32>; N]
-    requires { Catalogue.Sound catalogue.now }
+fn ids_of<const N: usize>(catalogue: &Catalogue, rows: &[u32; N]) -> [Option<i32>; N]
     ensures { IdsOf (catalogue_of catalogue.now).names rows.now result }
 {
     let mut ids = [None; N];
     // an index: two arrays are gone through in step
     for k in 0..N {
-        ids[k] = catalogue::attribute_id(catalogue, rows[k]);
+        ids[k] = catalogue.attribute_id(rows[k]);
     }
     ids
 }
 
-// An entry about each pair that breaks a rule.
-fn report<F: Fn(usize) -> Option<Rule>>(fit: &[u8], broken: F, out: &mut [u8], n: usize) -> usize
-    requires fit_sound { Fit.Sound fit.now × Room n most_pairs }
-    requires callable { (i : ℕ) → i < pair_count fit.now → F.pre broken i }
-    ensures { let before = out.old in
-        let after = out.new in
-        ((catalogue : List ℕ) (rule : Pair → List Entry)
-        → ((i : ℕ) (r : Option Rule) → i < pair_count fit.now → F.post broken i r
-        → said (pair_at catalogue fit.now i) r ≡ rule (pair_at catalogue fit.now i))
-        → Wrote before n after result (each (pairs_of catalogue fit.now) rule) × (result ≤ n + most_pairs)) }
+fn rig_size_at(context: &Context, id: i32, ship: f64, i: usize) -> Option<Rule>
+    requires { i < pair_count context.now.fit.now }
+    ensures { let p = pair_in context.now i in said p result ≡ rig_size_at id ship p }
 {
-    let mut m = n;
-    for i in 0..fit::pair_count(fit) {
-        if let Some(rule) = broken(i) {
-            let target = Target::Item(i as u32);
-            m = entry::emit(out, m, Entry { target, rule });
-        }
-    }
-    m
-}
-
-fn rig_size_at(fit: &[u8], facts: &[u32; 2058], id: i32, ship: f64, i: usize) -> Option<Rule>
-    requires { Fit.Sound fit.now × Starts fit.now facts.now × (i < pair_count fit.now) }
-    ensures { (catalogue : List ℕ) → let p = pair_at catalogue fit.now i in said p result ≡ rig_size_at id ship p }
-{
-    if !context::is_in(fit, i, slots::RIG) {
+    if !context.is_in(i, slots::RIG) {
         return None;
     }
-    let size = fit::value(fit, facts, i + 2, id)?;
+    let size = context.fit.value(i + 2, id)?;
     (size != ship).then_some(Rule::RigSize(floats::to_u8(ship), floats::to_u8(size)))
 }
 
-pub fn rig_size(
-    catalogue: &[u8],
-    fit: &[u8],
-    facts: &[u32; 2058],
-    out: &mut [u8],
-    n: usize,
-) -> usize
-    requires { Gathered catalogue.now fit.now facts.now × Room n most_pairs }
-    ensures { let x = context_of catalogue.now fit.now in
-        let ps = pairs_of catalogue.now fit.now in
-        Wrote out.old n out.new result (Item.rig_size x ps) × (result ≤ n + most_pairs) }
+pub fn rig_size(context: &Context, entries: &mut Entries)
+    requires { Room entries.old.n most_pairs }
+    ensures { let x = context_in context.now in
+        let ps = pairs_in context.now in
+        Emitted entries.old entries.new (Item.rig_size x ps) × (entries.new.n ≤ entries.old.n + most_pairs) }
 {
-    let Some(id) = catalogue::attribute_id(catalogue, names::RIG_SIZE) else {
-        return n;
+    let Some(id) = context.catalogue.attribute_id(names::RIG_SIZE) else {
+        return;
     };
-    let Some(ship) = fit::value(fit, facts, 0, id) else {
-        return n;
+    let Some(ship) = context.fit.value(0, id) else {
+        return;
     };
-    report(fit, |i| rig_size_at(fit, facts, id, ship, i), out, n)
+    context.report(|i| rig_size_at(context, id, ship, i), entries);
 }
 
 // Flags ids by their lowest 13 bits.
@@ -184,30 +157,22 @@ fn any_flagged(ids: &[u8], flags: &[bool; 8192]) -> bool
     found
 }
 
-// Whether a result may list ships: most list none, and need no search for each of the 33 ids.
-fn may_list(fit: &[u8], facts: &[u32; 2058], j: usize, flags: &[bool; 8192]) -> bool
-    requires { Fit.Sound fit.now × Starts fit.now facts.now × (j < result_count fit.now + 2) }
-    ensures { result ≡ any_flagged flags.now (result_of fit.now j) }
-{
-    any_flagged(fit::ids_of(fit, facts, j), flags)
-}
-
 // The ship, or its group, that a result names under an id.
-fn listed_under(fit: &[u8], facts: &[u32; 2058], j: usize, known: Option<i32>) -> Option<i32>
-    requires { Fit.Sound fit.now × Starts fit.now facts.now × (j < result_count fit.now + 2) }
-    ensures { result ≡ listed_under (result_of fit.now j) known }
+fn listed_under(context: &Context, j: usize, known: Option<i32>) -> Option<i32>
+    requires { j < result_count context.now.fit.now + 2 }
+    ensures { result ≡ listed_under (result_of context.now.fit.now j) known }
 {
-    Some(floats::to_i32(fit::value(fit, facts, j, known?)?))
+    Some(floats::to_i32(context.fit.value(j, known?)?))
 }
 
 // What a result lists under some ids; nothing for an item that goes on any ship.
-fn listed(fit: &[u8], facts: &[u32; 2058], j: usize, ids: &[Option<i32>], ship: i32) -> Listing
-    requires { Fit.Sound fit.now × Starts fit.now facts.now × (j < result_count fit.now + 2) }
-    ensures { result ≡ listing ship (listed_in (result_of fit.now j) ids.now) }
+fn listed(context: &Context, j: usize, ids: &[Option<i32>], ship: i32) -> Listing
+    requires { j < result_count context.now.fit.now + 2 }
+    ensures { result ≡ listing ship (listed_in (result_of context.now.fit.now j) ids.now) }
 {
     let mut listing = Listing::Nothing;
     for id in ids {
-        if let Some(named) = listed_under(fit, facts, j, *id) {
+        if let Some(named) = listed_under(context, j, *id) {
             if named == ship {
                 return Listing::Ship;
             }
@@ -228,197 +193,197 @@ fn lists_others(types: Listing, groups: Listing) -> bool
     }
 }
 
-fn is_restricted(
-    catalogue: &[u8],
-    fit: &[u8],
-    facts: &[u32; 2058],
-    types: &[Option<i32>; 13],
-    groups: &[Option<i32>; 20],
-    flags: &[bool; 8192],
-    i: usize,
-) -> bool
-    requires gathered { Gathered catalogue.now fit.now facts.now × (i < pair_count fit.now) }
-    requires ship_ids { ShipIds (catalogue_of catalogue.now).names types.now groups.now flags.now }
-    ensures { let x = context_of catalogue.now fit.now in
-        result ≡ is_restricted x (pair_at catalogue.now fit.now i) }
-{
-    if !context::is_fitted_at(fit, i) {
-        return false;
-    }
-    if !may_list(fit, facts, i + 2, flags) {
-        return false;
-    }
-    let ship = fit::ship(fit);
-    // an item names a ship that the catalogue lacks by group 0
-    let group = context::ship_type(catalogue, fit, facts).map_or(0, |info| info.group);
-    let of_types = listed(fit, facts, i + 2, types, ship);
-    let of_groups = listed(fit, facts, i + 2, groups, group);
-    lists_others(of_types, of_groups)
+// The ids under which an item names ships, looked up once for all pairs, and flags of all of them.
+#[derive(Drop)]
+struct ShipLists<'a, 'b> {
+    context: &'b Context<'b>,
+    types: &'a [Option<i32>; 13],
+    groups: &'a [Option<i32>; 20],
+    flags: &'a [bool; 8192],
+    ghost known: { ShipIds (catalogue_of context.now.catalogue.now).names types.now groups.now flags.now },
 }
 
-pub fn ship_restricted(
-    catalogue: &[u8],
-    fit: &[u8],
-    facts: &[u32; 2058],
-    out: &mut [u8],
-    n: usize,
-) -> usize
-    requires { Gathered catalogue.now fit.now facts.now × Room n most_pairs }
-    ensures { let x = context_of catalogue.now fit.now in
-        let ps = pairs_of catalogue.now fit.now in
-        Wrote out.old n out.new result (Item.ship_restricted x ps) × (result ≤ n + most_pairs) }
+impl<'a, 'b> ShipLists<'a, 'b> {
+    // Whether a result may list ships: most list none, and need no search for each of the 33 ids.
+    fn may_list(&self, j: usize) -> bool
+        requires { j < result_count self.now.context.now.fit.now + 2 }
+        ensures { result ≡ any_flagged self.now.flags.now (result_of self.now.context.now.fit.now j) }
+    {
+        any_flagged(self.context.fit.ids_of(j), self.flags)
+    }
+
+    fn is_restricted(&self, i: usize) -> bool
+        requires { i < pair_count self.now.context.now.fit.now }
+        ensures { let x = self.now.context.now in
+            result ≡ is_restricted (context_in x) (pair_in x i) }
+    {
+        let ShipLists {
+            context,
+            types,
+            groups,
+            ..
+        } = *self;
+        if !context.is_fitted_at(i) {
+            return false;
+        }
+        if !self.may_list(i + 2) {
+            return false;
+        }
+        let ship = context.fit.ship();
+        // an item names a ship that the catalogue lacks by group 0
+        let group = context.ship_type().map_or(0, |info| info.group);
+        let of_types = listed(context, i + 2, types, ship);
+        let of_groups = listed(context, i + 2, groups, group);
+        lists_others(of_types, of_groups)
+    }
+}
+
+pub fn ship_restricted(context: &Context, entries: &mut Entries)
+    requires { Room entries.old.n most_pairs }
+    ensures { let x = context_in context.now in
+        let ps = pairs_in context.now in
+        Emitted entries.old entries.new (Item.ship_restricted x ps) × (entries.new.n ≤ entries.old.n + most_pairs) }
 {
-    let types = ids_of(catalogue, &SHIP_TYPES);
-    let groups = ids_of(catalogue, &SHIP_GROUPS);
+    let types = ids_of(context.catalogue, &SHIP_TYPES);
+    let groups = ids_of(context.catalogue, &SHIP_GROUPS);
     let mut flags = [false; 8192];
     flag_ids(&types, &mut flags);
     flag_ids(&groups, &mut flags);
-    let restricted = |i| {
-        is_restricted(catalogue, fit, facts, &types, &groups, &flags, i).then_some(
-            Rule::ShipRestricted,
-        )
+    let lists = ShipLists {
+        // lent again, for as long as both of its lifetimes last
+        context: &*context,
+        types: &types,
+        groups: &groups,
+        flags: &flags,
     };
-    report(fit, restricted, out, n)
+    let restricted = |i| lists.is_restricted(i).then_some(Rule::ShipRestricted);
+    context.report(restricted, entries);
 }
 
 // A type that the catalogue lacks reads as one of category 0, and so is no structure.
-fn is_structure(catalogue: &[u8], fit: &[u8], facts: &[u32; 2058]) -> bool
-    requires { Gathered catalogue.now fit.now facts.now }
-    ensures { result ≡ is_structure (context_of catalogue.now fit.now) }
+fn is_structure(context: &Context) -> bool
+    ensures { result ≡ is_structure (context_in context.now) }
 {
-    let category = context::ship_type(catalogue, fit, facts).map_or(0, |info| info.category);
+    let category = context.ship_type().map_or(0, |info| info.category);
     category == categories::STRUCTURE
 }
 
 // A capital ship, or a structure.
-fn takes_capitals(catalogue: &[u8], fit: &[u8], facts: &[u32; 2058], capital: i32) -> bool
-    requires { Gathered catalogue.now fit.now facts.now }
-    ensures { let x = context_of catalogue.now fit.now in
+fn takes_capitals(context: &Context, capital: i32) -> bool
+    ensures { let x = context_in context.now in
         result ≡ (ne (amount x.ship_result capital) zero_f || is_structure x) }
 {
-    fit::amount(fit, facts, 0, capital) != 0.0 || is_structure(catalogue, fit, facts)
+    context.fit.amount(0, capital) != 0.0 || is_structure(context)
 }
 
 // A capital rig is held apart by its rig size instead.
-fn is_capital_item(fit: &[u8], facts: &[u32; 2058], volume: i32, i: usize) -> bool
-    requires { Fit.Sound fit.now × Starts fit.now facts.now × (i < pair_count fit.now) }
-    ensures { (catalogue : List ℕ) → result ≡ is_capital_item volume (pair_at catalogue fit.now i) }
+fn is_capital_item(context: &Context, volume: i32, i: usize) -> bool
+    requires { i < pair_count context.now.fit.now }
+    ensures { result ≡ is_capital_item volume (pair_in context.now i) }
 {
-    context::is_fitted_at(fit, i)
-        && !context::is_in(fit, i, slots::RIG)
-        && fit::amount(fit, facts, i + 2, volume) > CAPITAL_VOLUME
+    context.is_fitted_at(i)
+        && !context.is_in(i, slots::RIG)
+        && context.fit.amount(i + 2, volume) > CAPITAL_VOLUME
 }
 
-pub fn capital_item(
-    catalogue: &[u8],
-    fit: &[u8],
-    facts: &[u32; 2058],
-    out: &mut [u8],
-    n: usize,
-) -> usize
-    requires { Gathered catalogue.now fit.now facts.now × Room n most_pairs }
-    ensures { let x = context_of catalogue.now fit.now in
-        let ps = pairs_of catalogue.now fit.now in
-        Wrote out.old n out.new result (Item.capital_item x ps) × (result ≤ n + most_pairs) }
+pub fn capital_item(context: &Context, entries: &mut Entries)
+    requires { Room entries.old.n most_pairs }
+    ensures { let x = context_in context.now in
+        let ps = pairs_in context.now in
+        Emitted entries.old entries.new (Item.capital_item x ps) × (entries.new.n ≤ entries.old.n + most_pairs) }
 {
-    let Some(volume) = catalogue::attribute_id(catalogue, names::VOLUME) else {
-        return n;
+    let Some(volume) = context.catalogue.attribute_id(names::VOLUME) else {
+        return;
     };
-    let Some(capital) = catalogue::attribute_id(catalogue, names::IS_CAPITAL_SIZE) else {
-        return n;
+    let Some(capital) = context.catalogue.attribute_id(names::IS_CAPITAL_SIZE) else {
+        return;
     };
-    if takes_capitals(catalogue, fit, facts, capital) {
-        return n;
+    if takes_capitals(context, capital) {
+        return;
     }
-    report(
-        fit,
-        |i| is_capital_item(fit, facts, volume, i).then_some(Rule::CapitalItem),
-        out,
-        n,
-    )
+    context.report(
+        |i| is_capital_item(context, volume, i).then_some(Rule::CapitalItem),
+        entries,
+    );
 }
 
-fn marked_under(fit: &[u8], facts: &[u32; 2058], j: usize, known: Option<i32>) -> bool
-    requires { Fit.Sound fit.now × Starts fit.now facts.now × (j < result_count fit.now + 2) }
-    ensures { result ≡ marked_under (result_of fit.now j) known }
+fn marked_under(context: &Context, j: usize, known: Option<i32>) -> bool
+    requires { j < result_count context.now.fit.now + 2 }
+    ensures { result ≡ marked_under (result_of context.now.fit.now j) known }
 {
-    known.is_some_and(|id| fit::amount(fit, facts, j, id) != 0.0)
-}
-
-fn is_marked(fit: &[u8], facts: &[u32; 2058], j: usize, ids: &[Option<i32>]) -> bool
-    requires { Fit.Sound fit.now × Starts fit.now facts.now × (j < result_count fit.now + 2) }
-    ensures { result ≡ marked_in (result_of fit.now j) ids.now }
-{
-    ids.iter().any(|id| marked_under(fit, facts, j, *id))
-}
-
-fn is_standup(
-    catalogue: &[u8],
-    fit: &[u8],
-    facts: &[u32; 2058],
-    markers: &[Option<i32>; 3],
-    i: usize,
-) -> bool
-    requires gathered { Gathered catalogue.now fit.now facts.now × (i < pair_count fit.now) }
-    requires ids_of { IdsOf (catalogue_of catalogue.now).names standup_fighters markers.now }
-    ensures { let x = context_of catalogue.now fit.now in
-        result ≡ is_standup x (pair_at catalogue.now fit.now i) }
-{
-    let category = context::type_at(catalogue, fit, facts, i).map_or(0, |info| info.category);
-    category == categories::STRUCTURE_MODULE || is_marked(fit, facts, i + 2, markers)
-}
-
-fn standup_at(
-    catalogue: &[u8],
-    fit: &[u8],
-    facts: &[u32; 2058],
-    markers: &[Option<i32>; 3],
-    i: usize,
-) -> Option<Rule>
-    requires gathered { Gathered catalogue.now fit.now facts.now × (i < pair_count fit.now) }
-    requires ids_of { IdsOf (catalogue_of catalogue.now).names standup_fighters markers.now }
-    ensures { let p = pair_at catalogue.now fit.now i in said p result ≡ standup_at (context_of catalogue.now fit.now) p }
-{
-    if !context::is_on_hull(fit, i) {
-        return None;
-    }
-    let standup = is_standup(catalogue, fit, facts, markers, i);
-    match (is_structure(catalogue, fit, facts), standup) {
-        (true, false) => Some(Rule::ShipItem),
-        (false, true) => Some(Rule::StructureItem),
-        _ => None,
+    match known {
+        Some(id) => context.fit.amount(j, id) != 0.0,
+        None => false,
     }
 }
 
-pub fn standup(catalogue: &[u8], fit: &[u8], facts: &[u32; 2058], out: &mut [u8], n: usize) -> usize
-    requires { Gathered catalogue.now fit.now facts.now × Room n most_pairs }
-    ensures { let x = context_of catalogue.now fit.now in
-        let ps = pairs_of catalogue.now fit.now in
-        Wrote out.old n out.new result (Item.standup x ps) × (result ≤ n + most_pairs) }
+fn is_marked(context: &Context, j: usize, ids: &[Option<i32>]) -> bool
+    requires { j < result_count context.now.fit.now + 2 }
+    ensures { result ≡ marked_in (result_of context.now.fit.now j) ids.now }
 {
-    let markers = ids_of(catalogue, &STANDUP_FIGHTERS);
-    report(
-        fit,
-        |i| standup_at(catalogue, fit, facts, &markers, i),
-        out,
-        n,
-    )
+    ids.iter().any(|id| marked_under(context, j, *id))
 }
 
-pub fn validate(
-    catalogue: &[u8],
-    fit: &[u8],
-    facts: &[u32; 2058],
-    out: &mut [u8],
-    n: usize,
-) -> usize
-    requires { Gathered catalogue.now fit.now facts.now × Room n (4 * most_pairs) }
-    ensures { let x = context_of catalogue.now fit.now in
-        let ps = pairs_of catalogue.now fit.now in
-        Wrote out.old n out.new result (item_rules x ps) × (result ≤ n + 4 * most_pairs) }
+// The marks of a structure's fighters: their ids are looked up once for all pairs.
+#[derive(Drop)]
+struct Marks<'a> {
+    context: &'a Context<'a>,
+    ids: [Option<i32>; 3],
+    ghost known: { IdsOf (catalogue_of context.now.catalogue.now).names standup_fighters ids },
+}
+
+impl<'a> Marks<'a> {
+    fn new(context: &'a Context<'a>) -> Self
+        ensures { result.context.now ≡ context.now }
+    {
+        let ids = ids_of(context.catalogue, &STANDUP_FIGHTERS);
+        Marks { context, ids }
+    }
+
+    fn is_standup(&self, i: usize) -> bool
+        requires { i < pair_count self.now.context.now.fit.now }
+        ensures { let x = self.now.context.now in
+            result ≡ is_standup (context_in x) (pair_in x i) }
+    {
+        let category = self.context.type_at(i).map_or(0, |info| info.category);
+        category == categories::STRUCTURE_MODULE || is_marked(self.context, i + 2, &self.ids)
+    }
+
+    fn standup_at(&self, i: usize) -> Option<Rule>
+        requires { i < pair_count self.now.context.now.fit.now }
+        ensures { let x = self.now.context.now in
+            said (pair_in x i) result ≡ standup_at (context_in x) (pair_in x i) }
+    {
+        if !self.context.is_on_hull(i) {
+            return None;
+        }
+        let standup = self.is_standup(i);
+        match (is_structure(self.context), standup) {
+            (true, false) => Some(Rule::ShipItem),
+            (false, true) => Some(Rule::StructureItem),
+            _ => None,
+        }
+    }
+}
+
+pub fn standup(context: &Context, entries: &mut Entries)
+    requires { Room entries.old.n most_pairs }
+    ensures { let x = context_in context.now in
+        let ps = pairs_in context.now in
+        Emitted entries.old entries.new (Item.standup x ps) × (entries.new.n ≤ entries.old.n + most_pairs) }
 {
-    let mut m = rig_size(catalogue, fit, facts, out, n);
-    m = ship_restricted(catalogue, fit, facts, out, m);
-    m = capital_item(catalogue, fit, facts, out, m);
-    standup(catalogue, fit, facts, out, m)
+    let marks = Marks::new(context);
+    context.report(|i| marks.standup_at(i), entries);
+}
+
+pub fn validate(context: &Context, entries: &mut Entries)
+    requires { Room entries.old.n (4 * most_pairs) }
+    ensures { let x = context_in context.now in
+        let ps = pairs_in context.now in
+        Emitted entries.old entries.new (item_rules x ps) × (entries.new.n ≤ entries.old.n + 4 * most_pairs) }
+{
+    rig_size(context, entries);
+    ship_restricted(context, entries);
+    capital_item(context, entries);
+    standup(context, entries);
 }

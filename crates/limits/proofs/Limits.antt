@@ -1,20 +1,20 @@
 -- Arrays of the pairs, filled one at a time; the states of fitted pairs; and a limit that an item has: an entry where more are used than it allows. One law for
 -- groups and types.
-use Prim.Native.Nat.{ℕ, zero, suc, ◌+◌, ◌<◌, ◌≤◌}
+use Prim.Native.Nat.{ℕ, suc, ◌+◌, ◌<◌}
 use native.Mathlib.Nat.{eq-or-lt_of_le, ne_of_lt}
 use native.Mathlib.Numerals.{add-one}
 use native.Mathlib.Omega.{arith}
 use mathlib.Core.Path.{◌≡◌, refl, sym, ap, subst, ◌∙◌}
 use mathlib.Core.Bool.{Bool, true, false, cond, ◌&&◌}
-use mathlib.Core.List.{List, map}
+use mathlib.Core.List.{List, [], map}
 use mathlib.Core.Logic.{⊎_elim}
 use Rattle.std.specs.Prelude.{Option, None, Some}
+use Rattle.std.specs.Bool.{then_some}
 use lib.Dec.{ltb, leb, leb-suc-zero, leb-suc-suc}
 use lib.Ieee.{Float}
-use lib.ListN.{length, get_or, set}
+use lib.ListN.{length, get_or, get_or-map, set}
 use lib.Seq.{get_or-set_same, get_or-set_other}
 use Rattle.words.specs.Words.{◌>>=◌, given, each, when, when_above, count_of}
-use Rattle.words.proofs.Lengths.{few-bind, few-above}
 use Rattle.numbers.specs.Names as Names
 use Rattle.floats.specs.Floats.{to_u}
 use Rattle.catalogue.specs.Catalogue.{Id}
@@ -22,13 +22,16 @@ use Rattle.catalogue.specs.Lookups.{name_id}
 use Rattle.fit.specs.Lookups.{value}
 use Rattle.entry.specs.declared.Entry.{Entry}
 use Rattle.entry.specs.declared.Rule.TheVariants.{MaxGroup, MaxType}
-use Rattle.entry.specs.Wrote.{Wrote}
-use Rattle.entry.proofs.Wrote.{wrote_none, wrote-bind, wrote-bind_none}
-use Rattle.context.specs.Context.{Pair, Context, is_fitted, on}
+use Rattle.entry.specs.declared.Entries.{Entries}
+use Rattle.entry.specs.Emitted.{Emitted}
+use Rattle.entry.proofs.Emitted.{emitted-bind, emitted-bind_none}
+use Rattle.context.specs.Context.{Pair, Context, is_fitted, on, said}
+use Rattle.context.proofs.Loops.{said-then}
 use Rattle.numbers.specs.declared.GroupLimit.{GroupLimit}
 use Rattle.numbers.specs.declared.GroupLimit.TheVariants.{Fitted}
 use Rattle.limits.specs.declared.Row.{Row}
-use Rattle.limits.specs.Limits.{group_limit_rows, row_at, in_group, allowed_at, group_limit_at, group_limit, group_limits, of_type, type_limit_at, type_limit}
+use Rattle.limits.specs.Rows.{row_of}
+use Rattle.limits.specs.Limits.{group_limit_rows, in_group, allowed_at, group_limit_at, group_limit, group_limits, of_type, type_limit_at, type_limit}
 
 -- one element more of an array that is filled
 pub kept_next : {A : Type 0} (f : ℕ → A) (d : A) (l : List A) (i : ℕ) {x : A} → i < length l → ((k : ℕ) → k < i → get_or l k d ≡ f k) → x ≡ f i
@@ -80,58 +83,50 @@ module _ (o : Option Float) (fitted : Bool) (used : ℕ) (e : ℕ → ℕ → En
   allowed : Option ℕ
   allowed = given o None (λ v. cond fitted (Some (to_u 32 v)) None)
 
-  unlimited : {b : List ℕ} {n : ℕ} → allowed ≡ None → Wrote b n b n (limited o fitted used e)
+  unlimited : allowed ≡ None → [] ≡ limited o fitted used e
   unfolding allowed limited given when_above when ◌>>=◌
-  unlimited {b} {n} = go o fitted
+  unlimited = go o fitted
     where
-      go : (q : Option Float) (f : Bool) → given q None (λ v. cond f (Some (to_u 32 v)) None) ≡ None → Wrote b n b n (limited q f used e)
-      go None f h = wrote_none b n
+      go : (q : Option Float) (f : Bool) → given q None (λ v. cond f (Some (to_u 32 v)) None) ≡ None → [] ≡ limited q f used e
+      go None f h = refl
       go (Some v) true h = absurd (cc)
-      go (Some v) false h = wrote_none b n
+      go (Some v) false h = refl
 
-  limited-to : {b a : List ℕ} {n k m : ℕ} → allowed ≡ Some m → Wrote b n a k (when (ltb m used) (e used m)) → Wrote b n a k (limited o fitted used e)
+  limited-to : {m : ℕ} → allowed ≡ Some m → when (ltb m used) (e used m) ≡ limited o fitted used e
   unfolding allowed limited given when_above when ◌>>=◌
-  limited-to {b} {a} {n} {k} {m} = go o fitted
+  limited-to {m} = go o fitted
     where
       go : (q : Option Float) (f : Bool) → given q None (λ v. cond f (Some (to_u 32 v)) None) ≡ Some m
-          → Wrote b n a k (when (ltb m used) (e used m)) → Wrote b n a k (limited q f used e)
-      go None f h w = absurd (cc)
-      go (Some v) true h w = let q : to_u 32 v ≡ m = cc in rw q w
-      go (Some v) false h w = absurd (cc)
-
-  limited-few : length (limited o fitted used e) ≤ 1
-  unfolding limited
-  limited-few = few-bind _ 1 (λ v. few-above fitted used (to_u 32 v) (λ u. e u (to_u 32 v))) o
+          → when (ltb m used) (e used m) ≡ limited q f used e
+      go None f h = absurd (cc)
+      go (Some v) true h = let q : to_u 32 v ≡ m = cc in rw q
+      go (Some v) false h = absurd (cc)
 
 -- ---- groups
 module _ (limit : GroupLimit) (lowest : ℕ) (id : Id) (ps : List Pair) (p : Pair) where
   abbrev max-group : ℕ → ℕ → Entry
   max-group used allowed = on p (MaxGroup p.group limit used allowed)
 
-  pub group-missing : {b : List ℕ} {n : ℕ} → allowed_at id p ≡ None → Wrote b n b n (group_limit_at limit lowest id ps p)
-  unfolding group_limit_at limited allowed_at allowed
+  pub group-missing : allowed_at id p ≡ None → said p None ≡ group_limit_at limit lowest id ps p
+  unfolding group_limit_at limited allowed_at allowed said
   group-missing = unlimited (value p.result id) (is_fitted p) (count_of (in_group p.group lowest) ps) max-group
 
-  pub group-fitted : {b a : List ℕ} {n k : ℕ} {group : Id} {used allowed : ℕ} → allowed_at id p ≡ Some allowed
-      → group ≡ p.group → used ≡ count_of (in_group p.group lowest) ps
-      → Wrote b n a k (when (ltb allowed used) (on p (MaxGroup group limit used allowed))) → Wrote b n a k (group_limit_at limit lowest id ps p)
+  pub group-fitted : {group : Id} {used allowed : ℕ} → allowed_at id p ≡ Some allowed → group ≡ p.group → used ≡ count_of (in_group p.group lowest) ps
+      → said p (then_some (ltb allowed used) (MaxGroup group limit used allowed)) ≡ group_limit_at limit lowest id ps p
   unfolding group_limit_at limited allowed_at allowed
-  group-fitted h g u w =
-      limited-to (value p.result id) (is_fitted p) (count_of (in_group p.group lowest) ps) max-group h (rw (g, u) at w)
-
-  pub group-few : length (group_limit_at limit lowest id ps p) ≤ 1
-  unfolding group_limit_at limited
-  group-few = limited-few (value p.result id) (is_fitted p) (count_of (in_group p.group lowest) ps) max-group
+  group-fitted {group} {used} {allowed} h g u =
+      said-then p (ltb allowed used) (MaxGroup group limit used allowed)
+      ∙ rw (g, u) (limited-to (value p.result id) (is_fitted p) (count_of (in_group p.group lowest) ps) max-group h)
 
 module _ (x : Context) (ps : List Pair) (g : GroupLimit × ℕ × ℕ) where
-  pub group-no_name : {b : List ℕ} {n : ℕ} → name_id x.names g.2 ≡ None → Wrote b n b n (group_limit x ps g)
+  pub group-no_name : {b : Entries} → name_id x.names g.2 ≡ None → Emitted b b (group_limit x ps g)
   unfolding group_limit
-  group-no_name e = wrote-bind_none _ e
+  group-no_name e = emitted-bind_none _ e
 
-  pub group-each : {b a : List ℕ} {n k : ℕ} (id : Id) → name_id x.names g.2 ≡ Some id
-      → Wrote b n a k (each ps (group_limit_at g.0 g.1 id ps)) → Wrote b n a k (group_limit x ps g)
+  pub group-each : {b a : Entries} (id : Id) → name_id x.names g.2 ≡ Some id
+      → Emitted b a (each ps (group_limit_at g.0 g.1 id ps)) → Emitted b a (group_limit x ps g)
   unfolding group_limit
-  group-each id e w = wrote-bind _ e w
+  group-each id e w = emitted-bind _ e w
 
 -- limit by limit, and for each the pairs in their order
 pub by-limit : (x : Context) (ps : List Pair) → each group_limit_rows (group_limit x ps) ≡ group_limits x ps
@@ -143,29 +138,26 @@ module _ (id : Id) (ps : List Pair) (p : Pair) where
   abbrev max-type : ℕ → ℕ → Entry
   max-type used allowed = on p (MaxType p.type used allowed)
 
-  pub type-missing : {b : List ℕ} {n : ℕ} → allowed_at id p ≡ None → Wrote b n b n (type_limit_at id ps p)
-  unfolding type_limit_at limited allowed_at allowed
+  pub type-missing : allowed_at id p ≡ None → said p None ≡ type_limit_at id ps p
+  unfolding type_limit_at limited allowed_at allowed said
   type-missing = unlimited (value p.result id) (is_fitted p) (count_of (of_type p.type) ps) max-type
 
-  pub type-fitted : {b a : List ℕ} {n k : ℕ} {type : Id} {used allowed : ℕ} → allowed_at id p ≡ Some allowed
-      → type ≡ p.type → used ≡ count_of (of_type p.type) ps
-      → Wrote b n a k (when (ltb allowed used) (on p (MaxType type used allowed))) → Wrote b n a k (type_limit_at id ps p)
+  pub type-fitted : {type : Id} {used allowed : ℕ} → allowed_at id p ≡ Some allowed → type ≡ p.type → used ≡ count_of (of_type p.type) ps
+      → said p (then_some (ltb allowed used) (MaxType type used allowed)) ≡ type_limit_at id ps p
   unfolding type_limit_at limited allowed_at allowed
-  type-fitted h t u w = limited-to (value p.result id) (is_fitted p) (count_of (of_type p.type) ps) max-type h (rw (t, u) at w)
-
-  pub type-few : length (type_limit_at id ps p) ≤ 1
-  unfolding type_limit_at limited
-  type-few = limited-few (value p.result id) (is_fitted p) (count_of (of_type p.type) ps) max-type
+  type-fitted {type} {used} {allowed} h t u =
+      said-then p (ltb allowed used) (MaxType type used allowed)
+      ∙ rw (t, u) (limited-to (value p.result id) (is_fitted p) (count_of (of_type p.type) ps) max-type h)
 
 module _ (x : Context) (ps : List Pair) where
-  pub type-no_name : {b : List ℕ} {n : ℕ} → name_id x.names Names.max_type_fitted ≡ None → Wrote b n b n (type_limit x ps)
+  pub type-no_name : {b : Entries} → name_id x.names Names.max_type_fitted ≡ None → Emitted b b (type_limit x ps)
   unfolding type_limit
-  type-no_name e = wrote-bind_none _ e
+  type-no_name e = emitted-bind_none _ e
 
-  pub type-each : {b a : List ℕ} {n k : ℕ} (id : Id) → name_id x.names Names.max_type_fitted ≡ Some id
-      → Wrote b n a k (each ps (type_limit_at id ps)) → Wrote b n a k (type_limit x ps)
+  pub type-each : {b a : Entries} (id : Id) → name_id x.names Names.max_type_fitted ≡ Some id
+      → Emitted b a (each ps (type_limit_at id ps)) → Emitted b a (type_limit x ps)
   unfolding type_limit
-  type-each id e w = wrote-bind _ e w
+  type-each id e w = emitted-bind _ e w
 
 -- ---- the rows of the table
 -- a row as the code holds it
@@ -173,8 +165,5 @@ abbrev row : GroupLimit × ℕ × ℕ → Row
 row g = record { limit = g.0; lowest = g.1; name = g.2 }
 
 -- row k of the code's table, as the definition has it
-pub row_is : (k : ℕ) → k < 3 → ◌≡◌ {A = GroupLimit × ℕ × ℕ} (let r = get_or (map row group_limit_rows) k (row (Fitted, 0, 0)) in (r.limit, r.lowest, r.name)) (row_at k)
-row_is zero h = refl
-row_is (suc zero) h = refl
-row_is (suc (suc zero)) h = refl
-row_is (suc (suc (suc k))) h = refl
+pub row_is : (k : ℕ) → row_of (get_or (map row group_limit_rows) k (row (Fitted, 0, 0))) ≡ get_or group_limit_rows k (Fitted, 0, 0)
+row_is k = ap row_of (get_or-map row group_limit_rows k (Fitted, 0, 0))

@@ -1,2 +1,3 @@
 pub mod Groups
 pub mod Limits
+pub mod Rows

@@ -1,5 +1,5 @@
 -- validate/item.rs, its last two rules: how many items of a group or a type a fit may have.
-use Rattle.std.specs.Prelude.{ℕ, Bool, cond, ◌&&◌, Option, None, Some, List, [], ◌∷◌, ◌++◌, leb, get_or}
+use Rattle.std.specs.Prelude.{ℕ, Bool, cond, ◌&&◌, Option, None, Some, List, [], ◌∷◌, ◌++◌, leb}
 use Rattle.words.specs.Words.{◌>>=◌, given, each, when_above, count_of, same}
 use Rattle.numbers.specs.Names as Names
 use Rattle.numbers.specs.States as States
@@ -20,10 +20,6 @@ group_limit_rows =
     ∷ (Online, States.online, Names.max_group_online)
     ∷ (Active, States.active, Names.max_group_active)
     ∷ []
-
--- row k of it
-abbrev pub row_at : ℕ → GroupLimit × ℕ × ℕ
-row_at k = get_or group_limit_rows k (Fitted, 0, 0)
 
 -- how many a limit that a pair has allows it, where it is fitted
 unfoldable pub allowed_at : Id → Pair → Option ℕ

@@ -1,7 +1,7 @@
 // A league profile: groups that a tournament's host bans or prices. Document 02, P2.
 #![tactic(auto)]
 
-ghost use Rattle.std.specs.Prelude.{◌≡◌, ◌+◌, ◌*◌, ◌≤◌, ◌<◌, length};
+ghost use Rattle.std.specs.Prelude.{◌≡◌, ◌+◌, ◌*◌, ◌≤◌, ◌<◌, eqb, length};
 ghost use Rattle.words.specs.Words.{table, any_of};
 ghost use Rattle.numbers.specs.Refused.{number_of};
 ghost use Rattle.image.specs.Bytes.{u32_at};
@@ -10,6 +10,7 @@ ghost use Rattle.profile.specs.Sound.{Sized, Sound};
 
 use numbers::refusals::Refusal;
 use numbers::sizes;
+use std::marker::Model;
 
 // 11: over 4,096 groups, or a length unlike its size.
 fn bad_profile(profile: &[u8]) -> bool
@@ -46,7 +47,7 @@ fn too_dear(points: u32) -> bool
     (sizes::MOST_POINTS < points) & (points != sizes::BANNED)
 }
 
-// Whether any group's points are. Like an order check it runs to its end.
+// Whether any group's points are. Like an order check it runs to its end; a loop of its own, as `catalogue_refusals::any_above` is.
 fn any_too_dear(profile: &[u8], n: usize) -> bool
     requires { (n ≡ group_count profile.now) × (n ≤ 4096) × (4 + 8 * n ≤ length profile.now) }
     ensures { let b = profile.now in
@@ -88,19 +89,59 @@ pub fn check(profile: &[u8]) -> Result<(), Refusal>
     Ok(())
 }
 
-// The points of a group; 0 where it is not listed.
-pub fn points_of(profile: &[u8], group: i32) -> u32
-    requires { Sound profile.now }
-    ensures { result ≡ points_of (prices_of profile.now) group }
-{
-    let n = group_count(profile);
-    if n == 0 {
-        return 0;
+// A profile that is not refused: its bytes are known to be sound.
+#[derive(Drop)]
+pub struct Profile<'a> {
+    bytes: &'a [u8],
+}
+
+impl<'a> Model for Profile<'a> {
+    ghost use Rattle.std.specs.Prelude.{List, ℕ};
+    ghost use Rattle.profile.specs.Sound.{Sound};
+
+    ghost Value = { List ℕ };
+
+    ghost view = { λ s. s.bytes.now };
+
+    ghost invariant = { λ s. Sound s.bytes.now };
+}
+
+impl<'a> Profile<'a> {
+    // Of bytes that `check` passed.
+    pub fn new(bytes: &'a [u8]) -> Self
+        requires { Sound bytes.now }
+        ensures { result ≡ bytes.now }
+    {
+        Profile { bytes }
     }
-    let groups = image::part(profile, 4, 4 * n);
-    let found = keys::place_of(groups, n, group);
-    match found {
-        Some(i) => image::u32_at(profile, 4 + 4 * n + 4 * i),
-        None => 0,
+
+    // What every value of this type is: for a proof that asks for it.
+    pub fn is_sound(&self)
+        ensures { Sound self.now }
+    {
+        let _ = &self.bytes;
+    }
+
+    // Most calls bring no profile.
+    pub fn is_empty(&self) -> bool
+        ensures { result ≡ eqb (length self.now) 0 }
+    {
+        self.bytes.is_empty()
+    }
+
+    // The points of a group; 0 where it is not listed.
+    pub fn points_of(&self, group: i32) -> u32
+        ensures { result ≡ points_of (prices_of self.now) group }
+    {
+        let bytes = self.bytes;
+        let n = group_count(bytes);
+        if n == 0 {
+            return 0;
+        }
+        let groups = image::part(bytes, 4, 4 * n);
+        match keys::place_of(groups, n, group) {
+            Some(i) => image::u32_at(bytes, 4 + 4 * n + 4 * i),
+            None => 0,
+        }
     }
 }

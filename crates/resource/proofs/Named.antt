@@ -12,63 +12,64 @@ use Rattle.catalogue.specs.Catalogue.{Id, catalogue_of}
 use Rattle.catalogue.specs.Lookups.{name_id}
 use Rattle.fit.specs.Fit.{fit_of, result_of}
 use Rattle.fit.specs.Lookups.{amount}
-use Rattle.entry.specs.Wrote.{Wrote}
-use Rattle.entry.proofs.Wrote.{wrote-same, wrote-bind, wrote-bind_none}
+use Rattle.entry.specs.declared.Entries.{Entries}
+use Rattle.entry.specs.Emitted.{Emitted}
+use Rattle.entry.proofs.Emitted.{emitted-same, emitted-bind, emitted-bind_none}
 use Rattle.context.specs.Context.{Pair, Context, context}
 use Rattle.context.specs.Gathered.{pairs_of, context_of}
 use Rattle.resource.specs.Resource.{resource, launched, cargo_used, load_of, launched_drones, cargo}
 
-module _ (catalogue fit : List ℕ) {b a : List ℕ} {n k : ℕ} where
+module _ (catalogue fit : List ℕ) {b a : Entries} where
   pub drones-some : {id : Id} {used available : Float} → name_id (catalogue_of catalogue).names Names.max_active_drones ≡ Some id
       → used ≡ of_nat (launched (pairs_of catalogue fit)) → available ≡ amount (result_of fit 1) id
-      → Wrote b n a k (resource LaunchedDrones used available) → Wrote b n a k (launched_drones (context_of catalogue fit) (pairs_of catalogue fit))
+      → Emitted b a (resource LaunchedDrones used available) → Emitted b a (launched_drones (context_of catalogue fit) (pairs_of catalogue fit))
   unfolding launched_drones context_of context fit_of
   drones-some e u v w =
-      wrote-bind (λ i. resource LaunchedDrones (of_nat (launched (pairs_of catalogue fit))) (amount (result_of fit 1) i)) e
-      (wrote-same (ap₂ (resource LaunchedDrones) u v) w)
+      emitted-bind (λ i. resource LaunchedDrones (of_nat (launched (pairs_of catalogue fit))) (amount (result_of fit 1) i)) e
+      (emitted-same (ap₂ (resource LaunchedDrones) u v) w)
 
   pub cargo-some : {id : Id} {used available : Float} → name_id (catalogue_of catalogue).names Names.capacity ≡ Some id
       → used ≡ cargo_used (pairs_of catalogue fit) → available ≡ amount (result_of fit 0) id
-      → Wrote b n a k (resource CargoBay used available) → Wrote b n a k (cargo (context_of catalogue fit) (pairs_of catalogue fit))
+      → Emitted b a (resource CargoBay used available) → Emitted b a (cargo (context_of catalogue fit) (pairs_of catalogue fit))
   unfolding cargo context_of context fit_of
   cargo-some e u v w =
-      wrote-bind (λ i. resource CargoBay (cargo_used (pairs_of catalogue fit)) (amount (result_of fit 0) i)) e
-      (wrote-same (ap₂ (resource CargoBay) u v) w)
+      emitted-bind (λ i. resource CargoBay (cargo_used (pairs_of catalogue fit)) (amount (result_of fit 0) i)) e
+      (emitted-same (ap₂ (resource CargoBay) u v) w)
 
   pub load-some : (kind : Resource) (load output : ℕ) {l o : Id} {used available : Float} → name_id (catalogue_of catalogue).names load ≡ Some l
       → name_id (catalogue_of catalogue).names output ≡ Some o → used ≡ amount (result_of fit 0) l → available ≡ amount (result_of fit 0) o
-      → Wrote b n a k (resource kind used available) → Wrote b n a k (load_of (context_of catalogue fit) (kind, load, output))
+      → Emitted b a (resource kind used available) → Emitted b a (load_of (context_of catalogue fit) (kind, load, output))
   unfolding context_of context fit_of
   load-some kind load output {l} e g u v w =
       let ship = amount (result_of fit 0) in
-      wrote-bind (λ i. ◌>>=◌ (name_id (catalogue_of catalogue).names output) (λ j. resource kind (ship i) (ship j))) e
-      (wrote-bind (λ j. resource kind (ship l) (ship j)) g (wrote-same (ap₂ (resource kind) u v) w))
+      emitted-bind (λ i. ◌>>=◌ (name_id (catalogue_of catalogue).names output) (λ j. resource kind (ship i) (ship j))) e
+      (emitted-bind (λ j. resource kind (ship l) (ship j)) g (emitted-same (ap₂ (resource kind) u v) w))
 
-module _ (catalogue fit : List ℕ) {b : List ℕ} {n : ℕ} where
+module _ (catalogue fit : List ℕ) {b : Entries} where
   pub drones-none : name_id (catalogue_of catalogue).names Names.max_active_drones ≡ None
-      → Wrote b n b n (launched_drones (context_of catalogue fit) (pairs_of catalogue fit))
+      → Emitted b b (launched_drones (context_of catalogue fit) (pairs_of catalogue fit))
   unfolding launched_drones context_of context fit_of
-  drones-none e = wrote-bind_none (λ i. resource LaunchedDrones (of_nat (launched (pairs_of catalogue fit))) (amount (result_of fit 1) i)) e
+  drones-none e = emitted-bind_none (λ i. resource LaunchedDrones (of_nat (launched (pairs_of catalogue fit))) (amount (result_of fit 1) i)) e
 
-  pub cargo-none : name_id (catalogue_of catalogue).names Names.capacity ≡ None → Wrote b n b n (cargo (context_of catalogue fit) (pairs_of catalogue fit))
+  pub cargo-none : name_id (catalogue_of catalogue).names Names.capacity ≡ None → Emitted b b (cargo (context_of catalogue fit) (pairs_of catalogue fit))
   unfolding cargo context_of context fit_of
-  cargo-none e = wrote-bind_none (λ i. resource CargoBay (cargo_used (pairs_of catalogue fit)) (amount (result_of fit 0) i)) e
+  cargo-none e = emitted-bind_none (λ i. resource CargoBay (cargo_used (pairs_of catalogue fit)) (amount (result_of fit 0) i)) e
 
   pub load-none : (kind : Resource) (load output : ℕ) → name_id (catalogue_of catalogue).names load ≡ None
-      → Wrote b n b n (load_of (context_of catalogue fit) (kind, load, output))
+      → Emitted b b (load_of (context_of catalogue fit) (kind, load, output))
   unfolding context_of context fit_of
   load-none kind load output e =
       let ship = amount (result_of fit 0) in
-      wrote-bind_none (λ i. ◌>>=◌ (name_id (catalogue_of catalogue).names output) (λ j. resource kind (ship i) (ship j))) e
+      emitted-bind_none (λ i. ◌>>=◌ (name_id (catalogue_of catalogue).names output) (λ j. resource kind (ship i) (ship j))) e
 
   pub load-half : (kind : Resource) (load output : ℕ) {l : Id} → name_id (catalogue_of catalogue).names load ≡ Some l
       → name_id (catalogue_of catalogue).names output ≡ None
-      → Wrote b n b n (load_of (context_of catalogue fit) (kind, load, output))
+      → Emitted b b (load_of (context_of catalogue fit) (kind, load, output))
   unfolding context_of context fit_of
   load-half kind load output {l} e g =
       let ship = amount (result_of fit 0) in
-      wrote-bind (λ i. ◌>>=◌ (name_id (catalogue_of catalogue).names output) (λ j. resource kind (ship i) (ship j))) e
-      (wrote-bind_none (λ j. resource kind (ship l) (ship j)) g)
+      emitted-bind (λ i. ◌>>=◌ (name_id (catalogue_of catalogue).names output) (λ j. resource kind (ship i) (ship j))) e
+      (emitted-bind_none (λ j. resource kind (ship l) (ship j)) g)
 
 -- ---- how many entries
 few-resource : (kind : Resource) (used available : Float) → length (resource kind used available) ≤ 1

@@ -8,15 +8,17 @@ ghost use Rattle.numbers.specs.Slots as Slots;
 ghost use Rattle.floats.specs.Floats.{of_nat};
 ghost use Rattle.fit.specs.Fit.{result_of};
 ghost use Rattle.fit.specs.Lookups.{amount};
-ghost use Rattle.fit.specs.Sound as Fit;
-ghost use Rattle.entry.specs.Wrote.{Wrote, Room};
+ghost use Rattle.entry.specs.Wrote.{Room};
+ghost use Rattle.entry.specs.Emitted.{Emitted};
 ghost use Rattle.context.specs.Context.{is_in};
-ghost use Rattle.context.specs.Gathered.{pair_count, pair_at, pairs_of, context_of, Gathered};
+ghost use Rattle.context.specs.Gathered.{pair_count};
+ghost use Rattle.context.specs.Held.{pair_in, pairs_in, context_in};
 ghost use Rattle.resource.specs.Rows.{row_of};
 ghost use Rattle.resource.specs.Resource.{is_launched, launched, cargo_volume, cargo_used};
 ghost use Rattle.resource.specs.Resource.{resource, load_of, loads, launched_drones, cargo, resources};
 
-use entry::{Entry, Rule, Target};
+use context::Context;
+use entry::{Entries, Entry, Rule, Target};
 use floats::Load;
 use numbers::{Resource, names, slots, states};
 
@@ -83,96 +85,74 @@ const LOADS: [Row; 10] = [
 ];
 
 // An entry about the ship, where its load is over.
-fn resource(kind: Resource, load: Load, out: &mut [u8], n: usize) -> usize
-    requires { Room n 1 }
-    ensures { Wrote out.old n out.new result (resource kind load.used load.available) }
+fn resource(kind: Resource, load: Load, entries: &mut Entries)
+    requires { Room entries.old.n 1 }
+    ensures { Emitted entries.old entries.new (resource kind load.used load.available) }
 {
-    entry::emit_when(
-        out,
-        n,
-        floats::over(load),
-        Entry {
-            target: Target::Ship,
-            rule: Rule::Resource(kind, load.used, load.available),
-        },
-    )
+    let target = Target::Ship;
+    let rule = Rule::Resource(kind, load.used, load.available);
+    entries.emit_when(floats::over(load), Entry { target, rule });
 }
 
 // What is used of a resource and how much the ship has of it.
-fn load_on_ship(fit: &[u8], facts: &[u32; 2058], load: i32, output: i32) -> Load
-    requires { Fit.Sound fit.now × Fit.Starts fit.now facts.now }
-    ensures { let ship = amount (result_of fit.now 0) in
+fn load_on_ship(context: &Context, load: i32, output: i32) -> Load
+    ensures { let ship = amount (result_of context.now.fit.now 0) in
         (result.used ≡ ship load) × (result.available ≡ ship output) }
 {
     Load {
-        used: fit::amount(fit, facts, 0, load),
-        available: fit::amount(fit, facts, 0, output),
+        used: context.fit.amount(0, load),
+        available: context.fit.amount(0, output),
     }
 }
 
 // One row of the loads, where both names have ids.
-fn load_row(
-    catalogue: &[u8],
-    fit: &[u8],
-    facts: &[u32; 2058],
-    row: Row,
-    out: &mut [u8],
-    n: usize,
-) -> usize
-    requires { Gathered catalogue.now fit.now facts.now × Room n 1 }
-    ensures { let x = context_of catalogue.now fit.now in
-        Wrote out.old n out.new result (load_of x (row_of row)) }
+fn load_row(context: &Context, row: Row, entries: &mut Entries)
+    requires { Room entries.old.n 1 }
+    ensures { Emitted entries.old entries.new (load_of (context_in context.now) (row_of row)) }
 {
-    let used = catalogue::attribute_id(catalogue, row.load);
-    let available = catalogue::attribute_id(catalogue, row.output);
-    match used {
-        Some(u) => match available {
-            Some(a) => resource(row.resource, load_on_ship(fit, facts, u, a), out, n),
-            None => n,
-        },
-        None => n,
-    }
+    let Some(load) = context.catalogue.attribute_id(row.load) else {
+        return;
+    };
+    let Some(output) = context.catalogue.attribute_id(row.output) else {
+        return;
+    };
+    resource(row.resource, load_on_ship(context, load, output), entries);
 }
 
-fn loads(catalogue: &[u8], fit: &[u8], facts: &[u32; 2058], out: &mut [u8], n: usize) -> usize
-    requires { Gathered catalogue.now fit.now facts.now × Room n 10 }
-    ensures { let x = context_of catalogue.now fit.now in
-        Wrote out.old n out.new result (loads x) × (result ≤ n + 10) }
+fn loads(context: &Context, entries: &mut Entries)
+    requires { Room entries.old.n 10 }
+    ensures { Emitted entries.old entries.new (loads (context_in context.now)) × (entries.new.n ≤ entries.old.n + 10) }
 {
-    let mut k = n;
     for row in LOADS {
-        k = load_row(catalogue, fit, facts, row, out, k);
+        load_row(context, row, entries);
     }
-    k
 }
 
 // A stack of drones that is in space.
-fn launched_at(fit: &[u8], i: usize) -> u64
-    requires { Fit.Sound fit.now × (i < pair_count fit.now) }
-    ensures { ((catalogue : List ℕ) → let p = pair_at catalogue fit.now i in result ≡ (if is_launched p then p.quantity else 0))
-        × (result < 4294967296) }
+fn launched_at(context: &Context, i: usize) -> u64
+    requires { i < pair_count context.now.fit.now }
+    ensures { let p = pair_in context.now i in
+        (result ≡ (if is_launched p then p.quantity else 0)) × (result < 4294967296) }
 {
-    let slot = fit::item_slot(fit, i);
+    let slot = context.fit.item_slot(i);
     if slot != slots::DRONE_BAY {
         return 0;
     }
-    let state = fit::result_state(fit, i + 2);
+    let state = context.fit.result_state(i + 2);
     if state < states::ACTIVE {
         return 0;
     }
-    fit::item_quantity(fit, i) as u64
+    u64::from(context.fit.item_quantity(i))
 }
 
 // How many drones are in space, rather than how much room they take up, and how many there may be. 256 stacks of the largest
 // quantity do not wrap.
-fn drones_load(fit: &[u8], available: f64) -> Load
-    requires { Fit.Sound fit.now }
-    ensures { ((catalogue : List ℕ) → result.used ≡ of_nat (launched (pairs_of catalogue fit.now)))
-        × (result.available ≡ available) }
+fn drones_load(context: &Context, available: f64) -> Load
+    ensures { (result.used ≡ of_nat (launched (pairs_in context.now))) × (result.available ≡ available) }
 {
     let mut sum: u64 = 0;
-    for i in 0..fit::pair_count(fit) {
-        sum += launched_at(fit, i);
+    for i in 0..context.fit.pair_count() {
+        sum += launched_at(context, i);
     }
     Load {
         used: std::num::nearest_u64_to_f64(sum),
@@ -180,99 +160,75 @@ fn drones_load(fit: &[u8], available: f64) -> Load
     }
 }
 
-fn launched_drones(
-    catalogue: &[u8],
-    fit: &[u8],
-    facts: &[u32; 2058],
-    out: &mut [u8],
-    n: usize,
-) -> usize
-    requires { Gathered catalogue.now fit.now facts.now × Room n 1 }
-    ensures { let x = context_of catalogue.now fit.now in
-        let ps = pairs_of catalogue.now fit.now in
-        Wrote out.old n out.new result (launched_drones x ps) × (result ≤ n + 1) }
+fn launched_drones(context: &Context, entries: &mut Entries)
+    requires { Room entries.old.n 1 }
+    ensures { let x = context_in context.now in
+        let ps = pairs_in context.now in
+        Emitted entries.old entries.new (launched_drones x ps) × (entries.new.n ≤ entries.old.n + 1) }
 {
-    let max_active = catalogue::attribute_id(catalogue, names::MAX_ACTIVE_DRONES);
-    match max_active {
-        Some(id) => resource(
-            Resource::LaunchedDrones,
-            drones_load(fit, fit::amount(fit, facts, 1, id)),
-            out,
-            n,
-        ),
-        None => n,
-    }
+    let Some(id) = context.catalogue.attribute_id(names::MAX_ACTIVE_DRONES) else {
+        return;
+    };
+    let load = drones_load(context, context.fit.amount(1, id));
+    resource(Resource::LaunchedDrones, load, entries);
 }
 
 // The room that pair i takes up in the cargo bay. A type that the catalogue lacks takes up none.
-fn room_at(catalogue: &[u8], fit: &[u8], facts: &[u32; 2058], i: usize) -> f64
-    requires { Gathered catalogue.now fit.now facts.now × (i < pair_count fit.now) }
-    ensures { result ≡ cargo_volume (pair_at catalogue.now fit.now i) }
+fn room_at(context: &Context, i: usize) -> f64
+    requires { i < pair_count context.now.fit.now }
+    ensures { result ≡ cargo_volume (pair_in context.now i) }
 {
-    let quantity = fit::item_quantity(fit, i);
-    let volume = context::type_at(catalogue, fit, facts, i).map_or(0.0, |info| info.volume);
+    let quantity = context.fit.item_quantity(i);
+    let volume = context.type_at(i).map_or(0.0, |info| info.volume);
     volume * floats::of_u32(quantity)
 }
 
 // The cargo so far with what pair i adds to it.
-fn cargo_with(catalogue: &[u8], fit: &[u8], facts: &[u32; 2058], sum: f64, i: usize) -> f64
-    requires { Gathered catalogue.now fit.now facts.now × (i < pair_count fit.now) }
-    ensures { let p = pair_at catalogue.now fit.now i in
+fn cargo_with(context: &Context, sum: f64, i: usize) -> f64
+    requires { i < pair_count context.now.fit.now }
+    ensures { let p = pair_in context.now i in
         result ≡ (if is_in Slots.cargo p then add binary64 sum (cargo_volume p) else sum) }
 {
-    let slot = fit::item_slot(fit, i);
+    let slot = context.fit.item_slot(i);
     if slot != slots::CARGO {
         return sum;
     }
-    sum + room_at(catalogue, fit, facts, i)
+    sum + room_at(context, i)
 }
 
 // What the cargo takes up and how much the ship holds. Cargo is not calculated, so what it takes up comes from the type itself.
-fn cargo_load(catalogue: &[u8], fit: &[u8], facts: &[u32; 2058], capacity: i32) -> Load
-    requires { Gathered catalogue.now fit.now facts.now }
-    ensures { (result.used ≡ cargo_used (pairs_of catalogue.now fit.now))
-        × (result.available ≡ amount (result_of fit.now 0) capacity) }
+fn cargo_load(context: &Context, capacity: i32) -> Load
+    ensures { (result.used ≡ cargo_used (pairs_in context.now))
+        × (result.available ≡ amount (result_of context.now.fit.now 0) capacity) }
 {
-    let available = fit::amount(fit, facts, 0, capacity);
+    let available = context.fit.amount(0, capacity);
     let mut used = 0.0;
-    for i in 0..fit::pair_count(fit) {
-        used = cargo_with(catalogue, fit, facts, used, i);
+    for i in 0..context.fit.pair_count() {
+        used = cargo_with(context, used, i);
     }
     Load { used, available }
 }
 
-fn cargo(catalogue: &[u8], fit: &[u8], facts: &[u32; 2058], out: &mut [u8], n: usize) -> usize
-    requires { Gathered catalogue.now fit.now facts.now × Room n 1 }
-    ensures { let x = context_of catalogue.now fit.now in
-        let ps = pairs_of catalogue.now fit.now in
-        Wrote out.old n out.new result (cargo x ps) × (result ≤ n + 1) }
+fn cargo(context: &Context, entries: &mut Entries)
+    requires { Room entries.old.n 1 }
+    ensures { let x = context_in context.now in
+        let ps = pairs_in context.now in
+        Emitted entries.old entries.new (cargo x ps) × (entries.new.n ≤ entries.old.n + 1) }
 {
-    let capacity = catalogue::attribute_id(catalogue, names::CAPACITY);
-    match capacity {
-        Some(id) => resource(
-            Resource::CargoBay,
-            cargo_load(catalogue, fit, facts, id),
-            out,
-            n,
-        ),
-        None => n,
-    }
+    let Some(id) = context.catalogue.attribute_id(names::CAPACITY) else {
+        return;
+    };
+    resource(Resource::CargoBay, cargo_load(context, id), entries);
 }
 
 // resource.rs, `validate`.
-pub fn validate(
-    catalogue: &[u8],
-    fit: &[u8],
-    facts: &[u32; 2058],
-    out: &mut [u8],
-    n: usize,
-) -> usize
-    requires { Gathered catalogue.now fit.now facts.now × Room n 12 }
-    ensures { let x = context_of catalogue.now fit.now in
-        let ps = pairs_of catalogue.now fit.now in
-        Wrote out.old n out.new result (resources x ps) × (result ≤ n + 12) }
+pub fn validate(context: &Context, entries: &mut Entries)
+    requires { Room entries.old.n 12 }
+    ensures { let x = context_in context.now in
+        let ps = pairs_in context.now in
+        Emitted entries.old entries.new (resources x ps) × (entries.new.n ≤ entries.old.n + 12) }
 {
-    let a = loads(catalogue, fit, facts, out, n);
-    let b = launched_drones(catalogue, fit, facts, out, a);
-    cargo(catalogue, fit, facts, out, b)
+    loads(context, entries);
+    launched_drones(context, entries);
+    cargo(context, entries);
 }

@@ -6,7 +6,7 @@ use mathlib.Core.Path.{◌≡◌, refl, sym, ap, ◌∙◌, subst}
 use mathlib.Core.Bool.{Bool, true, false, not}
 use mathlib.Core.List.{List}
 use Rattle.std.specs.Prelude.{Option, Ok}
-use lib.Dec.{T, ltb, nltb→le, not_T, ltb→lt}
+use lib.Dec.{T, ltb, nltb→le}
 use lib.ListN.{length}
 use borrow.Author.Tests.{lt-ltb, ltb-true}
 use Rattle.words.specs.Words.{given}
@@ -23,14 +23,6 @@ module _ (c : Catalogue) (r : Result) where
   pub walk_same : (m n : ℕ) → m ≤ n → T (not (wants_too_many m c r)) → walk_within n c r ≡ walk_within m c r
   unfolding walk_within wants_too_many
   walk_same m n h t = ap noted (met-stays c r m n h (nltb→le m (length (noted (met c r m))) t))
-
-  -- what is not too many for a smaller limit is not for a larger one
-  pub few-larger : (m n : ℕ) → m ≤ n → T (not (wants_too_many m c r)) → T (not (wants_too_many n c r))
-  unfolding wants_too_many
-  few-larger m n h t =
-      let k = nltb→le m (length (walk_within m c r)) t in
-      let e = ap (λ (l : List Demand). length l) (walk_same m n h t) in
-      not_T (ltb n (length (walk_within n c r))) λ b. let q = ltb→lt n (length (walk_within n c r)) b in omega arith
 
   pub small-limit : (m n : ℕ) → m ≤ n → wants_too_many m c r ≡ ltb m (length (walk_within n c r))
   unfolding wants_too_many

@@ -30,9 +30,6 @@ pub no_ok : {A E : Type 0} (r : Result A E) → IsErr r → IsOk r → ⊥
 no_ok (Ok x) e k = cc
 no_ok (Err x) e k = cc
 
-pub no_err : {A E : Type 0} (r : Result A E) → IsOk r → IsErr r → ⊥
-no_err r k e = no_ok r e k
-
 -- ---- some demands more
 pub noted-more : (start ws : List Demand) (ds es : List Demand) → ws ≡ foldl note start ds → foldl note ws es ≡ foldl note start (ds ++ es)
 noted-more start ws ds es e = ap (λ (l : List Demand). foldl note l es) e ∙ sym (foldl-append note start ds es)

@@ -13,11 +13,8 @@ use mir.Val.{of_z, to_z, SFits}
 use mir.ValLaws.{to_z-of_z}
 use Rattle.words.specs.Words.{◌>>=◌, each}
 use Rattle.words.proofs.Steps.{each_append, each_step}
-use Rattle.catalogue.specs.Catalogue.{Id, Catalogue, catalogue_of}
+use Rattle.catalogue.specs.Catalogue.{Id, Catalogue}
 use Rattle.catalogue.specs.Lookups.{base_value}
-use Rattle.catalogue.specs.Walks.{SpanOf, span_value}
-use Rattle.catalogue.specs.declared.Span.{Span}
-use Rattle.catalogue.proofs.Walking.{span_value_lem}
 use Rattle.fit.specs.Fit.{Result}
 use Rattle.fit.specs.Lookups.{value}
 use Rattle.skill.specs.Held.{requirements_of, Reads}
@@ -101,10 +98,3 @@ module _ (c : Catalogue) (rs : List Requirement) (e : rs ≡ required c) where
   pub skill-asks : (t : Id) → each rs (demand_of (base_value c t)) ≡ of_skill c t
   unfolding of_skill demands
   skill-asks t = ap (λ (l : List Requirement). each l (demand_of (base_value c t))) e
-
--- a requirement asks by the span of a type as by its base values
-pub span_asks : (b : List ℕ) (t : Id) (s : Span) (r : Requirement) → SpanOf b t s
-    → demand_of (span_value b s.from s.to) r ≡ demand_of (base_value (catalogue_of b) t) r
-unfolding demand_of
-span_asks b t s r run =
-    ap₂ (λ (x y : Option Float). ◌>>=◌ x (λ v. demand v y ∷ [])) (span_value_lem b t r.0 s run) (span_value_lem b t r.1 s run)

@@ -6,15 +6,16 @@ ghost use Rattle.words.specs.Words.{each, table, any_of, same};
 ghost use Rattle.numbers.specs.Sizes as Sizes;
 ghost use Rattle.numbers.specs.Sizes.{most_wanted};
 ghost use Rattle.catalogue.specs.Catalogue.{Id, catalogue_of};
-ghost use Rattle.catalogue.specs.Sound as Catalogue;
 ghost use Rattle.fit.specs.Fit.{fit_of, result_count};
-ghost use Rattle.fit.specs.Sound as Fit;
-ghost use Rattle.entry.specs.Wrote.{Wrote, Room};
+ghost use Rattle.entry.specs.Wrote.{Room, Wrote};
+ghost use Rattle.entry.specs.Emitted.{Emitted};
 ghost use Rattle.skill.specs.Skill as Skill;
 ghost use Rattle.skill.specs.Skill.{requirement_of, required, demand_of, target_of, entry_of, reported};
 ghost use Rattle.skill.specs.Held.{requirements_of, walk_of, Reads, New, LevelRises, PlacedAt, Noted, Notes, HoldsWanted};
 
-use entry::{Entry, Rule, Target};
+use catalogue::Catalogue;
+use entry::{Entries, Entry, Rule, Target};
+use fit::Fit;
 use numbers::names;
 use numbers::sizes::MOST_WANTED;
 
@@ -42,18 +43,16 @@ pub struct Walk {
 }
 
 // The attributes of a row's skill and of its level, where both names have one.
-fn requirement(catalogue: &[u8], row: (u32, u32)) -> Option<(i32, i32)>
-    requires { Catalogue.Sound catalogue.now }
+fn requirement(catalogue: &Catalogue, row: (u32, u32)) -> Option<(i32, i32)>
     ensures { option_to_list result ≡ requirement_of (catalogue_of catalogue.now) row }
 {
-    let skill = catalogue::attribute_id(catalogue, row.0)?;
-    let level = catalogue::attribute_id(catalogue, row.1)?;
+    let skill = catalogue.attribute_id(row.0)?;
+    let level = catalogue.attribute_id(row.1)?;
     Some((skill, level))
 }
 
 // The names are looked up once for the whole walk.
-fn required_of(catalogue: &[u8]) -> [Option<(i32, i32)>; 6]
-    requires { Catalogue.Sound catalogue.now }
+fn required_of(catalogue: &Catalogue) -> [Option<(i32, i32)>; 6]
     ensures { requirements_of result ≡ required (catalogue_of catalogue.now) }
 {
     let mut required = [None; 6];
@@ -81,10 +80,15 @@ fn asked<F: Fn(i32) -> Option<f64>>(look: F, skill: i32, level: i32) -> Option<(
 }
 
 // The first place of an id.
+#[tactic(auto, using(words::proofs::Ids::bits_same))]
 fn first_place(ids: &[i32], id: i32) -> Option<usize>
     ensures { result ≡ position (λ x. same x id) ids.now }
 {
-    ids.iter().position(|x| words::same_id(*x, id))
+    ids.iter().position(
+        |x: &i32| -> bool
+            ensures { result ≡ same x.now id }
+        { *x == id },
+    )
 }
 
 impl Walk {
@@ -105,7 +109,7 @@ impl Walk {
     {
         let mut found = false;
         for i in 0..self.len {
-            found = words::either(found, words::same_id(self.ids[i], id));
+            found |= self.ids[i] == id;
         }
         found
     }
@@ -190,24 +194,18 @@ impl Walk {
 
 // The whole tree of skills depending on skills. The walk goes on while skills are added; a skill is added once, so it ends even where
 // skills point at one another.
-pub fn wanted_skills(
-    catalogue: &[u8],
-    fit: &[u8],
-    starts: &[u32; 259],
-    res: usize,
-) -> Result<Walk, TooMany>
-    requires { Catalogue.Sound catalogue.now × Fit.Sound fit.now × Fit.Starts fit.now starts.now
-        × (res < result_count fit.now + 2) }
+pub fn wanted_skills(catalogue: &Catalogue, fit: &Fit, res: usize) -> Result<Walk, TooMany>
+    requires { res < result_count fit.now + 2 }
     ensures { HoldsWanted catalogue.now fit.now res result }
 {
     let required = required_of(catalogue);
     let mut walk = Walk::new();
-    walk.note_all(&required, |id| fit::value(fit, starts, res, id))?;
+    walk.note_all(&required, |id| fit.value(res, id))?;
     let mut next: usize = 0;
     // a while: the walk grows as it is walked
     while next < walk.len {
-        let span = catalogue::bases_of(catalogue, walk.ids[next]);
-        walk.note_all(&required, |id| catalogue::base_value(catalogue, span, id))?;
+        let span = catalogue.bases_of(walk.ids[next]);
+        walk.note_all(&required, |id| catalogue.base_value(span, id))?;
         next += 1;
     }
     Ok(walk)
@@ -225,32 +223,40 @@ fn target_of(res: usize) -> Target
 }
 
 // An entry where a wanted skill is trained lower.
-fn report_skill(fit: &[u8], res: usize, id: i32, wanted: u8, out: &mut [u8], n: usize) -> usize
-    requires { Fit.Sound fit.now × (res < Sizes.word) × Room n 1 }
-    ensures { Wrote out.old n out.new result (entry_of (fit_of fit.now) res (id, wanted)) }
+fn report_skill(fit: &Fit, res: usize, id: i32, wanted: u8, entries: &mut Entries)
+    requires { (res < Sizes.word) × Room entries.old.n 1 }
+    ensures { Emitted entries.old entries.new (entry_of (fit_of fit.now) res (id, wanted)) }
 {
-    let trained = fit::trained_level(fit, id);
-    entry::emit_when(
-        out,
-        n,
+    let trained = fit.trained_level(id);
+    entries.emit_when(
         trained < wanted,
         Entry {
             target: target_of(res),
             rule: Rule::Skill(id, wanted, trained),
         },
-    )
+    );
 }
 
 // The wanted skills that are trained lower, in the walk's order.
-pub fn report(fit: &[u8], res: usize, walk: Walk, out: &mut [u8], n: usize) -> usize
-    requires { Fit.Sound fit.now × (res < result_count fit.now + 2) × (walk.len ≤ most_wanted) × Room n most_wanted }
+pub fn report(fit: &Fit, res: usize, walk: Walk, entries: &mut Entries)
+    requires { (res < result_count fit.now + 2) × (walk.len ≤ most_wanted) × Room entries.old.n most_wanted }
     ensures { let es = reported (fit_of fit.now) res (walk_of walk) in
-        Wrote out.old n out.new result es × (result ≤ n + most_wanted) }
+        Emitted entries.old entries.new es × (entries.new.n ≤ entries.old.n + most_wanted) }
 {
-    let mut k = n;
+    fit.is_sound();
     // an index: two arrays are read in step
     for i in 0..walk.len {
-        k = report_skill(fit, res, walk.ids[i], walk.levels[i], out, k);
+        report_skill(fit, res, walk.ids[i], walk.levels[i], entries);
     }
-    k
+}
+
+// The same, from the first entry of a buffer on.
+pub fn write(fit: &Fit, res: usize, walk: Walk, out: &mut [u8]) -> usize
+    requires { (res < result_count fit.now + 2) × (walk.len ≤ most_wanted) }
+    ensures { let es = reported (fit_of fit.now) res (walk_of walk) in
+        Wrote out.old 0 out.new result es × (result ≤ most_wanted) }
+{
+    let mut entries = Entries::new(out);
+    report(fit, res, walk, &mut entries);
+    entries.count()
 }

@@ -1,48 +1,34 @@
 -- What the code of each check tells of an item is what the check's definition says of the pair.
 use Prim.Native.Nat.{ℕ, ◌+◌, ◌≤◌}
-use mathlib.Core.Path.{◌≡◌, refl, sym, ap, ◌∙◌}
-use mathlib.Core.Bool.{Bool, true, false, not, ◌&&◌, ◌||◌, cond}
+use mathlib.Core.Path.{◌≡◌, sym, ap, ◌∙◌}
+use mathlib.Core.Bool.{Bool, true, not, ◌&&◌, ◌||◌}
 use mathlib.Core.List.{List, []}
-use Rattle.std.specs.Prelude.{Option, None, Some}
-use Rattle.std.proofs.lemmas.Option.{slice_get_past}
-use lib.Dec.{eqb, leb, ltb}
-use borrow.Author.Tests.{ltb-false}
+use Rattle.std.specs.Prelude.{None, Some}
+use lib.Dec.{eqb, leb}
 use Rattle.words.specs.Words.{◌>>=◌, table, when, when_any, any_of, same}
 use Rattle.numbers.specs.declared.SlotKind.{SlotKind}
 use Rattle.numbers.specs.Slots as Slots
-use Rattle.numbers.specs.Slots.{KINDS, kind_of}
+use Rattle.numbers.specs.Slots.{kind_of}
 use Rattle.numbers.specs.Categories as Categories
 use Rattle.catalogue.specs.Catalogue.{Id}
 use Rattle.entry.specs.declared.Entry.{Entry}
 use Rattle.entry.specs.declared.Rule.{Rule}
 use Rattle.entry.specs.declared.Rule.TheVariants.{WrongSlot, NotAModule, NotADrone, NotAFighter, NotAnImplant, SlotTaken, WrongSlotIndex}
 use Rattle.entry.specs.Entries.{on_item}
-use Rattle.entry.specs.Wrote.{Wrote}
-use Rattle.entry.proofs.Wrote.{wrote-same}
+use Rattle.entry.specs.declared.Entries.{Entries}
+use Rattle.entry.specs.Emitted.{Emitted}
+use Rattle.entry.proofs.Emitted.{emitted-same}
 use Rattle.context.specs.Context.{Pair, Context, is_fitted, is_in, is_fighter_slot, is_module_category}
-use Rattle.context.specs.Gathered.{slot_in, pair_count, pair_at, pairs_of}
+use Rattle.context.specs.Gathered.{pair_count, pair_at, pairs_of}
 use Rattle.context.proofs.Pairs.{pairs-table}
 use Rattle.slot.specs.declared.Item.{Item}
 use Rattle.slot.specs.Slot.{wrong_slot, not_a_module, not_a_drone, not_a_fighter, not_an_implant, slot_taken, wrong_slot_index}
 use Rattle.slot.specs.AtPair.{expects, Holds, Checked}
 
--- an entry that shows the kind of a byte
-kind-shown : (code : ℕ) (t : ℕ → Bool) (e : SlotKind → Entry)
-    → ◌>>=◌ (kind_of code) (λ k. when (t code) (e k)) ≡ ◌>>=◌ (slot_in code) (λ s. ◌>>=◌ (kind_of s) (λ k. when (t s) (e k)))
-unfolding slot_in ◌>>=◌
-kind-shown code t e = go (ltb code 8) refl
-  where
-    found : ℕ → List Entry
-    found s = ◌>>=◌ (kind_of s) (λ k. when (t s) (e k))
-
-    go : (b : Bool) → ltb code 8 ≡ b → found code ≡ ◌>>=◌ (cond b (Some code) None) found
-    go true q = refl
-    go false q = ap (λ (o : Option SlotKind). ◌>>=◌ o (λ k. when (t code) (e k))) (slice_get_past KINDS code (ltb-false code 8 q))
-
 -- ---- what each check tells
 module _ (item : Item) where
-  abbrev pub is_misplaced : Bool
-  is_misplaced = leb item.slot Slots.service && not (eqb item.slot item.rack)
+  abbrev pub is_misplaced : ℕ → Bool
+  is_misplaced rack = leb item.slot Slots.service && not (eqb item.slot rack)
 
   abbrev pub is_of : Id → Bool
   is_of category = same item.category category
@@ -51,20 +37,18 @@ module _ (item : Item) where
   told rule = on_item item.position rule
 
   module _ (x : Context) {ps : List Pair} {p : Pair} (h : Holds x ps p item) where
-    wrong_slot-is : {o : Option SlotKind} → kind_of item.rack ≡ o → ◌>>=◌ o (λ k. when is_misplaced (told (WrongSlot k))) ≡ wrong_slot x p
-    unfolding wrong_slot is_fitted is_in
-    wrong_slot-is e =
-        ap (λ (o : Option SlotKind). ◌>>=◌ o (λ k. when is_misplaced (told (WrongSlot k)))) (sym e)
-        ∙ kind-shown item.rack (λ s. leb item.slot Slots.service && not (eqb item.slot s)) (λ k. told (WrongSlot k))
-        ∙ rw (h.rack, h.slot, h.position)
+    pub wrong_slot-no_rack : item.rack ≡ None → [] ≡ wrong_slot x p
+    unfolding wrong_slot ◌>>=◌
+    wrong_slot-no_rack e = rw (← h.rack, e)
 
-    pub wrong_slot-shown : {kind : SlotKind} → kind_of item.rack ≡ Some kind → when is_misplaced (told (WrongSlot kind)) ≡ wrong_slot x p
-    unfolding ◌>>=◌
-    wrong_slot-shown e = wrong_slot-is e
+    module _ {rack : ℕ} (e : item.rack ≡ Some rack) where
+      pub wrong_slot-none : kind_of rack ≡ None → [] ≡ wrong_slot x p
+      unfolding wrong_slot ◌>>=◌
+      wrong_slot-none q = rw (← h.rack, e, q)
 
-    pub wrong_slot-none : kind_of item.rack ≡ None → [] ≡ wrong_slot x p
-    unfolding ◌>>=◌
-    wrong_slot-none e = wrong_slot-is e
+      pub wrong_slot-shown : {kind : SlotKind} → kind_of rack ≡ Some kind → when (is_misplaced rack) (told (WrongSlot kind)) ≡ wrong_slot x p
+      unfolding wrong_slot is_fitted is_in ◌>>=◌
+      wrong_slot-shown q = rw (← h.rack, e, q, h.slot, h.position)
 
     pub not-a_module_is : when (leb item.slot Slots.service && not (is_module_category item.category)) (told NotAModule) ≡ not_a_module x p
     unfolding not_a_module is_fitted is_module_category same
@@ -98,10 +82,10 @@ module _ (item : Item) where
     index-none e = sym (ap (expects p) e) ∙ h.expected
 
 -- ---- code that writes an entry or none
-pub checked : {b a : List ℕ} {n k : ℕ} {item : Item} {es : List Entry} (check : Context → List Pair → Pair → List Entry)
-    → Wrote b n a k es × (k ≤ n + 1)
-    → ((x : Context) (ps : List Pair) (p : Pair) → Holds x ps p item → es ≡ check x ps p) → Checked 1 item check b n a k
-checked check w told = record { wrote = λ x ps p h. wrote-same (told x ps p h) w.0; few = w.1 }
+pub checked : {b a : Entries} {item : Item} {es : List Entry} (check : Context → List Pair → Pair → List Entry)
+    → Emitted b a es × (a.n ≤ b.n + 1)
+    → ((x : Context) (ps : List Pair) (p : Pair) → Holds x ps p item → es ≡ check x ps p) → Checked 1 item check b a
+checked check w told = record { wrote = λ x ps p h. emitted-same (told x ps p h) w.0; few = w.1 }
 
 -- ---- all pairs asked
 pub any-all : (t : Pair → Bool) (catalogue fit : List ℕ) {i : ℕ} {found : Bool} → i ≡ pair_count fit

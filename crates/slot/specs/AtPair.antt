@@ -8,9 +8,10 @@ use Rattle.catalogue.specs.Lookups.{name_id}
 use Rattle.fit.specs.Fit.{item_at}
 use Rattle.entry.specs.declared.Entry.{Entry}
 use Rattle.entry.specs.declared.Rule.TheVariants.{WrongSlotIndex, SubsystemTaken}
-use Rattle.entry.specs.Wrote.{Wrote}
+use Rattle.entry.specs.declared.Entries.{Entries}
+use Rattle.entry.specs.Emitted.{Emitted}
 use Rattle.context.specs.Context.{Pair, Context, on}
-use Rattle.context.specs.Gathered.{slot_in, pair_count}
+use Rattle.context.specs.Gathered.{pair_count}
 use Rattle.slot.specs.declared.Ids.{Ids}
 use Rattle.slot.specs.declared.Item.{Item}
 use Rattle.slot.specs.Slot.{holds_one, shares_slot, wrong_slot_index, subsystem_taken}
@@ -43,7 +44,7 @@ pub record Holds (x : Context) (ps : List Pair) (p : Pair) (item : Item) : Type 
   pub position : item.position ≡ p.position
   pub slot : item.slot ≡ p.slot
   pub category : item.category ≡ p.category
-  pub rack : slot_in item.rack ≡ p.rack
+  pub rack : item.rack ≡ p.rack
   pub taken : item.taken ≡ (holds_one p && any_of (shares_slot p) ps)
   pub expected : expects p item.expected ≡ wrong_slot_index x p
   pub covered : when item.covered (on p SubsystemTaken) ≡ subsystem_taken x ps p
@@ -51,6 +52,6 @@ pub record Holds (x : Context) (ps : List Pair) (p : Pair) (item : Item) : Type 
 -- code wrote what a check says of any pair that the item holds, and so many entries at most
 pub record Checked
     (most : ℕ) (item : Item) (check : Context → List Pair → Pair → List Entry)
-    (before : List ℕ) (n : ℕ) (after : List ℕ) (k : ℕ) : Type 0 where
-  pub wrote : (x : Context) (ps : List Pair) (p : Pair) → Holds x ps p item → Wrote before n after k (check x ps p)
-  pub few : k ≤ n + most
+    (before after : Entries) : Type 0 where
+  pub wrote : (x : Context) (ps : List Pair) (p : Pair) → Holds x ps p item → Emitted before after (check x ps p)
+  pub few : after.n ≤ before.n + most

@@ -1,23 +1,24 @@
 // What sits in the slots of a ship, and whether it may: validate/slot.rs, the checks of an item. How many there are is counted in `racks`.
 #![tactic(auto)]
 
-ghost use Rattle.std.specs.Prelude.{◌≡◌, not, ◌&&◌, List, ◌++◌, ℕ, ◌+◌, ◌*◌, ◌<◌, ◌≤◌};
-ghost use Rattle.std.specs.Prelude.{None};
+ghost use Rattle.std.specs.Prelude.{◌≡◌, not, ◌&&◌, ◌++◌, ◌+◌, ◌*◌, ◌<◌, ◌≤◌, None};
 ghost use Rattle.words.specs.Words.{when, given, any_of, same};
 ghost use Rattle.numbers.specs.Sizes.{most_pairs};
 ghost use Rattle.catalogue.specs.Lookups.{name_id};
-ghost use Rattle.catalogue.specs.Sound as Catalogue;
-ghost use Rattle.fit.specs.Sound as Fit;
 ghost use Rattle.entry.specs.declared.Rule.TheVariants.{SubsystemTaken};
 ghost use Rattle.entry.specs.Entries.{on_item};
-ghost use Rattle.entry.specs.Wrote.{Wrote, Room};
+ghost use Rattle.entry.specs.Wrote.{Room};
+ghost use Rattle.entry.specs.Emitted.{Emitted};
 ghost use Rattle.context.specs.Context.{on};
-ghost use Rattle.context.specs.Gathered.{pair_count, pair_at, pairs_of, context_of, Gathered};
+ghost use Rattle.context.specs.Gathered.{pair_count};
+ghost use Rattle.context.specs.Held.{pair_in, pairs_in, context_in};
 ghost use Rattle.slot.specs.Slot.{wrong_slot, not_a_module, not_a_drone, not_a_fighter, not_an_implant, slot_number_name, wrong_slot_index};
 ghost use Rattle.slot.specs.Slot.{holds_one, shares_slot, shares_part, subsystem_taken, slot_checks, slot_rules};
 ghost use Rattle.slot.specs.AtPair.{Named, Sits, Places, Holds, Checked, expects};
 
-use entry::{Entry, Rule, Target};
+use catalogue::Catalogue;
+use context::Context;
+use entry::{Entries, Entry, Rule, Target};
 use numbers::{SlotKind, categories, names, slots};
 
 // The attributes that the checks look up by name.
@@ -28,15 +29,13 @@ struct Ids {
     part: Option<i32>,
 }
 
-// The attributes, looked up once for all pairs.
-fn ids_of(catalogue: &[u8]) -> Ids
-    requires { Catalogue.Sound catalogue.now }
+fn ids_of(catalogue: &Catalogue) -> Ids
     ensures { Named catalogue.now result }
 {
     Ids {
-        implantness: catalogue::attribute_id(catalogue, names::IMPLANTNESS),
-        boosterness: catalogue::attribute_id(catalogue, names::BOOSTERNESS),
-        part: catalogue::attribute_id(catalogue, names::SUBSYSTEM_SLOT),
+        implantness: catalogue.attribute_id(names::IMPLANTNESS),
+        boosterness: catalogue.attribute_id(names::BOOSTERNESS),
+        part: catalogue.attribute_id(names::SUBSYSTEM_SLOT),
     }
 }
 
@@ -47,303 +46,288 @@ fn place_of(slot: u8, index: u16) -> u32
     slot as u32 * 65536 + index as u32
 }
 
-// Where each pair sits, gathered once for all pairs.
-fn places(fit: &[u8]) -> [u32; 256]
-    requires { Fit.Sound fit.now }
-    ensures { Places fit.now result }
+fn places(context: &Context) -> [u32; 256]
+    ensures { Places context.now.fit.now result }
 {
     let mut places = [0u32; 256];
-    for i in 0..fit::pair_count(fit) {
-        places[i] = place_of(fit::item_slot(fit, i), fit::item_index(fit, i));
+    for i in 0..context.fit.pair_count() {
+        places[i] = place_of(context.fit.item_slot(i), context.fit.item_index(i));
     }
     places
 }
 
 // The slots that hold a single item; a bay holds as many as fit in it.
-fn holds_one(fit: &[u8], i: usize) -> bool
-    requires { Fit.Sound fit.now × (i < pair_count fit.now) }
-    ensures { (catalogue : List ℕ) → result ≡ holds_one (pair_at catalogue fit.now i) }
+fn holds_one(context: &Context, i: usize) -> bool
+    requires { i < pair_count context.now.fit.now }
+    ensures { result ≡ holds_one (pair_in context.now i) }
 {
-    let slot = fit::item_slot(fit, i);
+    let slot = context.fit.item_slot(i);
     !((slot == slots::DRONE_BAY) | (slot == slots::FIGHTER_BAY) | (slot == slots::CARGO))
 }
 
-// Whether another pair is in the slot of pair i. The pair itself is counted too, and the loop runs to its end, so that the
-// compiler can take many pairs at once; `filter` and `count`, which count in 64 bits, take 3 times as many instructions.
-fn shares_slot(fit: &[u8], places: &[u32; 256], i: usize) -> bool
-    requires { Fit.Sound fit.now × Places fit.now places.now × (i < pair_count fit.now) }
-    ensures { let f = fit.now in
-        ((catalogue : List ℕ) → result ≡ any_of (shares_slot (pair_at catalogue f i)) (pairs_of catalogue f)) }
-{
-    let pairs = fit::pair_count(fit);
-    let place = places[i];
-    let mut there: u32 = 0;
-    for j in 0..pairs {
-        there += (places[j] == place) as u32;
-    }
-    1 < there
-}
-
-fn slot_taken(fit: &[u8], places: &[u32; 256], i: usize) -> bool
-    requires { Fit.Sound fit.now × Places fit.now places.now × (i < pair_count fit.now) }
-    ensures { let f = fit.now in
-        ((catalogue : List ℕ) →
-        result ≡ (holds_one (pair_at catalogue f i) && any_of (shares_slot (pair_at catalogue f i)) (pairs_of catalogue f))) }
-{
-    holds_one(fit, i) && shares_slot(fit, places, i)
-}
-
-// The attribute in which an implant or a booster names its slot.
-fn slot_number(catalogue: &[u8], fit: &[u8], ids: Ids, i: usize) -> Option<i32>
-    requires { Fit.Sound fit.now × Named catalogue.now ids × (i < pair_count fit.now) }
-    ensures { let x = context_of catalogue.now fit.now in
-        let p = pair_at catalogue.now fit.now i in
-        result ≡ given (slot_number_name p) None (name_id x.names) }
-{
-    match fit::item_slot(fit, i) {
-        slots::IMPLANT => ids.implantness,
-        slots::BOOSTER => ids.boosterness,
-        _ => None,
-    }
-}
-
-// An implant and a booster sit in a numbered slot of their own, which the item names itself.
-fn wrong_slot_index(
-    catalogue: &[u8],
-    fit: &[u8],
-    facts: &[u32; 2058],
-    ids: Ids,
-    i: usize,
-) -> Option<u16>
-    requires { Gathered catalogue.now fit.now facts.now × Named catalogue.now ids × (i < pair_count fit.now) }
-    ensures { let x = context_of catalogue.now fit.now in
-        let p = pair_at catalogue.now fit.now i in
-        expects p result ≡ wrong_slot_index x p }
-{
-    let id = slot_number(catalogue, fit, ids, i)?;
-    let value = fit::value(fit, facts, i + 2, id)?;
-    let expected = floats::to_u16(value);
-    if expected == fit::item_index(fit, i) {
-        return None;
-    }
-    Some(expected)
-}
-
 // Whether pair j is a subsystem for the part, and another than pair i. A NaN is no part.
-fn same_part(fit: &[u8], facts: &[u32; 2058], id: i32, part: f64, i: usize, j: usize) -> bool
-    requires { Fit.Sound fit.now × Fit.Starts fit.now facts.now × (j < pair_count fit.now) }
-    ensures { let f = fit.now in
-        ((catalogue : List ℕ) → result ≡ shares_part id part (pair_at catalogue f i) (pair_at catalogue f j)) }
+fn same_part(context: &Context, id: i32, part: f64, i: usize, j: usize) -> bool
+    requires { j < pair_count context.now.fit.now }
+    ensures { result ≡ shares_part id part (pair_in context.now i) (pair_in context.now j) }
 {
     if j == i {
         return false;
     }
-    if !context::is_in(fit, j, slots::SUBSYSTEM) {
+    if !context.is_in(j, slots::SUBSYSTEM) {
         return false;
     }
-    fit::value(fit, facts, j + 2, id).is_some_and(|v| v == part)
+    context.fit.value(j + 2, id).is_some_and(|v| v == part)
 }
 
 // Whether another subsystem than pair i is for the part.
-fn shares_part(fit: &[u8], facts: &[u32; 2058], id: i32, part: f64, i: usize) -> bool
-    requires { Fit.Sound fit.now × Fit.Starts fit.now facts.now }
-    ensures { let f = fit.now in
-        ((catalogue : List ℕ) → result ≡ any_of (shares_part id part (pair_at catalogue f i)) (pairs_of catalogue f)) }
+fn shares_part(context: &Context, id: i32, part: f64, i: usize) -> bool
+    ensures { result ≡ any_of (shares_part id part (pair_in context.now i)) (pairs_in context.now) }
 {
     let mut found = false;
-    for j in 0..fit::pair_count(fit) {
-        found |= same_part(fit, facts, id, part, i, j);
+    for j in 0..context.fit.pair_count() {
+        found |= same_part(context, id, part, i, j);
     }
     found
 }
 
-// Every subsystem covers one part of the ship, and only one may.
-fn subsystem_taken(catalogue: &[u8], fit: &[u8], facts: &[u32; 2058], ids: Ids, i: usize) -> bool
-    requires { Gathered catalogue.now fit.now facts.now × Named catalogue.now ids × (i < pair_count fit.now) }
-    ensures { let x = context_of catalogue.now fit.now in
-        let ps = pairs_of catalogue.now fit.now in
-        let p = pair_at catalogue.now fit.now i in
-        when result (on p SubsystemTaken) ≡ subsystem_taken x ps p }
-{
-    if !context::is_in(fit, i, slots::SUBSYSTEM) {
-        return false;
-    }
-    let Some(id) = ids.part else {
-        return false;
-    };
-    let Some(part) = fit::value(fit, facts, i + 2, id) else {
-        return false;
-    };
-    shares_part(fit, facts, id, part, i)
+// What the checks read: the attributes and where each pair sits are gathered once for all pairs.
+#[derive(Drop)]
+struct Prepared<'a> {
+    context: &'a Context<'a>,
+    ids: Ids,
+    places: [u32; 256],
+    ghost named: { Named context.now.catalogue.now ids },
+    ghost placed: { Places context.now.fit.now places },
 }
 
-// What the checks look at of a pair. A type that the catalogue lacks is of category 0. A rack of 8 or above is none, as
-// `context::rack` tells it; `taken` is its slot, `covered` its part of the ship, by another.
+impl<'a> Prepared<'a> {
+    fn new(context: &'a Context<'a>) -> Self
+        ensures { result.context.now ≡ context.now }
+    {
+        Prepared {
+            context,
+            ids: ids_of(context.catalogue),
+            places: places(context),
+        }
+    }
+
+    // Whether another pair is in the slot of pair i. The pair itself is counted too, and the loop runs to its end, so that the
+    // compiler can take many pairs at once; `filter` and `count`, which count in 64 bits, take 3 times as many instructions.
+    fn shares_slot(&self, i: usize) -> bool
+        requires { i < pair_count self.now.context.now.fit.now }
+        ensures { let x = self.now.context.now in
+            result ≡ any_of (shares_slot (pair_in x i)) (pairs_in x) }
+    {
+        let pairs = self.context.fit.pair_count();
+        let place = self.places[i];
+        let mut there: u32 = 0;
+        for j in 0..pairs {
+            there += (self.places[j] == place) as u32;
+        }
+        1 < there
+    }
+
+    fn slot_taken(&self, i: usize) -> bool
+        requires { i < pair_count self.now.context.now.fit.now }
+        ensures { let x = self.now.context.now in
+            let p = pair_in x i in
+            result ≡ (holds_one p && any_of (shares_slot p) (pairs_in x)) }
+    {
+        holds_one(self.context, i) && self.shares_slot(i)
+    }
+
+    // The attribute in which an implant or a booster names its slot.
+    fn slot_number(&self, i: usize) -> Option<i32>
+        requires { i < pair_count self.now.context.now.fit.now }
+        ensures { let x = self.now.context.now in
+            result ≡ given (slot_number_name (pair_in x i)) None (name_id (context_in x).names) }
+    {
+        match self.context.fit.item_slot(i) {
+            slots::IMPLANT => self.ids.implantness,
+            slots::BOOSTER => self.ids.boosterness,
+            _ => None,
+        }
+    }
+
+    // An implant and a booster sit in a numbered slot of their own, which the item names itself.
+    fn wrong_slot_index(&self, i: usize) -> Option<u16>
+        requires { i < pair_count self.now.context.now.fit.now }
+        ensures { let x = self.now.context.now in
+            let p = pair_in x i in
+            expects p result ≡ wrong_slot_index (context_in x) p }
+    {
+        let id = self.slot_number(i)?;
+        let value = self.context.fit.value(i + 2, id)?;
+        let expected = floats::to_u16(value);
+        if expected == self.context.fit.item_index(i) {
+            return None;
+        }
+        Some(expected)
+    }
+
+    // Every subsystem covers one part of the ship, and only one may.
+    fn subsystem_taken(&self, i: usize) -> bool
+        requires { i < pair_count self.now.context.now.fit.now }
+        ensures { let x = self.now.context.now in
+            let p = pair_in x i in
+            when result (on p SubsystemTaken) ≡ subsystem_taken (context_in x) (pairs_in x) p }
+    {
+        if !self.context.is_in(i, slots::SUBSYSTEM) {
+            return false;
+        }
+        let Some(id) = self.ids.part else {
+            return false;
+        };
+        let Some(part) = self.context.fit.value(i + 2, id) else {
+            return false;
+        };
+        shares_part(self.context, id, part, i)
+    }
+
+    fn item_at(&self, i: usize) -> Item
+        requires { i < pair_count self.now.context.now.fit.now }
+        ensures { let x = self.now.context.now in
+            Holds (context_in x) (pairs_in x) (pair_in x i) result }
+    {
+        Item {
+            position: i as u32,
+            slot: self.context.fit.item_slot(i),
+            category: self.context.type_at(i).map_or(0, |info| info.category),
+            rack: self.context.rack(i),
+            taken: self.slot_taken(i),
+            expected: self.wrong_slot_index(i),
+            covered: self.subsystem_taken(i),
+        }
+    }
+}
+
+// What the checks look at of a pair. A type that the catalogue lacks is of category 0. `taken` is its slot, `covered` its part of
+// the ship, by another; `expected` is the index that it should have, if it has another.
 #[derive(Clone, Copy)]
 struct Item {
     position: u32,
     slot: u8,
     category: i32,
-    rack: u8,
+    rack: Option<u8>,
     taken: bool,
     expected: Option<u16>,
     covered: bool,
 }
 
-fn item_at(
-    catalogue: &[u8],
-    fit: &[u8],
-    facts: &[u32; 2058],
-    places: &[u32; 256],
-    ids: Ids,
-    i: usize,
-) -> Item
-    requires { let c = catalogue.now in
-        let f = fit.now in
-        Gathered c f facts.now × Places f places.now × Named c ids × (i < pair_count f) }
-    ensures { let x = context_of catalogue.now fit.now in
-        let ps = pairs_of catalogue.now fit.now in
-        Holds x ps (pair_at catalogue.now fit.now i) result }
-{
-    Item {
-        position: i as u32,
-        slot: fit::item_slot(fit, i),
-        category: context::type_at(catalogue, fit, facts, i).map_or(0, |info| info.category),
-        rack: context::rack(catalogue, fit, facts, i),
-        taken: slot_taken(fit, places, i),
-        expected: wrong_slot_index(catalogue, fit, facts, ids, i),
-        covered: subsystem_taken(catalogue, fit, facts, ids, i),
+impl Item {
+    // An entry about the item, where a test holds.
+    fn push_when(self, test: bool, rule: Rule, entries: &mut Entries)
+        requires { Room entries.old.n 1 }
+        ensures { Emitted entries.old entries.new (when test (on_item self.position rule)) × (entries.new.n ≤ entries.old.n + 1) }
+    {
+        entries.emit_when(
+            test,
+            Entry {
+                target: Target::Item(self.position),
+                rule,
+            },
+        );
     }
-}
 
-// An entry about an item, where a test holds.
-fn push_when(item: Item, test: bool, rule: Rule, out: &mut [u8], n: usize) -> usize
-    requires { Room n 1 }
-    ensures { Wrote out.old n out.new result (when test (on_item item.position rule)) × (result ≤ n + 1) }
-{
-    entry::emit_when(
-        out,
-        n,
-        test,
-        Entry {
-            target: Target::Item(item.position),
-            rule,
-        },
-    )
-}
-
-// An entry about an item that is in a slot of another category.
-fn push_unless(
-    item: Item,
-    there: bool,
-    category: i32,
-    rule: Rule,
-    out: &mut [u8],
-    n: usize,
-) -> usize
-    requires { Room n 1 }
-    ensures { let test = there && not (same item.category category) in
-        Wrote out.old n out.new result (when test (on_item item.position rule)) × (result ≤ n + 1) }
-{
-    push_when(item, there & (item.category != category), rule, out, n)
-}
-
-fn wrong_slot(item: Item, out: &mut [u8], n: usize) -> usize
-    requires { Room n 1 }
-    ensures { Checked 1 item (λ x ps p. wrong_slot x p) out.old n out.new result }
-{
-    let misplaced = context::is_fitted(item.slot) & (item.slot != item.rack);
-    match SlotKind::of(item.rack) {
-        Some(expected) => push_when(item, misplaced, Rule::WrongSlot(expected), out, n),
-        None => n,
+    // An entry about an item that is in a slot of another category.
+    fn push_unless(self, there: bool, category: i32, rule: Rule, entries: &mut Entries)
+        requires { Room entries.old.n 1 }
+        ensures { let test = there && not (same self.category category) in
+            Emitted entries.old entries.new (when test (on_item self.position rule)) × (entries.new.n ≤ entries.old.n + 1) }
+    {
+        self.push_when(there & (self.category != category), rule, entries);
     }
-}
 
-fn not_a_module(item: Item, out: &mut [u8], n: usize) -> usize
-    requires { Room n 1 }
-    ensures { Checked 1 item (λ x ps p. not_a_module x p) out.old n out.new result }
-{
-    let test = context::is_fitted(item.slot) & !context::is_module_category(item.category);
-    push_when(item, test, Rule::NotAModule, out, n)
-}
-
-fn not_a_drone(item: Item, out: &mut [u8], n: usize) -> usize
-    requires { Room n 1 }
-    ensures { Checked 1 item (λ x ps p. not_a_drone x p) out.old n out.new result }
-{
-    let there = item.slot == slots::DRONE_BAY;
-    push_unless(item, there, categories::DRONE, Rule::NotADrone, out, n)
-}
-
-fn not_a_fighter(item: Item, out: &mut [u8], n: usize) -> usize
-    requires { Room n 1 }
-    ensures { Checked 1 item (λ x ps p. not_a_fighter x p) out.old n out.new result }
-{
-    let there = (item.slot == slots::FIGHTER_TUBE) | (item.slot == slots::FIGHTER_BAY);
-    push_unless(item, there, categories::FIGHTER, Rule::NotAFighter, out, n)
-}
-
-fn not_an_implant(item: Item, out: &mut [u8], n: usize) -> usize
-    requires { Room n 1 }
-    ensures { Checked 1 item (λ x ps p. not_an_implant x p) out.old n out.new result }
-{
-    let there = (item.slot == slots::IMPLANT) | (item.slot == slots::BOOSTER);
-    push_unless(item, there, categories::IMPLANT, Rule::NotAnImplant, out, n)
-}
-
-// The checks of an item's slot and type.
-fn wrong_place(item: Item, out: &mut [u8], n: usize) -> usize
-    requires { Room n 5 }
-    ensures { Checked 5 item (λ x ps p. wrong_slot x p ++ not_a_module x p ++ not_a_drone x p ++ not_a_fighter x p ++ not_an_implant x p)
-        out.old n out.new result }
-{
-    let a = wrong_slot(item, out, n);
-    let b = not_a_module(item, out, a);
-    let c = not_a_drone(item, out, b);
-    let d = not_a_fighter(item, out, c);
-    not_an_implant(item, out, d)
-}
-
-fn expect_index(item: Item, out: &mut [u8], n: usize) -> usize
-    requires { Room n 1 }
-    ensures { Checked 1 item (λ x ps p. wrong_slot_index x p) out.old n out.new result }
-{
-    match item.expected {
-        Some(index) => push_when(item, true, Rule::WrongSlotIndex(index), out, n),
-        None => n,
+    fn wrong_slot(self, entries: &mut Entries)
+        requires { Room entries.old.n 1 }
+        ensures { Checked 1 self (λ x ps p. wrong_slot x p) entries.old entries.new }
+    {
+        let Some(rack) = self.rack else {
+            return;
+        };
+        let Some(expected) = SlotKind::of(rack) else {
+            return;
+        };
+        let misplaced = context::is_fitted(self.slot) & (self.slot != rack);
+        self.push_when(misplaced, Rule::WrongSlot(expected), entries);
     }
-}
 
-// The eight checks of an item.
-fn slot_checks(item: Item, out: &mut [u8], n: usize) -> usize
-    requires { Room n 8 }
-    ensures { Checked 8 item slot_checks out.old n out.new result }
-{
-    let a = wrong_place(item, out, n);
-    let b = push_when(item, item.taken, Rule::SlotTaken, out, a);
-    let c = expect_index(item, out, b);
-    push_when(item, item.covered, Rule::SubsystemTaken, out, c)
+    fn not_a_module(self, entries: &mut Entries)
+        requires { Room entries.old.n 1 }
+        ensures { Checked 1 self (λ x ps p. not_a_module x p) entries.old entries.new }
+    {
+        let test = context::is_fitted(self.slot) & !context::is_module_category(self.category);
+        self.push_when(test, Rule::NotAModule, entries);
+    }
+
+    fn not_a_drone(self, entries: &mut Entries)
+        requires { Room entries.old.n 1 }
+        ensures { Checked 1 self (λ x ps p. not_a_drone x p) entries.old entries.new }
+    {
+        let there = self.slot == slots::DRONE_BAY;
+        self.push_unless(there, categories::DRONE, Rule::NotADrone, entries);
+    }
+
+    fn not_a_fighter(self, entries: &mut Entries)
+        requires { Room entries.old.n 1 }
+        ensures { Checked 1 self (λ x ps p. not_a_fighter x p) entries.old entries.new }
+    {
+        let there = (self.slot == slots::FIGHTER_TUBE) | (self.slot == slots::FIGHTER_BAY);
+        self.push_unless(there, categories::FIGHTER, Rule::NotAFighter, entries);
+    }
+
+    fn not_an_implant(self, entries: &mut Entries)
+        requires { Room entries.old.n 1 }
+        ensures { Checked 1 self (λ x ps p. not_an_implant x p) entries.old entries.new }
+    {
+        let there = (self.slot == slots::IMPLANT) | (self.slot == slots::BOOSTER);
+        self.push_unless(there, categories::IMPLANT, Rule::NotAnImplant, entries);
+    }
+
+    // The checks of an item's slot and type.
+    fn wrong_place(self, entries: &mut Entries)
+        requires { Room entries.old.n 5 }
+        ensures { Checked 5 self
+            (λ x ps p. wrong_slot x p ++ not_a_module x p ++ not_a_drone x p ++ not_a_fighter x p ++ not_an_implant x p)
+            entries.old entries.new }
+    {
+        self.wrong_slot(entries);
+        self.not_a_module(entries);
+        self.not_a_drone(entries);
+        self.not_a_fighter(entries);
+        self.not_an_implant(entries);
+    }
+
+    fn expect_index(self, entries: &mut Entries)
+        requires { Room entries.old.n 1 }
+        ensures { Checked 1 self (λ x ps p. wrong_slot_index x p) entries.old entries.new }
+    {
+        if let Some(index) = self.expected {
+            self.push_when(true, Rule::WrongSlotIndex(index), entries);
+        }
+    }
+
+    // The eight checks of an item.
+    fn slot_checks(self, entries: &mut Entries)
+        requires { Room entries.old.n 8 }
+        ensures { Checked 8 self slot_checks entries.old entries.new }
+    {
+        self.wrong_place(entries);
+        self.push_when(self.taken, Rule::SlotTaken, entries);
+        self.expect_index(entries);
+        self.push_when(self.covered, Rule::SubsystemTaken, entries);
+    }
 }
 
 // The eight checks of all pairs.
-pub fn validate(
-    catalogue: &[u8],
-    fit: &[u8],
-    facts: &[u32; 2058],
-    out: &mut [u8],
-    n: usize,
-) -> usize
-    requires { Gathered catalogue.now fit.now facts.now × Room n (8 * most_pairs) }
-    ensures { let x = context_of catalogue.now fit.now in
-        let ps = pairs_of catalogue.now fit.now in
-        Wrote out.old n out.new result (slot_rules x ps) × (result ≤ n + 8 * most_pairs) }
+pub fn validate(context: &Context, entries: &mut Entries)
+    requires { Room entries.old.n (8 * most_pairs) }
+    ensures { let x = context.now in
+        Emitted entries.old entries.new (slot_rules (context_in x) (pairs_in x)) × (entries.new.n ≤ entries.old.n + 8 * most_pairs) }
 {
-    let ids = ids_of(catalogue);
-    let places = places(fit);
-    let mut k = n;
-    for i in 0..fit::pair_count(fit) {
-        let item = item_at(catalogue, fit, facts, &places, ids, i);
-        k = slot_checks(item, out, k);
+    let prepared = Prepared::new(context);
+    for i in 0..context.fit.pair_count() {
+        let item = prepared.item_at(i);
+        item.slot_checks(entries);
     }
-    k
 }

@@ -152,24 +152,24 @@ module _ (ids levels : List ℕ) (from len : ℕ) (id : ℤ) (range : mag id < 2
     pub inserted_down : (level : ℕ) → 1 ≤ from → 4 * (from + len) ≤ length ids → from + len ≤ length levels
         → held_in (ids-below ids from (from + at) id) (levels-below levels from (from + at) level) (from - 1) (len + 1)
         ≡ raised held.ids held.levels id level
-    inserted_down level Some long wide =
+    inserted_down level some long wide =
         let place = from + at in
         let is = ids-below ids from place id in
         let ls = levels-below levels from place level in
         let w : from ≤ place = omega arith in
         let room : 4 * place ≤ length ids = omega (arith, within, long) in
         let space : place ≤ length levels = omega (arith, within, wide) in
-        let here : from - 1 + at ≡ place - 1 = omega (arith, Some) in
+        let here : from - 1 + at ≡ place - 1 = omega (arith, some) in
         put-there level (λ k. key_at is (from - 1 + k)) (λ k. u8_at ls (from - 1 + k))
         (λ k h. (
-          below_front_id ids levels from id range place Some w level room space k (omega (arith, h)),
-          below_front_level ids levels from id range place Some w level room space k (omega (arith, h)),
+          below_front_id ids levels from id range place some w level room space k (omega (arith, h)),
+          below_front_level ids levels from id range place some w level room space k (omega (arith, h)),
         )) (
-          ap (key_at is) here ∙ below_here_id ids levels from id range place Some w level room space,
-          ap (u8_at ls) here ∙ below_here_level ids levels from id range place Some w level room space,
+          ap (key_at is) here ∙ below_here_id ids levels from id range place some w level room space,
+          ap (u8_at ls) here ∙ below_here_level ids levels from id range place some w level room space,
         )
         (λ k l h.
-        let e : from - 1 + suc k ≡ from + k = omega (arith, Some) in (
-          ap (key_at is) e ∙ below_back_id ids levels from id range place Some w level room space (from + k) (omega (arith, l)),
-          ap (u8_at ls) e ∙ below_back_level ids levels from id range place Some w level room space (from + k) (omega (arith, l)),
+        let e : from - 1 + suc k ≡ from + k = omega (arith, some) in (
+          ap (key_at is) e ∙ below_back_id ids levels from id range place some w level room space (from + k) (omega (arith, l)),
+          ap (u8_at ls) e ∙ below_back_level ids levels from id range place some w level room space (from + k) (omega (arith, l)),
         ))

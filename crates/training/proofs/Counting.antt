@@ -4,12 +4,12 @@ use native.Mathlib.Omega.{arith}
 use mathlib.Core.Path.{◌≡◌, refl, sym, ap, ap₂, ◌∙◌}
 use mathlib.Core.Bool.{Bool, true, false, not, ◌&&◌, ◌||◌, cond, true≢false}
 use mathlib.Core.List.{List, [], ◌∷◌, ◌++◌}
-use Rattle.std.specs.Prelude.{Option, None, Some}
+use Rattle.std.specs.Prelude.{Option, Some, is_some}
 use lib.Dec.{ltb}
 use lib.IntN.{pos}
 use lib.ListN.{length}
 use borrow.Author.Tests.{lt-ltb, le-ltb}
-use Rattle.words.specs.Words.{◌>>=◌, table_from, each, when, only, count_of, any_of, find, given, same, contains}
+use Rattle.words.specs.Words.{◌>>=◌, table_from, each, when, only, count_of, any_of, find, same, contains}
 use Rattle.image.specs.Bytes.{i32_at}
 use Rattle.keys.specs.Keys.{key_at, place_of}
 use Rattle.keys.proofs.Parts.{part-key}
@@ -29,12 +29,9 @@ use Rattle.training.specs.Turns.{is_new}
 use Rattle.training.proofs.Raising.{same-sym}
 
 -- ---- listed, by a search
-abbrev was_found : Option ℕ → Bool
-was_found o = given o false (λ _. true)
-
 any_found : (h : ℕ → Id) (key : ℕ → Id) (id : Id) (i n : ℕ) → ((j : ℕ) → i ≤ j → j < i + n → key j ≡ h j)
-    → any_of (same id) (table_from i n h) ≡ was_found (find (λ j. same (key j) id) (table_from i n (λ j. j)))
-unfolding any_of table_from find given
+    → any_of (same id) (table_from i n h) ≡ is_some (find (λ j. same (key j) id) (table_from i n (λ j. j)))
+unfolding any_of table_from find
 any_found h key id i zero e = refl
 any_found h key id i (suc n) e =
     let own : same id (h i) ≡ same (key i) id = same-sym id (h i) ∙ ap (λ (z : Id). same z id) (sym (e i (omega arith) (omega arith))) in
@@ -42,25 +39,20 @@ any_found h key id i (suc n) e =
     ∙ go (same (key i) id) (any_found h key id (suc i) n (λ j p q. e j (omega (arith, p)) (omega (arith, q))))
   where
     go : (b : Bool)
-        → any_of (same id) (table_from (suc i) n h) ≡ was_found (find (λ j. same (key j) id) (table_from (suc i) n (λ j. j)))
-        → b || any_of (same id) (table_from (suc i) n h) ≡ was_found (cond b (Some i) (find (λ j. same (key j) id) (table_from (suc i) n (λ j. j))))
+        → any_of (same id) (table_from (suc i) n h) ≡ is_some (find (λ j. same (key j) id) (table_from (suc i) n (λ j. j)))
+        → b || any_of (same id) (table_from (suc i) n h) ≡ is_some (cond b (Some i) (find (λ j. same (key j) id) (table_from (suc i) n (λ j. j))))
     go true r = refl
     go false r = r
 
 module _ (b : List ℕ) (id : Id) where
-  listed_by : contains id (fit_of b).skills ≡ was_found (place_of (skill_ids b) (skill_count b) id)
+  listed_by : contains id (fit_of b).skills ≡ is_some (place_of (skill_ids b) (skill_count b) id)
   unfolding fit_of contains place_of
   listed_by =
       any_found (λ i. i32_at b (skills_at b + 4 * i)) (key_at (skill_ids b)) id 0 (skill_count b)
       (λ j _ q. part-key b (skills_at b) (skill_count b) j (omega (arith, q)))
 
-  pub listed_found : (i : ℕ) → place_of (skill_ids b) (skill_count b) id ≡ Some i → true ≡ contains id (fit_of b).skills
-  unfolding given
-  listed_found i e = sym (listed_by ∙ ap was_found e)
-
-  pub listed-nowhere : place_of (skill_ids b) (skill_count b) id ≡ None → false ≡ contains id (fit_of b).skills
-  unfolding given
-  listed-nowhere e = sym (listed_by ∙ ap was_found e)
+  pub listed_found : {o : Option ℕ} → o ≡ place_of (skill_ids b) (skill_count b) id → is_some o ≡ contains id (fit_of b).skills
+  listed_found e = ap is_some e ∙ sym listed_by
 
 -- ---- a skill that is not listed has level 0
 pub unlisted_level : (is : List Id) (ls : List ℕ) (t : Id) → contains t is ≡ false → trained is ls t ≡ 0

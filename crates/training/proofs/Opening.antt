@@ -1,14 +1,14 @@
 -- A skill stored in the arrays, at a place that is opened for it: what stands where then, by the bytes that were moved and stored.
 use Prim.Native.Nat.{ℕ, suc, ◌+◌, ◌*◌, ◌-◌, ◌≤◌, ◌<◌}
 use native.Mathlib.Omega.{arith}
-use mathlib.Core.Path.{◌≡◌, sym, ap, ap₂, ◌∙◌}
+use mathlib.Core.Path.{◌≡◌, ap, ◌∙◌}
 use mathlib.Core.List.{List}
 use lib.IntN.{ℤ}
 use lib.Signed.{mag}
-use lib.ListN.{length, get_or, set, take, drop, length-drop}
+use lib.ListN.{length, get_or, set, take, drop}
 use lib.Seq.{get_or-take, get_or-drop, get_or-set_same, get_or-set_other}
 use Rattle.image.specs.Bytes.{u8_at, bits32, le, put}
-use Rattle.image.proofs.Stores.{length-put, length-le, put_next}
+use Rattle.image.proofs.Stores.{length-put, length-le}
 use Rattle.image.proofs.Parts.{part_length}
 use Rattle.image.proofs.Puts.{put-before, put-behind, put-among, i32_alike, le-i32, moved}
 use Rattle.keys.specs.Keys.{key_at}

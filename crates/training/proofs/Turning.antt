@@ -49,11 +49,8 @@ module _ (ids levels : List ℕ) (from len : ℕ) (id : ℤ) (range : mag id < 2
     whole : given ≡ due
     whole = let z = missing-level ids levels from len id range at parts missing listed in omega (arith, e, z)
 
-    pub turn-none : given ≡ 0 → ◌≡◌ {A = Training × ℕ} (held, steps) (turn (held, steps) (id, wanted))
-    turn-none z =
-        let d : due ≡ 0 = sym whole ∙ z in
-        let s : steps ≡ steps - due = omega (arith, d) in
-        pair_eq (gain-none held id due d) s
+    pub turn-none : given ≡ 0 → ◌≡◌ {A = Training × ℕ} (held, steps - given) (turn (held, steps) (id, wanted))
+    turn-none z = pair_eq (gain-none held id due (sym whole ∙ z)) (ap (λ (k : ℕ). steps - k) whole)
 
     pub turn-new : 0 < given → {after : Training} → after ≡ raised held.ids held.levels id given
         → ◌≡◌ {A = Training × ℕ} (after, steps - given) (turn (held, steps) (id, wanted))

@@ -1,2 +1,3 @@
 pub mod Training
 pub mod Turns
+pub mod Plans

@@ -1,8 +1,8 @@
 -- Whether a list is empty, by how many entries each of its parts has.
 use Prim.Native.Nat.{ℕ, ◌+◌, ◌<◌}
 use native.Mathlib.Omega.{arith}
-use mathlib.Core.Path.{◌≡◌, refl, sym, ap, ◌∙◌, subst}
-use mathlib.Core.Bool.{Bool, true, false, cond}
+use mathlib.Core.Path.{◌≡◌, refl, sym, ◌∙◌, subst}
+use mathlib.Core.Bool.{Bool, true, false, cond, ◌&&◌}
 use mathlib.Core.List.{List, [], ◌∷◌, ◌++◌}
 use lib.Dec.{eqb}
 use lib.ListN.{length, length-append}
@@ -18,8 +18,8 @@ use Rattle.slot.specs.Slot.{slot_rules}
 use Rattle.item.specs.Item.{item_rules}
 use Rattle.limits.specs.Limits.{limit_rules}
 use Rattle.validate.specs.Kind.{is_hull, not_a_mode, not_a_skill}
-use Rattle.validate.specs.Validate.{hull_rules, list_of}
-use Rattle.validate.proofs.Hull.{on-hull, no_hull, of_fit_lem}
+use Rattle.validate.specs.Validate.{hull_rules, list_with, list_of}
+use Rattle.validate.proofs.Hull.{no_hull, of_fit_lem}
 
 module _ {A : Type 0} where
   pub empty-some : (l : List A) → 0 < length l → is_empty l ≡ false
@@ -43,23 +43,25 @@ module _ {A : Type 0} where
   empty-length [] h = refl
   empty-length (x ∷ l) h = absurd (subst (λ (t : Bool). cond t ⊥ (Prim.Unit {0})) h tt)
 
--- a list behind another, whose emptiness is asked only where that one is empty
-module _ {A : Type 0} (l m : List A) where
-  pub empty-behind : {b : Bool} {k : ℕ} → b ≡ is_empty l → b ≡ true → k ≡ length m → eqb k 0 ≡ is_empty (l ++ m)
-  empty-behind {b} {k} p q e = empty-count (l ++ m) k (omega (arith, e, length-append l m, empty-length l (sym p ∙ q)))
+-- two lists one after the other, or one that has something
+module _ {A : Type 0} where
+  empty-either : (t : Bool) (l m : List A) (x : A) → is_empty (cond t (l ++ m) (x ∷ [])) ≡ (t && (is_empty m && eqb (length l) 0))
+  unfolding is_empty
+  empty-either false l m x = refl
+  empty-either true [] [] x = refl
+  empty-either true [] (y ∷ m) x = refl
+  empty-either true (z ∷ l) [] x = sym (ne_eqb (length (z ∷ l)) 0 (λ q. omega (arith, q)))
+  empty-either true (z ∷ l) (y ∷ m) x = refl
 
-  pub some-before : {b : Bool} → b ≡ is_empty l → b ≡ false → b ≡ is_empty (l ++ m)
-  some-before p q = q ∙ sym (empty-some (l ++ m) (omega (arith, length-append l m, some-length l (sym p ∙ q))))
-
-pub rules-length : (x : Context) (ps : List Pair) → length (hull_rules x ps)
+rules-length : (x : Context) (ps : List Pair) → length (hull_rules x ps)
     ≡ length (resources x ps) + length (racks_and_hardpoints x ps) + length (slot_rules x ps) + length (item_rules x ps) + length (limit_rules x ps)
 unfolding hull_rules
-rules-length x ps =
-    let a = resources x ps in
-    let b = racks_and_hardpoints x ps in
-    let c = slot_rules x ps in
-    let d = item_rules x ps in
-    omega (arith, length-append a b, length-append (a ++ b) c, length-append (a ++ b ++ c) d, length-append (a ++ b ++ c ++ d) (limit_rules x ps))
+rules-length x ps = rw (length-append, length-append, length-append, length-append) (omega arith)
+
+-- the rules of a hull list nothing where each part has no entry
+pub rules_empty : (x : Context) (ps : List Pair) → is_empty (hull_rules x ps)
+    ≡ eqb (length (resources x ps) + length (racks_and_hardpoints x ps) + length (slot_rules x ps) + length (item_rules x ps) + length (limit_rules x ps)) 0
+rules_empty x ps = sym (empty-count (hull_rules x ps) _ (sym (rules-length x ps)))
 
 module _ (catalogue fit : List ℕ) where
   -- a ship that is no hull is listed as such
@@ -68,10 +70,9 @@ module _ (catalogue fit : List ℕ) where
   unfolding is_empty
   off_hull_some e = rw (sym (no_hull catalogue fit e _ ∙ of_fit_lem catalogue fit)) refl
 
-  pub on-hull_length : is_hull (catalogue_of catalogue) (fit_of fit).frame.ship ≡ true → length (list_of (catalogue_of catalogue) (fit_of fit))
-      ≡ length (not_a_mode (catalogue_of catalogue) (mode_of (fit_of fit).frame) ++ not_a_skill (catalogue_of catalogue) (fit_of fit).skills)
-      + length (hull_rules (context_of catalogue fit) (pairs_of catalogue fit))
-  on-hull_length e =
-      let kinds = not_a_mode (catalogue_of catalogue) (mode_of (fit_of fit).frame) ++ not_a_skill (catalogue_of catalogue) (fit_of fit).skills in
-      sym (ap length (on-hull catalogue fit e (fit_of fit).skills ∙ of_fit_lem catalogue fit))
-      ∙ length-append kinds (hull_rules (context_of catalogue fit) (pairs_of catalogue fit))
+  -- on a hull it is empty where the rules of a hull list nothing, and neither do those of the mode and the skills
+  pub list_empty : is_empty (list_of (catalogue_of catalogue) (fit_of fit))
+      ≡ (is_hull (catalogue_of catalogue) (fit_of fit).frame.ship && (is_empty (hull_rules (context_of catalogue fit) (pairs_of catalogue fit))
+      && eqb (length (not_a_mode (catalogue_of catalogue) (mode_of (fit_of fit).frame) ++ not_a_skill (catalogue_of catalogue) (fit_of fit).skills)) 0))
+  unfolding list_of list_with context_of pairs_of
+  list_empty = empty-either _ _ _ _

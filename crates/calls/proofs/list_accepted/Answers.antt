@@ -13,7 +13,7 @@ returns-then-most-out c =
     let a = c.args in
     let t = read_by (reader_number a.asked.reader) (terms a.profile.now a.asked.allowance) in
     let x = catalogue_of a.catalogue.now in
-    gave_list (list_for t x (fit_of a.fit.now)) (omega (arith, c.if-most-out.true, c.most_entries-most.ensures.0 t x)) c.write.ensures.0
+    gave_list (list_for t x (fit_of a.fit.now)) (omega (arith, c.if-most-out.true, c.most_entries-most.ensures.0 t x)) (rw (c.new-context.ensures.0, c.new-context.ensures.1) at c.write.ensures.0)
 
 pub placed-requires : goal.placed-requires
 placed-requires c =
@@ -21,8 +21,7 @@ placed-requires c =
     let t = read_by (reader_number a.asked.reader) (terms a.profile.now a.asked.allowance) in
     record {
       size = omega arith;
-      gathered = (c.gather-facts.ensures, c.requires.2);
-      fit_bound = omega (arith, c.if-most-le-SMALL_PLACE.true, c.most_entries-most.ensures.0 t (catalogue_of a.catalogue.now));
+      fit_bound = rw (c.new-context.ensures.0, c.new-context.ensures.1) (omega (arith, c.if-most-le-SMALL_PLACE.true, c.most_entries-most.ensures.0 t (catalogue_of a.catalogue.now)));
     }
 
 pub placed-requires-2 : goal.placed-requires-2
@@ -31,8 +30,7 @@ placed-requires-2 c =
     let t = read_by (reader_number a.asked.reader) (terms a.profile.now a.asked.allowance) in
     record {
       size = omega arith;
-      gathered = (c.gather-facts.ensures, c.requires.2);
-      fit_bound = omega (arith, c.most_entries-most.ensures.1, c.most_entries-most.ensures.0 t (catalogue_of a.catalogue.now));
+      fit_bound = rw (c.new-context.ensures.0, c.new-context.ensures.1) (omega (arith, c.most_entries-most.ensures.1, c.most_entries-most.ensures.0 t (catalogue_of a.catalogue.now)));
     }
 
 pub overflow_mul-most : goal.overflow_mul-most

@@ -14,13 +14,19 @@ returns-in_err-check_page c =
     let e : c.from_residual.result ≡ Err c.in_err-check_page.field-0.0 = search rules in
     gave_first a.out.now e (page_refusals t a.catalogue.now a.fit.now) c.in_err-check_page.ensures _ _
 
-pub skill_accepted-requires : goal.skill_accepted-requires
-skill_accepted-requires c =
+pub new-catalogue-requires : goal.new-catalogue-requires
+new-catalogue-requires c =
     let a = c.args in
-    page_sound (limited a.pairs a.skills main) a.catalogue.now a.fit.now (sym c.in_ok-check_page.ensures)
+    (page_sound (limited a.pairs a.skills main) a.catalogue.now a.fit.now (sym c.in_ok-check_page.ensures)).0
+
+pub new-fit-requires : goal.new-fit-requires
+new-fit-requires c =
+    let a = c.args in
+    (page_sound (limited a.pairs a.skills main) a.catalogue.now a.fit.now (sym c.in_ok-check_page.ensures)).1
 
 pub returns : goal.returns
 returns c =
     let a = c.args in
     let t = limited a.pairs a.skills main in
-    gave_same (sym (page_past t a.catalogue.now a.fit.now a.res a.out.now (sym c.in_ok-check_page.ensures))) c.skill_accepted.ensures
+    gave_same (sym (page_past t a.catalogue.now a.fit.now a.res a.out.now (sym c.in_ok-check_page.ensures)))
+    (rw (c.new-catalogue.ensures, c.new-fit.ensures) at c.skill_accepted.ensures)

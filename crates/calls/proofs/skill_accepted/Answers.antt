@@ -13,6 +13,9 @@ use Rattle.calls.proofs.Giving.{answer_true, answer_false, gave_same, gave_refus
 use Rattle.calls.proofs.Skills.{no_result_lem, has_result, over-many, over-few, over-page, within-page}
 use Rattle.calls.proofs.skill_accepted.Goals as goal
 
+pub overflow_add-result_count : goal.overflow_add-result_count
+overflow_add-result_count c = omega (arith, c.is_sound.ensures.sized.results, c.result_count.ensures)
+
 pub returns-then-result_count-res : goal.returns-then-result_count-res
 returns-then-result_count-res c =
     let a = c.args in
@@ -45,7 +48,7 @@ returns-then-limit-walk c =
     (gave_refused _ Refusals.over_limit refl)
 
 pub skill_list-requires : goal.skill_list-requires
-skill_list-requires c = (c.requires.1, omega (arith, c.result_count.ensures, c.if-result_count-res.false), (c.in-Ok.ensures.holds c.in-Ok.walk refl).0)
+skill_list-requires c = (omega (arith, c.result_count.ensures, c.if-result_count-res.false), (c.in-Ok.ensures.holds c.in-Ok.walk refl).0)
 
 pub returns : goal.returns
 returns c =

@@ -21,9 +21,12 @@ returns-then-bad_input c =
     sym (hall_bad a.catalogue.now a.input.now (sym c.in_ok-check.ensures) (sym c.bad_input.ensures ∙ c.if-bad_input.true))
 
 pub word-requires : goal.word-requires
-word-requires c = (accepted-sound _ (sym c.in_ok-check.ensures), laid _ (sym c.bad_input.ensures ∙ c.if-bad_input.false))
+word-requires c = laid _ (sym c.bad_input.ensures ∙ c.if-bad_input.false)
+
+pub new-catalogue-requires : goal.new-catalogue-requires
+new-catalogue-requires c = accepted-sound _ (sym c.in_ok-check.ensures)
 
 pub returns : goal.returns
 returns c =
     let a = c.args in
-    c.word.ensures ∙ sym (hall_counted a.catalogue.now a.input.now (sym c.in_ok-check.ensures) (sym c.bad_input.ensures ∙ c.if-bad_input.false))
+    (rw c.new-catalogue.ensures at c.word.ensures) ∙ sym (hall_counted a.catalogue.now a.input.now (sym c.in_ok-check.ensures) (sym c.bad_input.ensures ∙ c.if-bad_input.false))

@@ -14,10 +14,14 @@ returns-in_err-check_images c =
     let e : c.from_residual.result ≡ Err c.in_err-check_images.field-0.0 = search rules in
     bytes-first a.out.now e (image_refusals a.catalogue.now a.fit.now) c.in_err-check_images.ensures _ _
 
-pub train-requires : goal.train-requires
-train-requires c = images_sound c.args.catalogue.now c.args.fit.now (sym c.in_ok-check_images.ensures)
+pub new-catalogue-requires : goal.new-catalogue-requires
+new-catalogue-requires c = (images_sound c.args.catalogue.now c.args.fit.now (sym c.in_ok-check_images.ensures)).0
+
+pub new-fit-requires : goal.new-fit-requires
+new-fit-requires c = (images_sound c.args.catalogue.now c.args.fit.now (sym c.in_ok-check_images.ensures)).1
 
 pub returns : goal.returns
 returns c =
     let a = c.args in
-    bytes_same (sym (train_past a.catalogue.now a.fit.now a.res a.steps a.out.now (sym c.in_ok-check_images.ensures))) c.train.ensures
+    bytes_same (sym (train_past a.catalogue.now a.fit.now a.res a.steps a.out.now (sym c.in_ok-check_images.ensures)))
+    (rw (c.new-catalogue.ensures, c.new-fit.ensures) at c.train.ensures)

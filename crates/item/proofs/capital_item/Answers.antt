@@ -10,10 +10,11 @@ use mathlib.Core.Bool.{◌||◌}
 use Rattle.floats.specs.Floats.{zero_f}
 use Rattle.fit.specs.Lookups.{amount}
 use Rattle.context.specs.Context.{context}
-use Rattle.context.specs.Gathered.{context_of, pair_at, pairs_of}
+use Rattle.context.specs.Gathered.{context_of}
+use Rattle.context.specs.Held.{pair_in, pairs_in, context_in}
 use Rattle.std.specs.Bool.{then_some}
 use Rattle.entry.specs.declared.Rule.TheVariants.{CapitalItem}
-use Rattle.item.specs.Ids.{said}
+use Rattle.context.specs.Context.{said}
 use Rattle.item.specs.Item.{capital_item_at, is_capital_item, is_structure}
 use Rattle.item.proofs.Rules.{capital_no_volume, capital_no_capital, capital_taken, capital_each, said-capital}
 use Rattle.item.proofs.capital_item.Goals as goal
@@ -22,13 +23,13 @@ pub returns-in_default : goal.returns-in_default
 unfolding context_of context
 returns-in_default c =
     let a = c.args in
-    (capital_no_volume (context_of a.catalogue.now a.fit.now) (pairs_of a.catalogue.now a.fit.now) (sym c.attribute_id.ensures ∙ c.in_default.is), omega arith)
+    (capital_no_volume (context_in a.context.now) (pairs_in a.context.now) (sym c.attribute_id.ensures ∙ c.in_default.is), omega arith)
 
 pub returns-in_default-attribute_id : goal.returns-in_default-attribute_id
 unfolding context_of context
 returns-in_default-attribute_id c =
     let a = c.args in (
-      capital_no_capital (context_of a.catalogue.now a.fit.now) (pairs_of a.catalogue.now a.fit.now) c.in-Some.volume
+      capital_no_capital (context_in a.context.now) (pairs_in a.context.now) c.in-Some.volume
           (sym c.attribute_id.ensures ∙ c.in-Some.is) (sym c.attribute_id-2.ensures ∙ c.in_default-attribute_id.is),
       omega arith,
     )
@@ -37,10 +38,10 @@ pub returns-then-takes_capitals : goal.returns-then-takes_capitals
 unfolding context_of context
 returns-then-takes_capitals c =
     let a = c.args in
-    let x = context_of a.catalogue.now a.fit.now in
+    let x = context_in a.context.now in
     let z : to_z w32 (of_z w32 c.in-Some-attribute_id.capital) ≡ c.in-Some-attribute_id.capital = search rules in
     let taken = ap (λ (i : ℤ). ne (amount x.ship_result i) zero_f || is_structure x) (sym z) ∙ sym c.takes_capitals.ensures ∙ c.if-takes_capitals.true in (
-      capital_taken x (pairs_of a.catalogue.now a.fit.now) c.in-Some.volume c.in-Some-attribute_id.capital
+      capital_taken x (pairs_in a.context.now) c.in-Some.volume c.in-Some-attribute_id.capital
           (sym c.attribute_id.ensures ∙ c.in-Some.is) (sym c.attribute_id-2.ensures ∙ c.in-Some-attribute_id.is) taken,
       omega arith,
     )
@@ -49,14 +50,14 @@ pub returns : goal.returns
 unfolding context_of context
 returns c =
     let a = c.args in
-    let x = context_of a.catalogue.now a.fit.now in
+    let x = context_in a.context.now in
     let z : to_z w32 (of_z w32 c.in-Some-attribute_id.capital) ≡ c.in-Some-attribute_id.capital = search rules in
     let open' = ap (λ (i : ℤ). ne (amount x.ship_result i) zero_f || is_structure x) (sym z) ∙ sym c.takes_capitals.ensures ∙ c.if-takes_capitals.false in
-    let pair = pair_at a.catalogue.now a.fit.now in
-    let w = c.report.ensures a.catalogue.now (capital_item_at c.in-Some.volume) (λ i r h p.
+    let pair = pair_in a.context.now in
+    let w = c.report.ensures (capital_item_at c.in-Some.volume) (λ i r h p.
     let e : r ≡ then_some (is_capital_item c.in-Some.volume (pair i)) CapitalItem = search rules in
     ap (said (pair i)) e ∙ said-capital c.in-Some.volume (pair i)) in (
-      capital_each x (pairs_of a.catalogue.now a.fit.now) c.in-Some.volume c.in-Some-attribute_id.capital
+      capital_each x (pairs_in a.context.now) c.in-Some.volume c.in-Some-attribute_id.capital
           (sym c.attribute_id.ensures ∙ c.in-Some.is) (sym c.attribute_id-2.ensures ∙ c.in-Some-attribute_id.is) open' w.0,
       w.1,
     )

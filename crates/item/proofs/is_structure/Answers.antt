@@ -18,6 +18,6 @@ unfolding is_structure context_of context
 returns c =
     let a = c.args in
     let category = given-option (pos 0) (λ x. x.category) c.ship_type.result (λ x e p. search rules) c.map_or-category.ensures
-    ∙ told-category (catalogue_of a.catalogue.now) (fit_of a.fit.now).frame.ship c.ship_type.ensures in
+    ∙ told-category (catalogue_of a.context.now.catalogue.now) (fit_of a.context.now.fit.now).frame.ship c.ship_type.ensures in
     bits_same c.map_or-category.result Categories.structure (record { sfits = c.map_or-category.type_inv }) (search rules)
     ∙ ap (λ (k : Id). same k Categories.structure) category

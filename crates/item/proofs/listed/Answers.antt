@@ -17,7 +17,7 @@ pub returns-then-named-ship : goal.returns-then-named-ship
 returns-then-named-ship c =
     let a = c.args in
     let e : c.in-Some.named ≡ a.ship = search rules in
-    listed_ship a.ship (result_of a.fit.now a.j) a.ids.now c.loop-id.id-index c.loop-id-test.true
+    listed_ship a.ship (result_of a.context.now.fit.now a.j) a.ids.now c.loop-id.id-index c.loop-id-test.true
     (sym c.listed_under.ensures ∙ c.in-Some.is ∙ ap Some e)
 
 pub loop-id-preserved : goal.loop-id-preserved
@@ -36,4 +36,4 @@ pub returns : goal.returns
 returns c =
     let a = c.args in
     let z : to_z w32 (of_z w32 a.ship) ≡ a.ship = search rules in
-    listed_all a.ship (result_of a.fit.now a.j) a.ids.now c.loop-id.id-index c.loop-id.listing c.loop-id-test.false (rw z at c.loop-id.invariant)
+    listed_all a.ship (result_of a.context.now.fit.now a.j) a.ids.now c.loop-id.id-index c.loop-id.listing c.loop-id-test.false (rw z at c.loop-id.invariant)

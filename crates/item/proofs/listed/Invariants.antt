@@ -4,4 +4,4 @@ use Rattle.item.proofs.Listings.{Listed}
 use Rattle.item.proofs.listed.Given as goal
 
 abbrev pub invariant-loop-id : goal.invariant-loop-id
-invariant-loop-id l = Listed l.ship (result_of l.fit l.j) l.ids l.id-index l.listing
+invariant-loop-id l = Listed l.ship (result_of l.context.fit.now l.j) l.ids l.id-index l.listing

@@ -18,14 +18,14 @@ returns-in_err-known c = rw c.in_err-known.was c.from_residual.ensures
 pub returns-in_err-value : goal.returns-in_err-value
 unfolding listed_under given
 returns-in_err-value c =
-    let e : value (result_of c.args.fit.now c.args.j) c.in_ok-known.field-0 ≡ None =
-    ap (value (result_of c.args.fit.now c.args.j)) (search rules) ∙ sym c.value.ensures ∙ c.in_err-value.was in
+    let e : value (result_of c.args.context.now.fit.now c.args.j) c.in_ok-known.field-0 ≡ None =
+    ap (value (result_of c.args.context.now.fit.now c.args.j)) (search rules) ∙ sym c.value.ensures ∙ c.in_err-value.was in
     rw (c.in_ok-known.was, e) c.from_residual-in_err-value.ensures
 
 pub returns : goal.returns
 unfolding listed_under given
 returns c =
-    let e : value (result_of c.args.fit.now c.args.j) c.in_ok-known.field-0 ≡ Some c.in_ok-value.field-0 =
-    ap (value (result_of c.args.fit.now c.args.j)) (search rules) ∙ sym c.value.ensures ∙ c.in_ok-value.was in
+    let e : value (result_of c.args.context.now.fit.now c.args.j) c.in_ok-known.field-0 ≡ Some c.in_ok-value.field-0 =
+    ap (value (result_of c.args.context.now.fit.now c.args.j)) (search rules) ∙ sym c.value.ensures ∙ c.in_ok-value.was in
     let v : to_z w32 (of_z w32 c.to_i32.result) ≡ to_i32 c.in_ok-value.field-0 = search rules in
     rw (c.in_ok-known.was, e) (ap Some v)

@@ -7,7 +7,8 @@ use borrow.Author.Rules.{rules}
 use Rattle.fit.specs.Fit.{result_of, fit_of}
 use Rattle.fit.specs.Lookups.{value}
 use Rattle.context.specs.Context.{context}
-use Rattle.context.specs.Gathered.{context_of, pairs_of}
+use Rattle.context.specs.Gathered.{context_of}
+use Rattle.context.specs.Held.{pairs_in, context_in}
 use Rattle.item.specs.Item.{rig_size_at}
 use Rattle.item.proofs.Rules.{rig-no_name, rig-no_ship, rig-each}
 use Rattle.item.proofs.rig_size.Goals as goal
@@ -16,15 +17,15 @@ pub returns-in_default : goal.returns-in_default
 unfolding context_of context
 returns-in_default c =
     let a = c.args in
-    (rig-no_name (context_of a.catalogue.now a.fit.now) (pairs_of a.catalogue.now a.fit.now) (sym c.attribute_id.ensures ∙ c.in_default.is), omega arith)
+    (rig-no_name (context_in a.context.now) (pairs_in a.context.now) (sym c.attribute_id.ensures ∙ c.in_default.is), omega arith)
 
 pub returns-in_default-value : goal.returns-in_default-value
 unfolding context_of context fit_of
 returns-in_default-value c =
     let a = c.args in
     let z : c.in-Some.id ≡ to_z w32 (of_z w32 c.in-Some.id) = search rules in (
-      rig-no_ship (context_of a.catalogue.now a.fit.now) (pairs_of a.catalogue.now a.fit.now) c.in-Some.id (sym c.attribute_id.ensures ∙ c.in-Some.is)
-          (ap (value (result_of a.fit.now 0)) z ∙ sym c.value.ensures ∙ c.in_default-value.is),
+      rig-no_ship (context_in a.context.now) (pairs_in a.context.now) c.in-Some.id (sym c.attribute_id.ensures ∙ c.in-Some.is)
+          (ap (value (result_of a.context.now.fit.now 0)) z ∙ sym c.value.ensures ∙ c.in_default-value.is),
       omega arith,
     )
 
@@ -33,9 +34,9 @@ unfolding context_of context fit_of
 returns c =
     let a = c.args in
     let z : c.in-Some.id ≡ to_z w32 (of_z w32 c.in-Some.id) = search rules in
-    let w = c.report.ensures a.catalogue.now (rig_size_at c.in-Some.id c.in-Some-value.ship) (λ i r h p. search rules) in (
-      rig-each (context_of a.catalogue.now a.fit.now) (pairs_of a.catalogue.now a.fit.now) c.in-Some.id c.in-Some-value.ship
+    let w = c.report.ensures (rig_size_at c.in-Some.id c.in-Some-value.ship) (λ i r h p. search rules) in (
+      rig-each (context_in a.context.now) (pairs_in a.context.now) c.in-Some.id c.in-Some-value.ship
           (sym c.attribute_id.ensures ∙ c.in-Some.is)
-          (ap (value (result_of a.fit.now 0)) z ∙ sym c.value.ensures ∙ c.in-Some-value.is) w.0,
+          (ap (value (result_of a.context.now.fit.now 0)) z ∙ sym c.value.ensures ∙ c.in-Some-value.is) w.0,
       w.1,
     )

@@ -1,6 +1,6 @@
 -- `item::standup` meets its contract: what is said of each pair, with marks that were looked up once.
 use borrow.Author.Rules.{rules}
-use Rattle.context.specs.Gathered.{context_of}
+use Rattle.context.specs.Held.{context_in}
 use Rattle.item.specs.Item.{standup, standup_at}
 use Rattle.item.proofs.standup.Goals as goal
 
@@ -8,4 +8,4 @@ pub returns : goal.returns
 unfolding standup
 returns c =
     let a = c.args in
-    c.report.ensures a.catalogue.now (standup_at (context_of a.catalogue.now a.fit.now)) (λ i r h p. search rules)
+    c.report.ensures (standup_at (context_in a.context.now)) (λ i r h p. search rules)

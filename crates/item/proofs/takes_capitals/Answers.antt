@@ -15,12 +15,12 @@ pub returns-then-amount : goal.returns-then-amount
 unfolding of_bits context_of context fit_of
 returns-then-amount c =
     let e = ap (λ (v : Float). ne v zero_f)
-    (c.amount.ensures ∙ ap (amount (result_of c.args.fit.now 0)) (to_z-of_z w32 c.args.capital c.ranges.capital)) in
+    (c.amount.ensures ∙ ap (amount (result_of c.args.context.now.fit.now 0)) (to_z-of_z w32 c.args.capital c.ranges.capital)) in
     or-then e _ c.if-amount.true
 
 pub returns-else-amount : goal.returns-else-amount
 unfolding of_bits context_of context fit_of
 returns-else-amount c =
     let e = ap (λ (v : Float). ne v zero_f)
-    (c.amount.ensures ∙ ap (amount (result_of c.args.fit.now 0)) (to_z-of_z w32 c.args.capital c.ranges.capital)) in
+    (c.amount.ensures ∙ ap (amount (result_of c.args.context.now.fit.now 0)) (to_z-of_z w32 c.args.capital c.ranges.capital)) in
     or-else e c.if-amount.false c.is_structure.ensures

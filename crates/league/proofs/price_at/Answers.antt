@@ -16,15 +16,13 @@ returns-then-is_fitted_at c =
     let prices = prices_of a.profile.now in
     let e : c.points_of.result ≡ points_of prices a.group =
     c.points_of.ensures ∙ ap (points_of prices) (to_z-of_z w32 a.group c.ranges.group) in (
-      λ catalogue. e ∙ sym (ap (λ (t : Bool). cond t (points_of prices a.group) 0)
-          (sym (c.is_fitted_at.ensures catalogue) ∙ c.if-is_fitted_at.true)),
-      subst Fair (sym e) (points-fair a.profile.now c.requires.0 a.group),
+      e ∙ sym (ap (λ (t : Bool). cond t (points_of prices a.group) 0) (sym c.is_fitted_at.ensures ∙ c.if-is_fitted_at.true)),
+      subst Fair (sym e) (points-fair a.profile.now c.is_sound.ensures a.group),
     )
 
-pub returns : goal.returns
-returns c =
+pub returns-else-is_fitted_at : goal.returns-else-is_fitted_at
+returns-else-is_fitted_at c =
     let a = c.args in (
-      λ catalogue. sym (ap (λ (t : Bool). cond t (points_of (prices_of a.profile.now) a.group) 0)
-          (sym (c.is_fitted_at.ensures catalogue) ∙ c.if-is_fitted_at.false)),
+      sym (ap (λ (t : Bool). cond t (points_of (prices_of a.profile.now) a.group) 0) (sym c.is_fitted_at.ensures ∙ c.if-is_fitted_at.false)),
       inl (omega arith),
     )

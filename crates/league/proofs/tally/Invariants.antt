@@ -11,6 +11,6 @@ use Rattle.league.proofs.tally.Given as goal
 
 abbrev pub invariant-loop-i : goal.invariant-loop-i
 invariant-loop-i l =
-    Passed l.catalogue l.fit (banned_at (prices_of l.profile)) l.initial.out l.n l.out l.k l.i
-    × (l.points ≡ points (prices_of l.profile) (table l.i (pair_at l.catalogue l.fit)))
+    Passed l.context.catalogue.now l.context.fit.now (banned_at (prices_of l.profile)) l.initial.entries l.entries l.i
+    × (l.points ≡ points (prices_of l.profile) (table l.i (pair_at l.context.catalogue.now l.context.fit.now)))
     × (l.points ≤ Sizes.most_points * l.i)

@@ -5,23 +5,26 @@ use mir.Syntax.{w32}
 use mir.ValLaws.{to_z-of_z}
 use Rattle.fit.specs.Fit.{result_of}
 use Rattle.fit.specs.Lookups.{value}
-use Rattle.context.specs.Gathered.{pair_at}
+use Rattle.context.specs.Held.{pair_in}
 use Rattle.limits.proofs.Limits.{no_limit, not_fitted, allows}
 use Rattle.limits.proofs.allowed_at.Goals as goal
 
 pub returns-in_err-value : goal.returns-in_err-value
-returns-in_err-value c = λ catalogue.
-    let look = value (result_of c.args.fit.now (c.args.i + 2)) in
-    c.from_residual.ensures ∙ no_limit c.args.id (pair_at catalogue c.args.fit.now c.args.i) (sym (c.in_err-value.ensures ∙ ap look (to_z-of_z w32 c.args.id c.ranges.id)))
+returns-in_err-value c =
+    let a = c.args in
+    let look = value (result_of a.context.now.fit.now (a.i + 2)) in
+    c.from_residual.ensures ∙ no_limit a.id (pair_in a.context.now a.i) (sym (c.in_err-value.ensures ∙ ap look (to_z-of_z w32 a.id c.ranges.id)))
 
 pub returns-then-not-is_fitted_at : goal.returns-then-not-is_fitted_at
-returns-then-not-is_fitted_at c = λ catalogue.
-    let look = value (result_of c.args.fit.now (c.args.i + 2)) in
-    not_fitted c.args.id (pair_at catalogue c.args.fit.now c.args.i) (sym (c.in_ok-value.ensures ∙ ap look (to_z-of_z w32 c.args.id c.ranges.id)))
-    (sym (c.is_fitted_at.ensures catalogue) ∙ c.if-not-is_fitted_at.true)
+returns-then-not-is_fitted_at c =
+    let a = c.args in
+    let look = value (result_of a.context.now.fit.now (a.i + 2)) in
+    not_fitted a.id (pair_in a.context.now a.i) (sym (c.in_ok-value.ensures ∙ ap look (to_z-of_z w32 a.id c.ranges.id)))
+    (sym c.is_fitted_at.ensures ∙ c.if-not-is_fitted_at.true)
 
 pub returns : goal.returns
-returns c = λ catalogue.
-    let look = value (result_of c.args.fit.now (c.args.i + 2)) in
-    allows c.args.id (pair_at catalogue c.args.fit.now c.args.i) (sym (c.in_ok-value.ensures ∙ ap look (to_z-of_z w32 c.args.id c.ranges.id)))
-    (sym (c.is_fitted_at.ensures catalogue) ∙ c.if-not-is_fitted_at.false) c.to_u32.ensures
+returns c =
+    let a = c.args in
+    let look = value (result_of a.context.now.fit.now (a.i + 2)) in
+    allows a.id (pair_in a.context.now a.i) (sym (c.in_ok-value.ensures ∙ ap look (to_z-of_z w32 a.id c.ranges.id)))
+    (sym c.is_fitted_at.ensures ∙ c.if-not-is_fitted_at.false) c.to_u32.ensures

@@ -4,7 +4,8 @@ use Rattle.lists.proofs.Few.{image_few}
 use Rattle.lists.proofs.most_entries.Goals as goal
 
 pub returns : goal.returns
-returns c = (
-  λ t x. omega (arith, image_few c.args.fit.now x t, c.skill_count.ensures, c.pair_count.ensures),
-  omega (arith, c.requires.sized.skills, c.requires.sized.items, c.skill_count.ensures, c.pair_count.ensures),
-)
+returns c =
+    let s = c.is_sound.ensures.sized in (
+      λ t x. omega (arith, image_few c.args.fit.now x t, c.skill_count.ensures, c.pair_count.ensures),
+      omega (arith, s.skills, s.items, c.skill_count.ensures, c.pair_count.ensures),
+    )

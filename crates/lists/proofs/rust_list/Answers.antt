@@ -3,7 +3,7 @@ use Rattle.std.proofs.Common.{sym, ap}
 use Rattle.numbers.specs.Reading.{reader_number}
 use Rattle.catalogue.specs.Catalogue.{catalogue_of}
 use Rattle.fit.specs.Fit.{fit_of}
-use Rattle.entry.proofs.Wrote.{wrote-same}
+use Rattle.entry.proofs.Emitted.{emitted-same}
 use Rattle.validate.specs.Validate.{list_of}
 use Rattle.lists.proofs.Guests.{no_guest, for_other, guest_list}
 use Rattle.lists.proofs.rust_list.Goals as goal
@@ -11,12 +11,13 @@ use Rattle.lists.proofs.rust_list.Goals as goal
 pub returns-in-Guest : goal.returns-in-Guest
 returns-in-Guest c =
     let w = c.without_skills.ensures in
-    let a = c.args in
-    (wrote-same (guest_list a.catalogue.now a.fit.now (reader_number a.reader) (ap reader_number c.in-Guest.is)) w.0, w.1)
+    let x = c.args.context.now in
+    let reader = reader_number c.args.reader in
+    (emitted-same (guest_list x.catalogue.now x.fit.now reader (ap reader_number c.in-Guest.is)) w.0, w.1)
 
 pub returns-in-Pilot : goal.returns-in-Pilot
 returns-in-Pilot c =
     let w = c.validate.ensures in
-    let a = c.args in
-    let es = list_of (catalogue_of a.catalogue.now) (fit_of a.fit.now) in
-    (wrote-same (sym (for_other (reader_number a.reader) es (no_guest c.in-Pilot.is))) w.0, w.1)
+    let x = c.args.context.now in
+    let es = list_of (catalogue_of x.catalogue.now) (fit_of x.fit.now) in
+    (emitted-same (sym (for_other (reader_number c.args.reader) es (no_guest c.in-Pilot.is))) w.0, w.1)

@@ -8,7 +8,7 @@ use Rattle.catalogue.specs.Catalogue.{Id, catalogue_of}
 use Rattle.fit.specs.Fit.{item_at}
 use Rattle.entry.specs.declared.Rule.TheVariants.{UnknownType}
 use Rattle.entry.specs.Entries.{on_item}
-use Rattle.entry.proofs.Wrote.{wrote-same}
+use Rattle.entry.proofs.Emitted.{emitted-same}
 use Rattle.lists.specs.Unknown.{unknown_type_at}
 use Rattle.lists.proofs.Unknowns.{none-told}
 use Rattle.lists.proofs.unknown_type_at.Goals as goal
@@ -18,6 +18,7 @@ unfolding unknown_type_at
 returns c =
     let a = c.args in
     let y = c.item_type-id in
-    let missing = none-told (catalogue_of a.catalogue.now) (item_at a.fit.now a.i).type c.type_at.result c.type_at.ensures c.is_none.ensures in
+    let x = a.context.now in
+    let missing = none-told (catalogue_of x.catalogue.now) (item_at x.fit.now a.i).type c.type_at.result c.type_at.ensures c.is_none.ensures in
     let type = to_z-of_z w32 y.result (record { sfits = y.type_inv }) ∙ y.ensures in
-    wrote-same (ap₂ (λ (b : Bool) (z : Id). when b (on_item a.i (UnknownType z))) missing type) c.emit_when.ensures
+    emitted-same (ap₂ (λ (b : Bool) (z : Id). when b (on_item a.i (UnknownType z))) missing type) c.emit_when.ensures

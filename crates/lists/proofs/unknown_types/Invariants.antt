@@ -6,4 +6,4 @@ use Rattle.lists.specs.Unknown.{unknown_type_at}
 use Rattle.lists.proofs.unknown_types.Given as goal
 
 abbrev pub invariant-loop-i : goal.invariant-loop-i
-invariant-loop-i l = Passed l.catalogue l.fit (unknown_type_at (catalogue_of l.catalogue)) l.initial.out l.n l.out l.m l.i
+invariant-loop-i l = Passed l.context.catalogue.now l.context.fit.now (unknown_type_at (catalogue_of l.context.catalogue.now)) l.initial.entries l.entries l.i

@@ -1,5 +1,5 @@
 -- `profile::any_too_dear` meets its contract. The invariant: the verdict so far is that of the first i groups.
-use Rattle.std.proofs.Common.{ℕ, Bool, ◌||◌, ◌≡◌, ◌+◌, ◌*◌, sym, ap, ap₂, ◌∙◌, arith}
+use Rattle.std.proofs.Common.{ℕ, ◌||◌, ◌≡◌, ◌+◌, ◌*◌, sym, ap, ap₂, ◌∙◌, arith}
 use Rattle.words.specs.Words.{table, any_of}
 use Rattle.words.proofs.Tables.{any_none, any-more}
 use Rattle.image.specs.Bytes.{u32_at}

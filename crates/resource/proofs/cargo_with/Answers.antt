@@ -10,12 +10,12 @@ pub returns-then-slot-ne-CARGO : goal.returns-then-slot-ne-CARGO
 unfolding is_in
 returns-then-slot-ne-CARGO c =
     let a = c.args in
-    let e : eqb (item_at a.fit.now a.i).slot Slots.cargo ≡ false = ne_eqb _ _ (λ q. c.if-slot-ne-CARGO.true (c.item_slot-slot.ensures ∙ q)) in
+    let e : eqb (item_at a.context.now.fit.now a.i).slot Slots.cargo ≡ false = ne_eqb _ _ (λ q. c.if-slot-ne-CARGO.true (c.item_slot-slot.ensures ∙ q)) in
     rw e
 
 pub returns : goal.returns
 unfolding is_in
 returns c =
     let a = c.args in
-    let e : eqb (item_at a.fit.now a.i).slot Slots.cargo ≡ true = eq-eqb _ _ (sym c.item_slot-slot.ensures ∙ c.if-slot-ne-CARGO.false) in
+    let e : eqb (item_at a.context.now.fit.now a.i).slot Slots.cargo ≡ true = eq-eqb _ _ (sym c.item_slot-slot.ensures ∙ c.if-slot-ne-CARGO.false) in
     rw e (ap (add binary64 a.sum) c.room_at.ensures)

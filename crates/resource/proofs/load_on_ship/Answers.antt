@@ -7,7 +7,7 @@ use Rattle.resource.proofs.load_on_ship.Goals as goal
 
 pub returns : goal.returns
 returns c =
-    let ship = amount (result_of c.args.fit.now 0) in (
+    let ship = amount (result_of c.args.context.now.fit.now 0) in (
       c.amount.ensures ∙ ap ship (to_z-of_z w32 c.args.load c.ranges.load),
       c.amount-2.ensures ∙ ap ship (to_z-of_z w32 c.args.output c.ranges.output),
     )

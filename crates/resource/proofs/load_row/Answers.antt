@@ -6,24 +6,25 @@ use Rattle.fit.specs.Lookups.{amount}
 use Rattle.resource.proofs.Named.{load-some, load-half, load-none}
 use Rattle.resource.proofs.load_row.Goals as goal
 
-pub returns-in-Some-available : goal.returns-in-Some-available
-returns-in-Some-available c =
+pub returns-in_default : goal.returns-in_default
+returns-in_default c =
     let row = c.args.row in
-    let ship = amount (result_of c.args.fit.now 0) in
-    load-some c.args.catalogue.now c.args.fit.now row.resource row.load row.output
-    (sym c.attribute_id-used.ensures ∙ c.in-Some.is) (sym c.attribute_id-available.ensures ∙ c.in-Some-available.is)
-    (c.load_on_ship.ensures.0 ∙ ap ship (to_z-of_z w32 c.in-Some.u (search (rules, c.in-Some.known_told-1-own.given))))
-    (c.load_on_ship.ensures.1 ∙ ap ship (to_z-of_z w32 c.in-Some-available.a (search rules)))
+    let x = c.args.context.now in
+    load-none x.catalogue.now x.fit.now row.resource row.load row.output (sym c.in_default.ensures)
+
+pub returns-in_default-attribute_id : goal.returns-in_default-attribute_id
+returns-in_default-attribute_id c =
+    let row = c.args.row in
+    let x = c.args.context.now in
+    load-half x.catalogue.now x.fit.now row.resource row.load row.output (sym c.in-Some.ensures) (sym c.in_default-attribute_id.ensures)
+
+pub returns : goal.returns
+returns c =
+    let row = c.args.row in
+    let x = c.args.context.now in
+    let ship = amount (result_of x.fit.now 0) in
+    load-some x.catalogue.now x.fit.now row.resource row.load row.output
+    (sym c.in-Some.ensures) (sym c.in-Some-attribute_id.ensures)
+    (c.load_on_ship.ensures.0 ∙ ap ship (to_z-of_z w32 c.in-Some.load (search rules)))
+    (c.load_on_ship.ensures.1 ∙ ap ship (to_z-of_z w32 c.in-Some-attribute_id.output (search rules)))
     c.resource.ensures
-
-pub returns-in-None-available : goal.returns-in-None-available
-returns-in-None-available c =
-    let row = c.args.row in
-    load-half c.args.catalogue.now c.args.fit.now row.resource row.load row.output
-    (sym c.attribute_id-used.ensures ∙ c.in-Some.is) (sym c.attribute_id-available.ensures ∙ c.in-None-available.is)
-
-pub returns-in-None : goal.returns-in-None
-returns-in-None c =
-    let row = c.args.row in
-    load-none c.args.catalogue.now c.args.fit.now row.resource row.load row.output
-    (sym c.attribute_id-used.ensures ∙ c.in-None.is)

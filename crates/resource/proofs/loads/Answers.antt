@@ -1,25 +1,23 @@
 -- `resource::loads` meets its contract: the code's row is the definition's.
 use Rattle.std.proofs.Common.{get_or, ap, arith}
 use Rattle.numbers.specs.declared.Resource.TheVariants.{Cpu}
-use Rattle.entry.proofs.Wrote.{wrote-same, wrote-each_none, wrote-each_next, wrote-each_all}
-use Rattle.context.specs.Gathered.{context_of}
+use Rattle.entry.proofs.Emitted.{emitted-same, emitted-each_none, emitted-each_next, emitted-each_all}
+use Rattle.context.specs.Held.{context_in}
 use Rattle.resource.specs.Resource.{LOADS, load_of, loads}
 use Rattle.resource.proofs.Named.{few-load}
 use Rattle.resource.proofs.Rows.{row_same}
 use Rattle.resource.proofs.loads.Goals as goal
 
 pub loop-row-init : goal.loop-row-init
-loop-row-init c =
-    let a = c.args in
-    (wrote-each_none (load_of (context_of a.catalogue.now a.fit.now)) LOADS _ _, omega arith)
+loop-row-init c = (emitted-each_none (load_of (context_in c.args.context.now)) LOADS _, omega arith)
 
 pub loop-row-preserved : goal.loop-row-preserved
 loop-row-preserved c =
     let l = c.loop-row in
     let i = l.row-index in
-    let x = context_of c.args.catalogue.now c.args.fit.now in
-    let w = wrote-same (ap (load_of x) (row_same i)) c.load_row-k.ensures in (
-      wrote-each_next (load_of x) LOADS i (Cpu, 0, 0) c.loop-row-test.true l.invariant.0 w,
+    let x = context_in c.args.context.now in
+    let w = emitted-same (ap (load_of x) (row_same i)) c.load_row.ensures in (
+      emitted-each_next (load_of x) LOADS i (Cpu, 0, 0) c.loop-row-test.true l.invariant.0 w,
       omega (arith, w.count, few-load x (get_or LOADS i (Cpu, 0, 0)), l.invariant.1),
     )
 
@@ -27,5 +25,4 @@ pub returns : goal.returns
 unfolding loads
 returns c =
     let l = c.loop-row in
-    let a = c.args in
-    (wrote-each_all (load_of (context_of a.catalogue.now a.fit.now)) LOADS l.row-index c.loop-row-test.false l.invariant.0, omega arith)
+    (emitted-each_all (load_of (context_in c.args.context.now)) LOADS l.row-index c.loop-row-test.false l.invariant.0, omega arith)

@@ -7,7 +7,7 @@ use native.Mathlib.Omega.{arith}
 use mathlib.Core.Path.{refl, ap}
 use borrow.Author.Rules.{rules}
 use Rattle.fit.specs.Fit.{fit_of}
-use Rattle.entry.proofs.Wrote.{wrote-length, wrote-same, wrote-table_none, wrote-table_next, wrote-table_all}
+use Rattle.entry.proofs.Emitted.{emitted-same, emitted-table_none, emitted-table_next, emitted-table_all}
 use Rattle.skill.specs.Skill.{entry_of}
 use Rattle.skill.specs.Held.{zip_to, held_at}
 use Rattle.skill.proofs.Zips.{pair_eq}
@@ -19,7 +19,7 @@ unfolding zip_to
 loop-i-init c =
     let a = c.args in
     let w = a.walk in
-    (wrote-table_none (entry_of (fit_of a.fit.now) a.res) (held_at w.ids w.levels) _ _, omega arith)
+    (emitted-table_none (entry_of (fit_of a.fit.now) a.res) (held_at w.ids w.levels) _, omega arith)
 
 pub loop-i-preserved : goal.loop-i-preserved
 unfolding zip_to
@@ -30,12 +30,14 @@ loop-i-preserved c =
     let f = entry_of (fit_of a.fit.now) a.res in
     let skill = get_or w.ids l.i (pos 0) in
     let e = pair_eq (to_z-of_z w32 skill (search rules)) (refl {a = get_or w.levels l.i 0}) in
-    let r = wrote-same (ap f e) c.report_skill-k.ensures in
+    let r = emitted-same (ap f e) c.report_skill.ensures in
     let few = few-entry (fit_of a.fit.now) a.res (held_at w.ids w.levels l.i) in
-    (wrote-table_next f (held_at w.ids w.levels) l.i l.invariant.0 r, omega (arith, r.count, few, l.invariant.1))
+    (emitted-table_next f (held_at w.ids w.levels) l.i l.invariant.0 r, omega (arith, r.count, few, l.invariant.1))
 
-pub shape_of-out : goal.shape_of-out
-shape_of-out c = wrote-length c.loop-i.invariant.0
+pub report_skill-requires : goal.report_skill-requires
+report_skill-requires c =
+    let l = c.loop-i in
+    (omega (arith, c.requires.0, c.is_sound.ensures.sized.results), omega (arith, l.invariant.1, l.auto, c.loop-i-test.true, c.requires))
 
 pub returns : goal.returns
 unfolding zip_to
@@ -44,6 +46,6 @@ returns c =
     let a = c.args in
     let w = a.walk in
     let f = entry_of (fit_of a.fit.now) a.res in (
-      wrote-table_all f (held_at w.ids w.levels) l.auto.i-end c.loop-i-test.false l.invariant.0,
-      omega (arith, l.auto.i-end, l.invariant.1, c.requires.2),
+      emitted-table_all f (held_at w.ids w.levels) l.auto.i-end c.loop-i-test.false l.invariant.0,
+      omega (arith, l.auto.i-end, l.invariant.1, c.requires.1),
     )

@@ -10,5 +10,5 @@ use Rattle.slot.proofs.holds_one.Goals as goal
 
 pub returns : goal.returns
 unfolding holds_one is_in
-returns c = λ catalogue.
+returns c =
     ap (λ (slot : ℕ). not (eqb slot Slots.drone_bay || eqb slot Slots.fighter_bay || eqb slot Slots.cargo)) c.item_slot-slot.ensures

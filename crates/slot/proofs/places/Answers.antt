@@ -13,14 +13,14 @@ pub loop-i-init : goal.loop-i-init
 loop-i-init c = (refl, λ k h. absurd (None k h))
 
 pub bounds-places-i : goal.bounds-places-i
-bounds-places-i c = omega (arith, c.requires.sized.items)
+bounds-places-i c = omega (arith, c.args.context.now.gathered.fit_sound.sized.items)
 
 pub loop-i-preserved : goal.loop-i-preserved
 loop-i-preserved c =
     let l = c.loop-i in
-    let b : l.i < length l.places = omega (arith, l.invariant.0, c.requires.sized.items) in (
+    let b : l.i < length l.places = omega (arith, l.invariant.0, c.args.context.now.gathered.fit_sound.sized.items) in (
       length-set l.places l.i _ ∙ l.invariant.0,
-      placed_next c.args.fit.now l.places l.i b l.invariant.1
+      placed_next c.args.context.now.fit.now l.places l.i b l.invariant.1
           (sits_as c.item_slot.ensures c.item_index.ensures c.place_of.ensures),
     )
 

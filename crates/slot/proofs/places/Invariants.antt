@@ -5,4 +5,4 @@ use Rattle.slot.specs.AtPair.{Placed}
 use Rattle.slot.proofs.places.Given as goal
 
 abbrev pub invariant-loop-i : goal.invariant-loop-i
-invariant-loop-i l = (length l.places ≡ 256) × Placed l.i l.fit l.places
+invariant-loop-i l = (length l.places ≡ 256) × Placed l.i l.context.fit.now l.places

@@ -1,5 +1,5 @@
 -- `training::move_down` meets its contract: the library's move is a store of the bytes that stood there.
-use Rattle.std.proofs.Common.{ℕ, List, ◌≡◌, ◌+◌, ◌-◌, ◌++◌, append_assoc, sym, ap, ◌∙◌, length, take, drop, length-drop, arith}
+use Rattle.std.proofs.Common.{ℕ, ◌≡◌, ◌+◌, ◌-◌, ◌++◌, append_assoc, sym, ap, ◌∙◌, length, take, drop, length-drop, arith}
 use lib.Seq.{length-take-le}
 use Rattle.image.proofs.Stores.{put-parts}
 use Rattle.training.proofs.move_down.Goals as goal

@@ -10,4 +10,4 @@ use Rattle.training.proofs.new_skills.Given as goal
 
 abbrev pub invariant-loop-i : goal.invariant-loop-i
 invariant-loop-i l =
-    (l.n ≡ l.walk.len) × (l.count ≡ count_of (is_new (training_of (fit_of l.fit))) (held_of l.walk.ids l.walk.levels l.i)) × (l.count ≤ l.i)
+    (l.count ≡ count_of (is_new (training_of (fit_of l.fit))) (held_of l.walk.ids l.walk.levels l.i)) × (l.count ≤ l.i)

@@ -1,5 +1,5 @@
 -- `training::train` meets its contract: refusal 8, the walk, refusal 9, refusal 16, and the fit that the turns lead to.
-use Rattle.std.proofs.Common.{◌≡◌, ◌+◌, ◌<◌, ◌≤◌, refl, sym, ap, ◌∙◌, arith}
+use Rattle.std.proofs.Common.{◌+◌, ◌<◌, ◌≤◌, refl, sym, ap, ◌∙◌, arith}
 use borrow.Author.Rules.{rules}
 use Rattle.numbers.specs.Refusals as Refusals
 use Rattle.catalogue.specs.Catalogue.{catalogue_of}
@@ -25,7 +25,7 @@ returns-in_default c =
     bytes_same (sym (train-9 (catalogue_of a.catalogue.now) (fit_of a.fit.now) a.res _ _ (has_result a.fit.now a.res small) many)) (bytes-refused _ Refusals.too_many_skills refl)
 
 pub too_many_listed-requires : goal.too_many_listed-requires
-too_many_listed-requires c = (c.requires.1, (c.in-Ok.ensures.holds c.in-Ok.walk refl).0)
+too_many_listed-requires c = (c.in-Ok.ensures.holds c.in-Ok.walk refl).0
 
 pub returns-then-too_many_listed : goal.returns-then-too_many_listed
 returns-then-too_many_listed c =
@@ -40,7 +40,7 @@ returns-then-too_many_listed c =
     (bytes-refused _ Refusals.too_many_listed refl)
 
 pub train_listed-requires : goal.train_listed-requires
-train_listed-requires c = (c.requires.1, (c.in-Ok.ensures.holds c.in-Ok.walk refl).0)
+train_listed-requires c = (c.in-Ok.ensures.holds c.in-Ok.walk refl).0
 
 pub returns : goal.returns
 returns c =
@@ -50,7 +50,7 @@ returns c =
     let below : a.res < result_count a.fit.now + 2 = omega (arith, small) in
     let few = over-few a.catalogue.now a.fit.now a.res below w c.in-Ok.ensures in
     let room = listed-count a.catalogue.now a.fit.now a.res w c.in-Ok.ensures below ∙ sym c.too_many_listed.ensures ∙ c.if-too_many_listed.false in
-    let led = trained-by_turns a.catalogue.now a.fit.now a.res w c.in-Ok.ensures below c.requires.1 a.steps in
+    let led = trained-by_turns a.catalogue.now a.fit.now a.res w c.in-Ok.ensures below c.is_sound.ensures a.steps in
     bytes_same
     (ap (λ (x : Training). let bs = trained_image a.fit.now x in output (room_refusals a.out.now bs) bs) led
     ∙ sym (train-past (catalogue_of a.catalogue.now) (fit_of a.fit.now) a.res _ _ (has_result a.fit.now a.res small) few room))

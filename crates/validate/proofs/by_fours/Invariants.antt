@@ -5,4 +5,4 @@ use Rattle.validate.specs.Skills.{OfSkills}
 use Rattle.validate.proofs.by_fours.Given as goal
 
 abbrev pub invariant-loop-k : goal.invariant-loop-k
-invariant-loop-k l = OfSkills (catalogue_of l.catalogue) l.fit (4 * l.k) l.initial.out l.n l.out l.m
+invariant-loop-k l = OfSkills (catalogue_of l.context.catalogue.now) l.context.fit.now (4 * l.k) l.initial.entries l.entries

@@ -9,13 +9,14 @@ use Rattle.validate.proofs.not_a_skill.Goals as goal
 
 pub one_by_one-requires : goal.one_by_one-requires
 one_by_one-requires c =
-    let few = skills-few (catalogue_of c.args.catalogue.now) c.args.fit.now (4 * (c.searched-count.result / 4)) c.by_fours-m.ensures in
+    let x = c.args.context.now in
+    let few = skills-few (catalogue_of x.catalogue.now) x.fit.now (4 * (c.searched-count.result / 4)) c.by_fours.ensures in
     let count = c.searched-count.ensures in
-    (c.requires.0, c.requires.1, omega (arith, count), omega (arith, few, count, c.requires.2, c.requires.1.sized.skills))
+    (omega (arith, count), omega (arith, few, count, c.requires, x.gathered.fit_sound.sized.skills))
 
 pub returns : goal.returns
 unfolding not_a_skill fit_of
 returns c =
-    let fit = c.args.fit.now in
-    let all = c.one_by_one.ensures _ _ c.by_fours-m.ensures in
-    (all, omega (arith, skills-few (catalogue_of c.args.catalogue.now) fit (skill_count fit) all, c.requires.1.sized.skills))
+    let x = c.args.context.now in
+    let all = c.one_by_one.ensures _ c.by_fours.ensures in
+    (all, omega (arith, skills-few (catalogue_of x.catalogue.now) x.fit.now (skill_count x.fit.now) all, x.gathered.fit_sound.sized.skills))

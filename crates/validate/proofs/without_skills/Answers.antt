@@ -2,21 +2,21 @@
 use native.Mathlib.Omega.{arith}
 use mathlib.Core.Path.{sym, ◌∙◌}
 use mathlib.Core.List.{[]}
-use Rattle.entry.proofs.Wrote.{wrote-append, wrote-same}
+use Rattle.entry.proofs.Emitted.{emitted-append, emitted-same}
 use Rattle.validate.proofs.Hull.{no_hull, no_skills}
 use Rattle.validate.proofs.without_skills.Goals as goal
 
-pub returns-then-not-hull : goal.returns-then-not-hull
-returns-then-not-hull c =
-    let w = c.not_a_hull.ensures in
-    let a = c.args in
-    let off = sym c.is_hull-hull.ensures ∙ c.if-not-hull.true in
-    (wrote-same (no_hull a.catalogue.now a.fit.now off []) w, omega (arith, w.count))
-
-pub returns : goal.returns
-returns c =
-    let a = c.args in
-    let on = sym c.is_hull-hull.ensures ∙ c.if-not-hull.false in
-    let u = c.not_a_mode-n.ensures in
+pub returns-then-is_hull : goal.returns-then-is_hull
+returns-then-is_hull c =
+    let x = c.args.context.now in
+    let on = sym c.is_hull.ensures ∙ c.if-is_hull.true in
+    let u = c.not_a_mode.ensures in
     let v = c.hull_rules.ensures in
-    (wrote-same (no_skills a.catalogue.now a.fit.now on) (wrote-append u.0 v.0), omega (arith, u.1, v.1))
+    (emitted-same (no_skills x.catalogue.now x.fit.now on) (emitted-append u.0 v.0), omega (arith, u.1, v.1))
+
+pub returns-else-is_hull : goal.returns-else-is_hull
+returns-else-is_hull c =
+    let w = c.not_a_hull.ensures in
+    let x = c.args.context.now in
+    let off = sym c.is_hull.ensures ∙ c.if-is_hull.false in
+    (emitted-same (no_hull x.catalogue.now x.fit.now off []) w, omega (arith, w.count))

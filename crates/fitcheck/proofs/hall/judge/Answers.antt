@@ -23,27 +23,27 @@ pub returns-then-is_err : goal.returns-then-is_err
 returns-then-is_err c =
     share_unread (catalogue_of c.args.catalogue.now) c.args.fit.now (refused c.check.result c.check.ensures c.is_err.ensures.value c.if-is_err.true)
 
-pub item_count-requires : goal.item_count-requires
-item_count-requires c = sound _ (accepted c.check.result c.check.ensures c.is_err.ensures.value c.if-is_err.false)
+pub items-requires : goal.items-requires
+items-requires c = (sound _ (accepted c.check.result c.check.ensures c.is_err.ensures.value c.if-is_err.false)).sized
 
-pub result_count-requires : goal.result_count-requires
-result_count-requires c = sound _ (accepted c.check.result c.check.ensures c.is_err.ensures.value c.if-is_err.false)
+pub results-requires : goal.results-requires
+results-requires c = (sound _ (accepted c.check.result c.check.ensures c.is_err.ensures.value c.if-is_err.false)).sized
 
-pub returns-then-item_count-result_count : goal.returns-then-item_count-result_count
-returns-then-item_count-result_count c =
+pub returns-then-items-results : goal.returns-then-items-results
+returns-then-items-results c =
     share_unequal (catalogue_of c.args.catalogue.now) c.args.fit.now (accepted c.check.result c.check.ensures c.is_err.ensures.value c.if-is_err.false)
-    (λ q. omega (arith, c.item_count.ensures, c.result_count.ensures, c.if-item_count-result_count.true, q))
+    (λ q. omega (arith, c.items.ensures, c.results.ensures, c.if-items-results.true, q))
 
-pub gather-facts-requires : goal.gather-facts-requires
-gather-facts-requires c = (c.requires, sound _ (accepted c.check.result c.check.ensures c.is_err.ensures.value c.if-is_err.false))
+pub new-fit-requires : goal.new-fit-requires
+new-fit-requires c = sound _ (accepted c.check.result c.check.ensures c.is_err.ensures.value c.if-is_err.false)
 
 pub returns-then-is_empty : goal.returns-then-is_empty
 returns-then-is_empty c =
     share_clear (catalogue_of c.args.catalogue.now) c.args.fit.now (accepted c.check.result c.check.ensures c.is_err.ensures.value c.if-is_err.false)
-    (sym c.is_empty.ensures ∙ c.if-is_empty.true)
-    (omega (arith, c.item_count.ensures, c.result_count.ensures, c.if-item_count-result_count.false))
+    (sym (rw (c.new-context.ensures.0, c.new-context.ensures.1, c.new-fit.ensures) at c.is_empty.ensures) ∙ c.if-is_empty.true)
+    (omega (arith, c.items.ensures, c.results.ensures, c.if-items-results.false))
 
 pub returns : goal.returns
 returns c =
     share_faulted (catalogue_of c.args.catalogue.now) c.args.fit.now (accepted c.check.result c.check.ensures c.is_err.ensures.value c.if-is_err.false)
-    (sym c.is_empty.ensures ∙ c.if-is_empty.false)
+    (sym (rw (c.new-context.ensures.0, c.new-context.ensures.1, c.new-fit.ensures) at c.is_empty.ensures) ∙ c.if-is_empty.false)

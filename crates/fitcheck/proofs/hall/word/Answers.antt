@@ -7,7 +7,7 @@ use Rattle.fitcheck.proofs.HallLaws.{start_none, start-next, laid_long, laid_wit
 use Rattle.fitcheck.proofs.hall.word.Goals as goal
 
 pub size_at-n-requires : goal.size_at-n-requires
-size_at-n-requires c = omega (arith, laid_long c.args.input.now c.requires.1)
+size_at-n-requires c = omega (arith, laid_long c.args.input.now c.requires)
 
 pub loop-i-init : goal.loop-i-init
 loop-i-init c =
@@ -15,14 +15,14 @@ loop-i-init c =
     (omega (arith, start_none a.input.now), sym (word_none (catalogue_of a.catalogue.now) (fit_at a.input.now)), omega arith)
 
 pub length_at-size-requires : goal.length_at-size-requires
-length_at-size-requires c = omega (arith, laid_long c.args.input.now c.requires.1)
+length_at-size-requires c = omega (arith, laid_long c.args.input.now c.requires)
 
 -- fit i stands within the input
 pub part-fit-requires : goal.part-fit-requires
-part-fit-requires c = omega (arith, laid_within c.args.input.now c.requires.1 c.loop-i.i (omega arith))
+part-fit-requires c = omega (arith, laid_within c.args.input.now c.requires c.loop-i.i (omega arith))
 
 pub overflow_add-at-in-loop-i : goal.overflow_add-at-in-loop-i
-overflow_add-at-in-loop-i c = omega (arith, laid_within c.args.input.now c.requires.1 c.loop-i.i (omega arith))
+overflow_add-at-in-loop-i c = omega (arith, laid_within c.args.input.now c.requires c.loop-i.i (omega arith))
 
 pub loop-i-preserved : goal.loop-i-preserved
 loop-i-preserved c =

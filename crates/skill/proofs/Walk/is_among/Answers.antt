@@ -1,7 +1,7 @@
 -- `skill::Walk::is_among` meets its contract. The invariant: the answer so far is that of the first i ids.
 use Prim.Native.Nat.{ℕ}
 use native.Mathlib.Omega.{arith}
-use mathlib.Core.Path.{◌≡◌, sym, ap, ap₂, ◌∙◌}
+use mathlib.Core.Path.{◌≡◌, refl, sym, ap, ap₂, ◌∙◌}
 use lib.ListN.{get_or}
 use lib.IntN.{ℤ, pos}
 use mir.Syntax.{w32}
@@ -9,6 +9,7 @@ use mir.Val.{of_z, to_z}
 use mir.ValLaws.{to_z-of_z}
 use borrow.Author.Rules.{rules}
 use Rattle.words.specs.Words.{table, any_of, same}
+use Rattle.words.proofs.Ids.{bits_same}
 use Rattle.words.proofs.Tables.{any_none}
 use Rattle.words.proofs.Elements.{any-turn}
 use Rattle.skill.proofs.Walk.is_among.Goals as goal
@@ -21,7 +22,7 @@ loop-i-preserved c =
     let at : ℕ → ℤ = λ k. get_or c.args.self.now.ids k (pos 0) in
     let id = to_z w32 (of_z w32 c.args.id) in
     any-turn (λ (x : ℤ). same x id) at c.loop-i.i _ _ _ c.loop-i.invariant
-    (c.same_id.ensures ∙ ap (λ (x : ℤ). same x id) (to_z-of_z w32 (at c.loop-i.i) (search rules))) c.either-found.ensures
+    (bits_same (at c.loop-i.i) c.args.id (search rules) c.ranges.id ∙ ap (same (at c.loop-i.i)) (sym (to_z-of_z w32 c.args.id c.ranges.id))) refl
 
 pub returns : goal.returns
 returns c =
