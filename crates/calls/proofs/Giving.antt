@@ -28,7 +28,8 @@ use Rattle.calls.specs.Gave.{Gave, lent, word_of}
 use Rattle.calls.proofs.Results.{holds}
 use Rattle.calls.proofs.First.{Numbered, first-kept, first_past, numbered-inputs}
 
--- ---- which answer
+-- ---- which answer. Outputs.antt has these laws of an answer that is bytes, which is another type of specs/; what the two have in common
+-- is in First.antt, and one law of both would have as much to say at each of its two uses
 by_number : (k : ℕ) (es : List Entry) → 0 < k → answer_by k es ≡ Refused k
 unfolding answer_by
 by_number zero es h = absurd (omega arith)

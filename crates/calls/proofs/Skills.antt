@@ -1,22 +1,21 @@
 -- What the skill call answers, by the refusals of both images on a page, the number of the result and the length of its walk.
 use Prim.Native.Nat.{ℕ, ◌+◌, ◌≤◌, ◌<◌}
 use native.Mathlib.Omega.{arith}
-use mathlib.Core.Path.{◌≡◌, refl, sym, ◌∙◌}
+use mathlib.Core.Path.{◌≡◌, sym, ◌∙◌}
 use mathlib.Core.Bool.{Bool, true, false}
 use mathlib.Core.List.{List, ◌++◌}
 use lib.ListN.{length}
 use Rattle.std.specs.Prelude.{Result, Ok, is_err}
 use borrow.Author.Tests.{lt-ltb, le-ltb}
 use Rattle.words.specs.Words.{first_of}
-use Rattle.numbers.specs.Sizes as Sizes
 use Rattle.catalogue.specs.Catalogue.{catalogue_of}
 use Rattle.fit.specs.Fit.{fit_of, result_count}
 use Rattle.fit.proofs.Decoded.{results-length}
 use Rattle.entry.specs.declared.Entry.{Entry}
 use Rattle.skill.specs.Skill.{skill_list}
 use Rattle.skill.specs.Held.{HoldsWanted}
-use Rattle.skill.specs.declared.Walk.{Walk}
-use Rattle.skill.specs.declared.TooMany.{TooMany}
+use Rattle.skill.specs.declared.walk.Walk.{Walk}
+use Rattle.skill.specs.declared.walk.TooMany.{TooMany}
 use Rattle.skill.proofs.Reports.{too_many}
 use Rattle.skill.proofs.Limits.{over-limit}
 use Rattle.lists.specs.Terms.{Terms, skill_limit}
@@ -48,12 +47,12 @@ module _ (catalogue fit : List ℕ) (result : ℕ) (h : result < result_count fi
       pub over-page : t.skills < w.len → over_skills t (catalogue_of catalogue) (fit_of fit) result ≡ true
       over-page l =
           sym (over-limit (skill_limit t) catalogue fit result w v h (omega arith))
-          ∙ lt-ltb (skill_limit t) w.len (omega (arith, l, (v.holds w refl).0))
+          ∙ lt-ltb (skill_limit t) w.len (omega (arith, l, w.few))
 
       pub within-page : w.len ≤ t.skills → over_skills t (catalogue_of catalogue) (fit_of fit) result ≡ false
       within-page l =
           sym (over-limit (skill_limit t) catalogue fit result w v h (omega arith))
-          ∙ le-ltb (skill_limit t) w.len (omega (arith, l, (v.holds w refl).0))
+          ∙ le-ltb (skill_limit t) w.len (omega (arith, l, w.few))
 
 -- ---- the call of a pilot or an officer
 module _ (t : Terms) (catalogue fit : List ℕ) (result : ℕ) (buffer : List ℕ) where

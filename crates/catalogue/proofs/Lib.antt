@@ -1,5 +1,5 @@
 -- Laws of catalogues: blocks and their keys, what a sound one is, and its lookups.
-pub mod Blocks
+pub mod Tables
 pub mod Sound
 pub mod Reading
 pub mod Finding

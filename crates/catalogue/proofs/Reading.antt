@@ -1,26 +1,27 @@
 -- What a sound catalogue lets a reader rely on: sorted keys, and fields within their limits.
 use Prim.Native.Nat.{ℕ, ◌+◌, ◌*◌, ◌≤◌, ◌<◌}
 use native.Mathlib.Omega.{arith}
-use mathlib.Core.Path.{◌≡◌, sym, ap, ◌∙◌, subst}
+use mathlib.Core.Path.{◌≡◌, sym, ap, ◌∙◌}
 use mathlib.Core.Bool.{true, false, not, ◌||◌}
 use mathlib.Core.List.{List}
 use mathlib.Mathlib.Data.Bool.Basic.{or-eq-false-eq-eq-false-and-eq-false as neither}
 use lib.ListN.{take, drop}
 use lib.Dec.{ltb}
-use lib.IntN.{ℤ, pos}
+use lib.IntN.{pos}
 use lib.Signed.{lt_z, le_z}
 use borrow.Author.Tests.{lt-ltb, ltb-false, not-false}
 use Rattle.words.specs.Words.{in_order}
 use Rattle.words.proofs.Tables.{any_false}
 use Rattle.image.specs.Bytes.{i32_at, signed32}
 use Rattle.image.proofs.Parts.{part-i32}
-use Rattle.keys.specs.Keys.{Sorted, Parts, key_at, rank_of}
+use Rattle.keys.specs.Keys.{Sorted, key_at, rank_of}
+use Rattle.keys.proofs.Parts.{part-keys}
 use Rattle.keys.proofs.Orders.{ascending_sorted, descending_sorted, any-le}
 use Rattle.catalogue.specs.Catalogue.{name_count, effect_count, type_count, link_count, base_count, names_at, effects_at, types_at, links_at}
 use Rattle.catalogue.specs.Catalogue.{bases_at, name_at, effect_at}
 use Rattle.catalogue.specs.Sound.{Sound}
-use Rattle.catalogue.proofs.Blocks.{keys_part, names-ascend, effects-ascend, types-ascend, links-rise, bases-rise, bad-order}
-use Rattle.catalogue.proofs.Blocks.{name_over, mark-over, flag_over, bad-field}
+use Rattle.catalogue.proofs.Tables.{names-ascend, effects-ascend, types-ascend, links-rise, bases-rise, bad-order}
+use Rattle.catalogue.proofs.Tables.{name_over, mark-over, flag_over, bad-field}
 
 -- below 2 ^ 31 a number of 32 bits is itself
 pub signed_small : (x : ℕ) → x < 2147483648 → signed32 x ≡ pos x
@@ -83,21 +84,13 @@ module _ (b : List ℕ) (s : Sound b) where
       omega (arith, key j (omega arith), key k q, any-le true (λ i. (name_at b i).number) (name_count b) (passed b s).names j k p q)
 
   pub effects-sorted : Sorted (take (4 * effect_count b) (drop (effects_at b) b)) (effect_count b)
-  effects-sorted = ascending_sorted _ (effect_count b) (ap (in_order lt_z) (keys_part b (effects_at b) (effect_count b)) ∙ (passed b s).effects)
+  effects-sorted = ascending_sorted _ (effect_count b) (ap (in_order lt_z) (part-keys b (effects_at b) (effect_count b)) ∙ (passed b s).effects)
 
   pub types-sorted : Sorted (take (4 * type_count b) (drop (types_at b) b)) (type_count b)
-  types-sorted = ascending_sorted _ (type_count b) (ap (in_order lt_z) (keys_part b (types_at b) (type_count b)) ∙ (passed b s).types)
+  types-sorted = ascending_sorted _ (type_count b) (ap (in_order lt_z) (part-keys b (types_at b) (type_count b)) ∙ (passed b s).types)
 
   pub links-sorted : Sorted (take (4 * link_count b) (drop (links_at b) b)) (link_count b)
-  links-sorted = descending_sorted _ (link_count b) (ap (in_order le_z) (keys_part b (links_at b) (link_count b)) ∙ (passed b s).links)
+  links-sorted = descending_sorted _ (link_count b) (ap (in_order le_z) (part-keys b (links_at b) (link_count b)) ∙ (passed b s).links)
 
   pub bases-sorted : Sorted (take (4 * base_count b) (drop (bases_at b) b)) (base_count b)
-  bases-sorted = descending_sorted _ (base_count b) (ap (in_order le_z) (keys_part b (bases_at b) (base_count b)) ∙ (passed b s).bases)
-
--- the keys of the types, by the block that was found
-pub types-part : (catalogue : List ℕ) {keys : List ℕ} {at n : ℕ} {z : ℤ} {r : ℕ} → keys ≡ take (4 * n) (drop at catalogue) → at ≡ types_at catalogue
-    → n ≡ type_count catalogue → Parts keys n z r
-    → Parts (take (4 * type_count catalogue) (drop (types_at catalogue) catalogue)) (type_count catalogue) z r
-types-part c {keys} {at} {n} {z} {r} k p q h =
-    subst (λ (m : ℕ). Parts (take (4 * m) (drop (types_at c) c)) m z r) q
-    (subst (λ (a : ℕ). Parts (take (4 * n) (drop a c)) n z r) p (subst (λ (l : List ℕ). Parts l n z r) k h))
+  bases-sorted = descending_sorted _ (base_count b) (ap (in_order le_z) (part-keys b (bases_at b) (base_count b)) ∙ (passed b s).bases)

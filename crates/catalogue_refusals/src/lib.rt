@@ -7,10 +7,10 @@ ghost use Rattle.words.specs.Words.{table, any_of, in_order};
 ghost use Rattle.numbers.specs.Sizes as Sizes;
 ghost use Rattle.numbers.specs.Refused.{number_of};
 ghost use Rattle.image.specs.Bytes.{u32_at, i32_at};
-ghost use Rattle.catalogue.specs.Catalogue.{catalogue_of, base_count, bases_at, base_values_at};
+ghost use Rattle.catalogue.specs.Catalogue.{catalogue_of, base_count, bases_at};
 ghost use Rattle.catalogue.specs.Refusals.{bad_order, bad_field, catalogue_refusal};
 
-use catalogue::Block;
+use catalogue::blocks::{Block, Blocks};
 use numbers::refusals::Refusal;
 use numbers::{marks, sizes};
 
@@ -24,10 +24,10 @@ pub fn bases_at(catalogue: &[u8]) -> usize
     requires { 20 ≤ length catalogue.now }
     ensures { (result ≡ bases_at catalogue.now) × (result < 2 ^ 40) }
 {
-    20 + 8 * catalogue::count(catalogue, 0)
-        + 8 * catalogue::count(catalogue, 4)
-        + 20 * catalogue::count(catalogue, 8)
-        + 8 * catalogue::count(catalogue, 12)
+    20 + 8 * image::size_at(catalogue, 0)
+        + 8 * image::size_at(catalogue, 4)
+        + 20 * image::size_at(catalogue, 8)
+        + 8 * image::size_at(catalogue, 12)
 }
 
 // The length that the sizes say, where a base takes so many bytes.
@@ -35,7 +35,7 @@ fn size_of(catalogue: &[u8], base_size: usize) -> usize
     requires { (20 ≤ length catalogue.now) × (base_size ≤ 16) }
     ensures { result ≡ bases_at catalogue.now + base_size * base_count catalogue.now }
 {
-    bases_at(catalogue) + base_size * catalogue::count(catalogue, 16)
+    bases_at(catalogue) + base_size * image::size_at(catalogue, 16)
 }
 
 // Refusal 1, where a base takes so many bytes.
@@ -50,45 +50,44 @@ pub fn bad_length(catalogue: &[u8], base_size: usize) -> bool
 }
 
 // Three orders, each by a function of its own: a contract over the order's function would be longer than they are.
-fn ascend_unsigned(catalogue: &[u8], b: Block) -> bool
-    requires { b.at + 4 * b.n ≤ length catalogue.now }
-    ensures { result ≡ in_order ltb (table b.n (λ i. u32_at catalogue.now (b.at + 4 * i))) }
+fn ascend_unsigned(blocks: &Blocks, b: Block) -> bool
+    requires { b.at + 4 * b.n ≤ length blocks.now }
+    ensures { result ≡ in_order ltb (table b.n (λ i. u32_at blocks.now (b.at + 4 * i))) }
 {
-    keys::ascend_unsigned(catalogue::keys_of(catalogue, b), b.n)
+    keys::ascend_unsigned(blocks.keys_of(b))
 }
 
-fn ascend(catalogue: &[u8], b: Block) -> bool
-    requires { b.at + 4 * b.n ≤ length catalogue.now }
-    ensures { result ≡ in_order lt_z (table b.n (λ i. i32_at catalogue.now (b.at + 4 * i))) }
+fn ascend(blocks: &Blocks, b: Block) -> bool
+    requires { b.at + 4 * b.n ≤ length blocks.now }
+    ensures { result ≡ in_order lt_z (table b.n (λ i. i32_at blocks.now (b.at + 4 * i))) }
 {
-    keys::ascend(catalogue::keys_of(catalogue, b), b.n)
+    keys::ascend(blocks.keys_of(b))
 }
 
-fn never_descend(catalogue: &[u8], b: Block) -> bool
-    requires { b.at + 4 * b.n ≤ length catalogue.now }
-    ensures { result ≡ in_order le_z (table b.n (λ i. i32_at catalogue.now (b.at + 4 * i))) }
+fn never_descend(blocks: &Blocks, b: Block) -> bool
+    requires { b.at + 4 * b.n ≤ length blocks.now }
+    ensures { result ≡ in_order le_z (table b.n (λ i. i32_at blocks.now (b.at + 4 * i))) }
 {
-    keys::never_descend(catalogue::keys_of(catalogue, b), b.n)
+    keys::never_descend(blocks.keys_of(b))
 }
 
 // Refusal 2. It reads no value of a base.
-pub fn bad_order(catalogue: &[u8]) -> bool
-    requires { base_values_at catalogue.now ≤ length catalogue.now }
-    ensures { result ≡ bad_order (catalogue_of catalogue.now) }
+pub fn bad_order(blocks: &Blocks) -> bool
+    ensures { result ≡ bad_order (catalogue_of blocks.now) }
 {
-    if !ascend_unsigned(catalogue, catalogue::names(catalogue)) {
+    if !ascend_unsigned(blocks, blocks.names()) {
         return true;
     }
-    if !ascend(catalogue, catalogue::effects(catalogue)) {
+    if !ascend(blocks, blocks.effects()) {
         return true;
     }
-    if !ascend(catalogue, catalogue::types(catalogue)) {
+    if !ascend(blocks, blocks.types()) {
         return true;
     }
-    if !never_descend(catalogue, catalogue::links(catalogue)) {
+    if !never_descend(blocks, blocks.links()) {
         return true;
     }
-    !never_descend(catalogue, catalogue::bases(catalogue))
+    !never_descend(blocks, blocks.bases())
 }
 
 // Whether any of n numbers, each `step` bytes after the last, is above a limit. Like an order check it runs to its end.
@@ -105,13 +104,13 @@ fn any_above(b: &[u8], at: usize, n: usize, step: usize, limit: u32) -> bool
 }
 
 // Refusal 3. It reads no base.
-pub fn bad_field(catalogue: &[u8]) -> bool
-    requires { base_values_at catalogue.now ≤ length catalogue.now }
-    ensures { result ≡ bad_field (catalogue_of catalogue.now) }
+pub fn bad_field(blocks: &Blocks) -> bool
+    ensures { result ≡ bad_field (catalogue_of blocks.now) }
 {
-    let names = catalogue::names(catalogue);
-    let effects = catalogue::effects(catalogue);
-    let types = catalogue::types(catalogue);
+    let catalogue = blocks.bytes();
+    let names = blocks.names();
+    let effects = blocks.effects();
+    let types = blocks.types();
     let marks_at = effects.at + 4 * effects.n;
     let flags_at = types.at + 4 * types.n + 8;
     if any_above(catalogue, names.at, names.n, 4, sizes::LAST_NAME) {
@@ -130,10 +129,11 @@ pub fn check(catalogue: &[u8]) -> Result<(), Refusal>
     if bad_length(catalogue, BASE_SIZE) {
         return Err(Refusal::BadLength);
     }
-    if bad_order(catalogue) {
+    let blocks = Blocks::new(catalogue);
+    if bad_order(&blocks) {
         return Err(Refusal::BadKeys);
     }
-    if bad_field(catalogue) {
+    if bad_field(&blocks) {
         return Err(Refusal::BadEntry);
     }
     Ok(())

@@ -1,5 +1,5 @@
 // A list call's answer as text: specs/Text.antt.
-ghost use Rattle.std.specs.Prelude.{◌≡◌, ◌++◌, ◌+◌, ◌*◌, ◌/◌, ◌%◌, ◌<◌, ◌≤◌, ◌^◌, length};
+ghost use Rattle.std.specs.Prelude.{◌≡◌, ◌++◌, ◌+◌, ◌*◌, ◌%◌, ◌≤◌, ◌^◌, length};
 ghost use Rattle.arrayvec.specs.ArrayString.{array_string_len};
 ghost use Rattle.checker.specs.Text as Text;
 ghost use Rattle.checker.specs.Text.{text_of};
@@ -13,6 +13,7 @@ const ROOM: usize = 168 * 2730 + 29;
 
 type Output = ArrayString<ROOM>;
 
+#[tactic(auto, using(std::proofs::Common::append_assoc), unfolding(crate::specs::Text::spaced))]
 fn spaced(text: &mut Output, n: u64)
     requires { array_string_len text.old + 21 ≤ 458669 }
     ensures text { text.new.bytes ≡ text.old.bytes ++ Text.spaced n }
@@ -22,6 +23,7 @@ fn spaced(text: &mut Output, n: u64)
     text.push(' ');
 }
 
+#[tactic(auto, using(std::proofs::Common::append_assoc), unfolding(crate::specs::Text::heading))]
 fn heading(text: &mut Output, b: &[u8], place: usize)
     requires room { array_string_len text.old + 84 ≤ 458669 }
     requires place_in_bounds { place + 24 ≤ length b.now }
@@ -34,6 +36,7 @@ fn heading(text: &mut Output, b: &[u8], place: usize)
     spaced(text, u64::from(image::u8_at(b, place + 2)));
 }
 
+#[tactic(auto, using(std::proofs::Common::append_assoc), unfolding(crate::specs::Text::payload))]
 fn payload(text: &mut Output, b: &[u8], place: usize)
     requires room { array_string_len text.old + 84 ≤ 458669 }
     requires place_in_bounds { place + 24 ≤ length b.now }
@@ -46,6 +49,7 @@ fn payload(text: &mut Output, b: &[u8], place: usize)
     program::ended(text, u64::from(image::u32_at(b, place + 20)));
 }
 
+#[tactic(auto, using(std::proofs::Common::append_assoc), unfolding(crate::specs::Text::line))]
 fn line(text: &mut Output, b: &[u8], i: usize)
     requires room { array_string_len text.old + 168 ≤ 458669 }
     requires i_in_bounds { 24 * i + 24 ≤ length b.now }
@@ -81,6 +85,7 @@ fn closing(text: &mut Output, refusal: u64, count: u64)
     program::ended(text, count);
 }
 
+#[tactic(auto, unfolding(crate::specs::Text::text_of))]
 fn text_of(word: u64, b: &[u8]) -> Output
     requires in_bounds { 24 * (word % 2 ^ 32) ≤ length b.now }
     requires room { 168 * (word % 2 ^ 32) + 29 ≤ 458669 }

@@ -19,6 +19,7 @@ use fit::Fit;
 use numbers::{categories, slots};
 
 // So many hints has a list: four searches in step fill them just ahead of use. A hall, whose fits name the same types again, has more.
+// They travel beside a context and not in it: they are written while it is read.
 pub const LIST_HINTS: usize = 64;
 
 // What the catalogue says of a pair's type: what it is, if it is there, and the marks, which stand by its id whether it is there or not.
@@ -90,6 +91,32 @@ pub fn is_fitted(slot: u8) -> bool
     slot <= slots::SERVICE
 }
 
+// These ask a fit alone, whatever the catalogue, and a `Context` asks through them. That `i` is below the count of pairs stays a clause,
+// and that `j` is below that of results: a type of a pair would hold context and index, which every loop made anew, and rules take both.
+
+// Whether pair i is in a rack.
+pub fn is_in(fit: &Fit, i: usize, slot: u8) -> bool
+    requires { i < pair_count fit.now }
+    ensures { (catalogue : List ℕ) → result ≡ is_in slot (pair_at catalogue fit.now i) }
+{
+    fit.item_slot(i) == slot
+}
+
+pub fn is_fitted_at(fit: &Fit, i: usize) -> bool
+    requires { i < pair_count fit.now }
+    ensures { (catalogue : List ℕ) → result ≡ is_fitted (pair_at catalogue fit.now i) }
+{
+    is_fitted(fit.item_slot(i))
+}
+
+// Fitted, or a fighter that the ship launches.
+pub fn is_on_hull(fit: &Fit, i: usize) -> bool
+    requires { i < pair_count fit.now }
+    ensures { (catalogue : List ℕ) → result ≡ is_on_hull (pair_at catalogue fit.now i) }
+{
+    fit.item_slot(i) <= slots::FIGHTER_BAY
+}
+
 // What the rules read: Rust's `Context`, gathered once per call.
 #[derive(Drop)]
 pub struct Context<'a> {
@@ -149,27 +176,25 @@ impl<'a> Context<'a> {
         self.pairs[i].marks.hardpoint
     }
 
-    // Whether pair i is in a rack.
     pub fn is_in(&self, i: usize, slot: u8) -> bool
         requires { i < pair_count self.now.fit.now }
         ensures { result ≡ is_in slot (pair_at self.now.catalogue.now self.now.fit.now i) }
     {
-        self.fit.item_slot(i) == slot
+        is_in(self.fit, i, slot)
     }
 
     pub fn is_fitted_at(&self, i: usize) -> bool
         requires { i < pair_count self.now.fit.now }
         ensures { result ≡ is_fitted (pair_at self.now.catalogue.now self.now.fit.now i) }
     {
-        is_fitted(self.fit.item_slot(i))
+        is_fitted_at(self.fit, i)
     }
 
-    // Fitted, or a fighter that the ship launches.
     pub fn is_on_hull(&self, i: usize) -> bool
         requires { i < pair_count self.now.fit.now }
         ensures { result ≡ is_on_hull (pair_at self.now.catalogue.now self.now.fit.now i) }
     {
-        self.fit.item_slot(i) <= slots::FIGHTER_BAY
+        is_on_hull(self.fit, i)
     }
 
     // How many pairs pass a test.
@@ -181,6 +206,7 @@ impl<'a> Context<'a> {
     {
         let mut n: u32 = 0;
         for i in 0..self.fit.pair_count() {
+            // not `u32::from`: by what that ensures, `bool_byte`, the proof of the count is longer
             n += words::one_if(test(i));
         }
         n
@@ -190,12 +216,13 @@ impl<'a> Context<'a> {
     pub fn report<F: Fn(usize) -> Option<Rule>>(&self, broken: F, entries: &mut Entries)
         requires room { Room entries.old.n most_pairs }
         requires callable { (i : ℕ) → i < pair_count self.now.fit.now → F.pre broken i }
-        ensures { let c = self.now.catalogue.now in
+        ensures same { entries.new.out.ghost_name ≡ entries.old.out.ghost_name }
+        ensures few { entries.new.n ≤ entries.old.n + most_pairs }
+        ensures wrote { let c = self.now.catalogue.now in
             let f = self.now.fit.now in
             let before = entries.old in
             let after = entries.new in
-            ((rule : Pair → List Entry) → Says (F.post broken) rule c f
-            → Emitted before after (each (pairs_of c f) rule) × (after.n ≤ before.n + most_pairs)) }
+            ((rule : Pair → List Entry) → Says (F.post broken) rule c f → Emitted before after (each (pairs_of c f) rule)) }
     {
         for i in 0..self.fit.pair_count() {
             if let Some(rule) = broken(i) {

@@ -1,7 +1,7 @@
 // Entries: a rule that the fit breaks and what breaks it, and their 24 bytes. Document 01, "Entry"; Rust's `Violation`.
 #![tactic(auto)]
 
-ghost use Rattle.std.specs.Prelude.{◌≡◌, [], ◌∷◌, ◌++◌, ◌+◌, ◌*◌, ◌/◌, ◌%◌, ◌<◌, ◌≤◌, ◌^◌, length};
+ghost use Rattle.std.specs.Prelude.{◌≡◌, [], ◌∷◌, ◌+◌, ◌≤◌, length};
 ghost use Rattle.words.specs.Words.{when};
 ghost use Rattle.image.specs.Bytes.{put};
 ghost use Rattle.entry.specs.Entries.{fields, place, entry_bytes};
@@ -92,14 +92,14 @@ fn pack(rule: Rule) -> (u8, u8, [u32; 4])
         Rule::NotAFighter => (6, 0, [0; 4]),
         Rule::NotAnImplant => (7, 0, [0; 4]),
         Rule::SlotTaken => (8, 0, [0; 4]),
-        Rule::WrongSlotIndex(expected) => (9, 0, [expected as u32, 0, 0, 0]),
+        Rule::WrongSlotIndex(expected) => (9, 0, [u32::from(expected), 0, 0, 0]),
         Rule::SubsystemTaken => (10, 0, [0; 4]),
         Rule::Skill(id, required, level) => (
             11,
             0,
-            [image::bits(id), required as u32, level as u32, 0],
+            [image::bits(id), u32::from(required), u32::from(level), 0],
         ),
-        Rule::RigSize(ship, item) => (12, 0, [ship as u32, item as u32, 0, 0]),
+        Rule::RigSize(ship, item) => (12, 0, [u32::from(ship), u32::from(item), 0, 0]),
         Rule::ShipRestricted => (13, 0, [0; 4]),
         Rule::CapitalItem => (14, 0, [0; 4]),
         Rule::StructureItem => (15, 0, [0; 4]),
@@ -147,7 +147,8 @@ fn write(out: &mut [u8], at: usize, e: Entry)
 }
 
 // Entries as they are written: a buffer, and how many were emitted to it so far. That the count has room for more (`Room`) is asked in
-// clauses: for how many more is each function's own number, and no fact about a writer.
+// clauses: for how many more is each function's own number, and no fact about a writer. So is how few were emitted (`entries.new.n ≤ ..`),
+// which the next caller's room is taken from; it follows from `Emitted` by the length of a list, which would be an answer at each call.
 #[derive(Drop)]
 pub struct Entries<'a> {
     out: &'a mut [u8],

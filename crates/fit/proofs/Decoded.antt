@@ -13,10 +13,10 @@ use Rattle.words.specs.Words.{table, sum_of}
 use Rattle.words.proofs.Tables.{length-table, get_or-table, map-table, table_same, sum_more}
 use Rattle.words.proofs.Elements.{sum_none, table-two, elem_table}
 use Rattle.image.specs.Bytes.{u64_at, i32_at}
-use Rattle.image.proofs.Parts.{part-u64}
+use Rattle.image.proofs.Parts.{part_length, part-u64}
 use Rattle.floats.specs.Floats.{f64_at}
 use Rattle.keys.specs.Keys.{key_at}
-use Rattle.keys.proofs.Parts.{part_length, part-key}
+use Rattle.keys.proofs.Parts.{part-key}
 use Rattle.fit.specs.Fit.{Item, Result, fit_of, skill_count, item_count, result_count, item_at, attribute_count, ids_at, values_at, attribute_at, count_at, start_at, result_of, all_results, result_at}
 use Rattle.fit.specs.Sound.{Sized, Starts, ids_part, values_part}
 

@@ -5,7 +5,6 @@ use mathlib.Core.Path.{◌≡◌, refl, sym, ap, ◌∙◌}
 use mathlib.Core.Bool.{Bool, true, false, cond}
 use mathlib.Core.List.{List}
 use Rattle.std.specs.Prelude.{Option, None, Some}
-use lib.IntN.{ℤ}
 use lib.ListN.{length, take, drop}
 use lib.Signed.{lt_z}
 use lib.Ieee.{Float}
@@ -15,7 +14,7 @@ use Rattle.image.specs.Bytes.{u8_at, i32_at}
 use Rattle.floats.specs.Floats.{f64_at}
 use Rattle.keys.specs.Keys.{key_at, Sorted, place_of}
 use Rattle.keys.proofs.Orders.{ascending_sorted}
-use Rattle.keys.proofs.Parts.{part-key, part-keys, place-alike, sorted_alike}
+use Rattle.keys.proofs.Parts.{part-key, part-keys, sorted_alike}
 use Rattle.catalogue.specs.Catalogue.{Id}
 use Rattle.fit.specs.Fit.{fit_of, skill_count, result_count, skills_at, levels_at, values_at, count_at, start_at, attribute_at, result_of}
 use Rattle.fit.specs.Lookups.{value, trained}
@@ -73,9 +72,6 @@ module _ (b : List ℕ) where
     pub part-sorted : Sorted l (length l / 4)
     part-sorted = sorted_alike _ _ _ _ e many (ids-sorted s j h)
 
-    pub found_in : {o : Option ℕ} {z : ℤ} (id : Id) → o ≡ place_of l (length l / 4) z → z ≡ id → o ≡ place_of (ids_part b (start_at b j) (count_at b j)) (count_at b j) id
-    found_in id q r = q ∙ place-alike _ _ _ _ e many _ _ r
-
   -- ---- skills
   -- what a search of the skill ids says of a level
   abbrev level_at : Option ℕ → ℕ
@@ -100,8 +96,3 @@ module _ (b : List ℕ) where
   unfolding fit_of
   skills-sorted s =
       ascending_sorted skill_ids (skill_count b) (ap (in_order lt_z) (part-keys b (skills_at b) (skill_count b)) ∙ skill-order b s)
-
-  -- a search of the part that holds the ids
-  pub skills_found : {n : ℕ} {l : List ℕ} {z : ℤ} {o : Option ℕ} → n ≡ skill_count b → l ≡ take (4 * n) (drop (skills_at b) b) → (id : Id) → o ≡ place_of l n z → z ≡ id
-      → o ≡ place_of skill_ids (skill_count b) id
-  skills_found p q id e r = e ∙ place-alike _ _ _ _ (q ∙ ap (λ (k : ℕ). take (4 * k) (drop (skills_at b) b)) p) p _ _ r

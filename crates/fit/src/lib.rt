@@ -6,11 +6,14 @@ pub mod layout;
 ghost use Rattle.std.specs.Prelude.{◌≡◌, ◌+◌, ◌*◌, ◌<◌, ◌≤◌, min, length, get_or, take, drop};
 ghost use Rattle.numbers.specs.Sizes.{most_results};
 ghost use Rattle.image.specs.Bytes.{i32_at};
+ghost use Rattle.keys.specs.Blocks.{KeysOf};
 ghost use Rattle.fit.specs.Fit.{mode_of, fit_of, skill_count, item_count, result_count, attribute_count};
 ghost use Rattle.fit.specs.Fit.{skills_at, item_at, count_at, start_at, result_of};
 ghost use Rattle.fit.specs.Sound.{Sound, Starts, ids_part, values_part};
 ghost use Rattle.fit.specs.Lookups.{value, amount, trained};
 
+use keys::Keys;
+use layout::Layout;
 use std::marker::Model;
 
 // Where each result's attributes begin among all, and at last how many there are.
@@ -18,11 +21,11 @@ fn starts(fit: &[u8]) -> [u32; 259]
     requires { Sound fit.now }
     ensures { Starts fit.now result }
 {
-    let first = layout::results_at(fit);
+    let layout = Layout::new(fit);
     let mut s = [0u32; 259];
     let mut sum: u32 = 0;
-    for j in 0..layout::results(fit) + 2 {
-        sum += layout::count_at(fit, first, j) as u32;
+    for j in 0..layout.results() + 2 {
+        sum += layout.count_at(j) as u32;
         s[j + 1] = sum;
     }
     s
@@ -80,6 +83,13 @@ impl<'a> Fit<'a> {
         self.bytes
     }
 
+    // Where the blocks of the image stand.
+    pub fn layout(&self) -> Layout<'a>
+        ensures { result ≡ self.now }
+    {
+        Layout::new(self.bytes)
+    }
+
     pub fn ship(&self) -> i32
         ensures { result ≡ (fit_of self.now).frame.ship }
     {
@@ -99,27 +109,27 @@ impl<'a> Fit<'a> {
     pub fn skill_count(&self) -> usize
         ensures { result ≡ skill_count self.now }
     {
-        layout::skills(self.bytes)
+        self.layout().skills()
     }
 
     pub fn item_count(&self) -> usize
         ensures { result ≡ item_count self.now }
     {
-        layout::items(self.bytes)
+        self.layout().items()
     }
 
     // The items' results; the ship's and the character's stand before them.
     pub fn result_count(&self) -> usize
         ensures { result ≡ result_count self.now }
     {
-        layout::results(self.bytes)
+        self.layout().results()
     }
 
     // Items that have a result.
     pub fn pair_count(&self) -> usize
         ensures { result ≡ min (item_count self.now) (result_count self.now) }
     {
-        layout::pairs(self.bytes)
+        self.layout().pairs()
     }
 
     pub fn skill_id(&self, i: usize) -> i32
@@ -129,32 +139,40 @@ impl<'a> Fit<'a> {
         image::i32_at(self.bytes, 28 + 4 * i)
     }
 
+    // The skill ids as what searches go through.
+    pub fn skill_keys(&self) -> Keys<'a>
+        ensures { KeysOf self.now (skills_at self.now) (skill_count self.now) result }
+    {
+        let n = self.layout().skills();
+        Keys::new(image::part(self.bytes, 28, 4 * n), n)
+    }
+
     pub fn item_type(&self, i: usize) -> i32
         requires { i < item_count self.now }
         ensures { result ≡ (item_at self.now i).type }
     {
-        image::i32_at(self.bytes, layout::items_at(self.bytes) + 12 * i)
+        image::i32_at(self.bytes, self.layout().items_at() + 12 * i)
     }
 
     pub fn item_quantity(&self, i: usize) -> u32
         requires { i < item_count self.now }
         ensures { result ≡ (item_at self.now i).quantity }
     {
-        image::u32_at(self.bytes, layout::items_at(self.bytes) + 12 * i + 4)
+        image::u32_at(self.bytes, self.layout().items_at() + 12 * i + 4)
     }
 
     pub fn item_slot(&self, i: usize) -> u8
         requires { i < item_count self.now }
         ensures { result ≡ (item_at self.now i).slot }
     {
-        image::u8_at(self.bytes, layout::items_at(self.bytes) + 12 * i + 8)
+        image::u8_at(self.bytes, self.layout().items_at() + 12 * i + 8)
     }
 
     pub fn item_index(&self, i: usize) -> u16
         requires { i < item_count self.now }
         ensures { result ≡ (item_at self.now i).index }
     {
-        image::u16_at(self.bytes, layout::items_at(self.bytes) + 12 * i + 10)
+        image::u16_at(self.bytes, self.layout().items_at() + 12 * i + 10)
     }
 
     // Result 0 is the ship's, 1 the character's, 2 the first item's.
@@ -162,7 +180,7 @@ impl<'a> Fit<'a> {
         requires { j < result_count self.now + 2 }
         ensures { result ≡ (result_of self.now j).state }
     {
-        image::u8_at(self.bytes, layout::results_at(self.bytes) + 4 * j)
+        image::u8_at(self.bytes, self.layout().results_at() + 4 * j)
     }
 
     // The part of the caller's bytes that holds what result j has in the block from `first` on, `width` bytes for each attribute.
@@ -182,7 +200,18 @@ impl<'a> Fit<'a> {
         requires { j < result_count self.now + 2 }
         ensures { result.now ≡ ids_part self.now (start_at self.now j) (count_at self.now j) }
     {
-        self.part_of(j, layout::ids_at(self.bytes), 4)
+        self.part_of(j, self.layout().ids_at(), 4)
+    }
+
+    // Result j's attribute ids as what searches go through.
+    fn id_keys(&self, j: usize) -> Keys<'a>
+        requires { j < result_count self.now + 2 }
+        ensures { let f = self.now in
+            (result.bytes.now ≡ ids_part f (start_at f j) (count_at f j)) × (result.n ≡ count_at f j) }
+    {
+        self.is_sound();
+        let ids = self.ids_of(j);
+        Keys::new(ids, ids.len() / 4)
     }
 
     // Result j's values, in the order of its ids.
@@ -190,7 +219,7 @@ impl<'a> Fit<'a> {
         requires { j < result_count self.now + 2 }
         ensures { result.now ≡ values_part self.now (start_at self.now j) (count_at self.now j) }
     {
-        self.part_of(j, layout::values_at(self.bytes), 8)
+        self.part_of(j, self.layout().values_at(), 8)
     }
 
     // What an attribute of result j reached: its value stands among the result's values where its id stands among the ids.
@@ -199,8 +228,7 @@ impl<'a> Fit<'a> {
         ensures { result ≡ value (result_of self.now j) id }
     {
         self.is_sound();
-        let ids = self.ids_of(j);
-        let i = keys::place_of(ids, ids.len() / 4, id)?;
+        let i = self.id_keys(j).place_of(id)?;
         Some(floats::f64_at(self.values_of(j), 8 * i))
     }
 
@@ -216,10 +244,8 @@ impl<'a> Fit<'a> {
     pub fn trained_level(&self, id: i32) -> u8
         ensures { result ≡ trained (fit_of self.now).skills (fit_of self.now).levels id }
     {
-        let n = layout::skills(self.bytes);
-        let ids = image::part(self.bytes, 28, 4 * n);
-        match keys::place_of(ids, n, id) {
-            Some(i) => image::u8_at(self.bytes, layout::levels_at(self.bytes) + i),
+        match self.skill_keys().place_of(id) {
+            Some(i) => image::u8_at(self.bytes, self.layout().levels_at() + i),
             None => 0,
         }
     }

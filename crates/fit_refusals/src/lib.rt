@@ -7,11 +7,11 @@ ghost use Rattle.words.specs.Words.{any_of, in_order, table};
 ghost use Rattle.numbers.specs.Sizes as Sizes;
 ghost use Rattle.numbers.specs.Refused.{number_of};
 ghost use Rattle.image.specs.Bytes.{i32_at};
-ghost use Rattle.fit.specs.Fit.{Item, results_at, items_at, ids_at, item_at, result_of, start_at, fit_of, all_results};
+ghost use Rattle.fit.specs.Fit.{Item, results_at, item_count, result_count, ids_at, item_at, result_of, start_at, fit_of, all_results};
 ghost use Rattle.fit.specs.Refusals.{bad_size, bad_order, bad_item, bad_result, bad_field, fit_refusal};
-ghost use Rattle.fit.specs.Sound.{Sized, in_bay};
+ghost use Rattle.fit.specs.Sound.{in_bay};
 
-use fit::layout;
+use fit::layout::{self, Layout};
 use numbers::refusals::Refusal;
 use numbers::{sizes, slots, states};
 
@@ -34,10 +34,10 @@ fn bad_size(fit: &[u8]) -> bool
     if fit.len() < 36 {
         return true;
     }
-    let s = layout::size_at(fit, 0);
-    let f = layout::size_at(fit, 4);
-    let r = layout::size_at(fit, 8);
-    let a = layout::size_at(fit, 12);
+    let s = image::size_at(fit, 0);
+    let f = image::size_at(fit, 4);
+    let r = image::size_at(fit, 8);
+    let a = image::size_at(fit, 12);
     if sizes::MOST_SKILLS < s {
         return true;
     }
@@ -56,45 +56,40 @@ fn bad_size(fit: &[u8]) -> bool
     counted(fit, 28 + 5 * s + 12 * f, r + 2) != a
 }
 
-// Whether the n attribute ids from number `start` on do not ascend, where all ids begin at `first`.
-fn disordered(fit: &[u8], first: usize, start: usize, n: usize) -> bool
-    requires { (first ≡ ids_at fit.now) × (first + 4 * (start + n) ≤ length fit.now) }
-    ensures { let b = fit.now in
+// Whether the n attribute ids from number `start` on do not ascend.
+fn disordered(layout: &Layout, start: usize, n: usize) -> bool
+    requires { ids_at layout.now + 4 * (start + n) ≤ length layout.now }
+    ensures { let b = layout.now in
         result ≡ not (in_order lt_z (table n (λ i. i32_at b (ids_at b + 4 * (start + i))))) }
 {
-    let ids = image::part(fit, first + 4 * start, 4 * n);
-    let ok = keys::ascend(ids, n);
+    let ids = image::part(layout.bytes(), layout.ids_at() + 4 * start, 4 * n);
+    let ok = keys::ascend(ids);
     !ok
 }
 
 // Whether the attribute ids of some result do not ascend.
-fn any_disordered(fit: &[u8]) -> bool
-    requires { Sized fit.now }
-    ensures { let rs = all_results (fit_of fit.now) in
+fn any_disordered(layout: &Layout) -> bool
+    ensures { let rs = all_results (fit_of layout.now) in
         result ≡ any_of (λ x. not (in_order lt_z (map (λ y. y.id) x.attributes))) rs }
 {
-    let n = layout::results(fit) + 2;
-    let results = layout::results_at(fit);
-    let first = layout::ids_at(fit);
     let mut bad = false;
     let mut start: usize = 0;
-    for j in 0..n {
-        let k = layout::count_at(fit, results, j);
-        bad |= disordered(fit, first, start, k);
+    for j in 0..layout.results() + 2 {
+        let k = layout.count_at(j);
+        bad |= disordered(layout, start, k);
         start += k;
     }
     bad
 }
 
 // 5: skill ids, or the attribute ids of a result, that do not ascend.
-fn bad_order(fit: &[u8]) -> bool
-    requires { Sized fit.now }
-    ensures { result ≡ bad_order (fit_of fit.now) }
+fn bad_order(layout: &Layout) -> bool
+    ensures { result ≡ bad_order (fit_of layout.now) }
 {
-    let n = layout::skills(fit);
-    let ids = image::part(fit, 28, 4 * n);
-    if keys::ascend(ids, n) {
-        return any_disordered(fit);
+    let n = layout.skills();
+    let ids = image::part(layout.bytes(), 28, 4 * n);
+    if keys::ascend(ids) {
+        return any_disordered(layout);
     }
     true
 }
@@ -147,24 +142,24 @@ fn bad_place(slot: u8, reserved: u8, index: u16) -> bool
     in_bay(slot)
 }
 
-// Item i, where the items begin at `first`.
-fn bad_item(fit: &[u8], first: usize, i: usize) -> bool
-    requires { (first ≡ items_at fit.now) × (first + 12 * i + 12 ≤ length fit.now) }
-    ensures { result ≡ bad_item (item_at fit.now i) }
+fn bad_item(layout: &Layout, i: usize) -> bool
+    requires { i < item_count layout.now }
+    ensures { result ≡ bad_item (item_at layout.now i) }
 {
-    let at = first + 12 * i;
+    let fit = layout.bytes();
+    let at = layout.items_at() + 12 * i;
     let slot = image::u8_at(fit, at + 8);
     let reserved = image::u8_at(fit, at + 9);
     let index = image::u16_at(fit, at + 10);
     bad_place(slot, reserved, index)
 }
 
-// Result j, where the results begin at `first`.
-fn bad_result(fit: &[u8], first: usize, j: usize) -> bool
-    requires { (first ≡ results_at fit.now) × (first + 4 * j + 4 ≤ length fit.now) }
-    ensures { result ≡ bad_result (result_of fit.now j) }
+fn bad_result(layout: &Layout, j: usize) -> bool
+    requires { j < result_count layout.now + 2 }
+    ensures { result ≡ bad_result (result_of layout.now j) }
 {
-    let at = first + 4 * j;
+    let fit = layout.bytes();
+    let at = layout.results_at() + 4 * j;
     let state = image::u8_at(fit, at);
     if states::OVERLOAD < state {
         return true;
@@ -186,21 +181,19 @@ fn any<F: Fn(usize) -> bool>(n: usize, is_bad: F) -> bool
 }
 
 // 6: a byte, index, state or mode field outside what document 01 says.
-fn bad_field(fit: &[u8]) -> bool
-    requires { Sized fit.now }
-    ensures { result ≡ bad_field (fit_of fit.now) }
+fn bad_field(layout: &Layout) -> bool
+    ensures { result ≡ bad_field (fit_of layout.now) }
 {
+    let fit = layout.bytes();
     let flag = image::u32_at(fit, 20);
     let mode = image::u32_at(fit, 24);
     if bad_mode(flag, mode) {
         return true;
     }
-    let items = layout::items_at(fit);
-    if any(layout::items(fit), |i| bad_item(fit, items, i)) {
+    if any(layout.items(), |i| bad_item(layout, i)) {
         return true;
     }
-    let results = layout::results_at(fit);
-    any(layout::results(fit) + 2, |j| bad_result(fit, results, j))
+    any(layout.results() + 2, |j| bad_result(layout, j))
 }
 
 // The first refusal that holds of any bytes at all.
@@ -210,10 +203,11 @@ pub fn check(fit: &[u8]) -> Result<(), Refusal>
     if bad_size(fit) {
         return Err(Refusal::BadSize);
     }
-    if bad_order(fit) {
+    let layout = Layout::new(fit);
+    if bad_order(&layout) {
         return Err(Refusal::BadIds);
     }
-    if bad_field(fit) {
+    if bad_field(&layout) {
         return Err(Refusal::BadField);
     }
     Ok(())

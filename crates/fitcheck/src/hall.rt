@@ -8,7 +8,8 @@ ghost use Rattle.fitcheck.specs.Standing.{share};
 
 use catalogue::Catalogue;
 use context::Context;
-use fit::{Fit, layout};
+use fit::Fit;
+use fit::layout::Layout;
 use numbers::sizes;
 
 // What is said of a fit, by what it adds to the word.
@@ -30,20 +31,12 @@ impl Standing {
 // Fits of one hall name the same types again and again.
 const HINTS: usize = 8192;
 
-// A number of the input, as an index.
-fn size_at(input: &[u8], at: usize) -> usize
-    requires { at + 4 ≤ length input.now }
-    ensures { (result ≡ u32_at input.now at) × (result < 4294967296) }
-{
-    image::u32_at(input, at) as usize
-}
-
 // How many bytes fit i has.
 fn length_at(input: &[u8], i: usize) -> usize
     requires { 8 + 4 * i ≤ length input.now }
     ensures { (result ≡ length_at input.now i) × (result < 4294967296) }
 {
-    size_at(input, 4 + 4 * i)
+    image::size_at(input, 4 + 4 * i)
 }
 
 // Where the last of n fits ends.
@@ -65,7 +58,7 @@ pub fn bad_input(input: &[u8]) -> bool
     if input.len() < 4 {
         return true;
     }
-    let n = size_at(input, 0);
+    let n = image::size_at(input, 0);
     if sizes::MOST_FITS < n {
         return true;
     }
@@ -85,7 +78,8 @@ fn judge(catalogue: &Catalogue, fit: &[u8], hints: &mut [u32]) -> Standing
     if fit_refusals::check(fit).is_err() {
         return Standing::Refused; // 4 to 6
     }
-    if layout::items(fit) != layout::results(fit) {
+    let layout = Layout::new(fit);
+    if layout.items() != layout.results() {
         return Standing::Faulted; // whatever is listed: not all of it is read
     }
     let fit = Fit::new(fit);
@@ -101,7 +95,7 @@ pub fn word(catalogue: &Catalogue, input: &[u8]) -> usize
     requires { Laid input.now }
     ensures { result ≡ word_of (catalogue_of catalogue.now) (fits input.now) }
 {
-    let n = size_at(input, 0);
+    let n = image::size_at(input, 0);
     let mut hints = [0u32; HINTS];
     let mut word: usize = 0;
     let mut at = 4 + 4 * n;

@@ -36,6 +36,14 @@ pub fn u32_at(b: &[u8], at: usize) -> u32
     u32::from_le_bytes(bytes(b, at))
 }
 
+// A size, as an index.
+pub fn size_at(b: &[u8], at: usize) -> usize
+    requires { at + 4 ≤ length b.now }
+    ensures { (result ≡ u32_at b.now at) × (result < 4294967296) }
+{
+    u32_at(b, at) as usize
+}
+
 #[tactic(auto, using(crate::proofs::Parts::whole_u64))]
 pub fn u64_at(b: &[u8], at: usize) -> u64
     requires { at + 8 ≤ length b.now }
@@ -86,7 +94,7 @@ pub fn copy(out: &mut [u8], at: usize, from: &[u8])
     out[at..at + from.len()].copy_from_slice(from);
 }
 
-// The bytes from `at` to `end`, moved up.
+// The bytes from `at` to `end`, moved up. Beside `training`'s `move_down`: one with the place to move to would have the sum in each caller.
 #[tactic(auto, using(crate::proofs::Stores::stores))]
 pub fn move_up(b: &mut [u8], at: usize, end: usize, by: usize)
     requires { (at ≤ end) × (end + by ≤ length b.old) }

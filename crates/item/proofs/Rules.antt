@@ -14,16 +14,16 @@ use Rattle.catalogue.specs.Catalogue.{Id}
 use Rattle.catalogue.specs.Lookups.{name_id}
 use Rattle.fit.specs.Lookups.{value, amount}
 use Rattle.entry.specs.declared.Entry.{Entry}
-use Rattle.entry.specs.declared.Rule.TheVariants.{RigSize, ShipRestricted, CapitalItem, StructureItem, ShipItem}
+use Rattle.entry.specs.declared.Rule.TheVariants.{RigSize, ShipRestricted, CapitalItem}
 use Rattle.entry.specs.declared.Entries.{Entries}
 use Rattle.entry.specs.Emitted.{Emitted}
 use Rattle.entry.proofs.Emitted.{emitted-past, emitted-return, emitted-bind, emitted-bind_none}
 use Rattle.context.proofs.Loops.{said-then}
-use Rattle.context.specs.Context.{Pair, Context, is_fitted, is_in, is_on_hull, on, said}
+use Rattle.context.specs.Context.{Pair, Context, is_fitted, is_in, said}
 use Rattle.item.specs.declared.Listing.{Listing}
 use Rattle.item.specs.declared.Listing.TheVariants.{Nothing, Others, Ship}
-use Rattle.item.specs.Item.{ship_types, ship_groups, listed, is_structure, is_capital_item, is_standup, is_restricted, capital_volume}
-use Rattle.item.specs.Item.{rig_size_at, rig_size, ship_restricted_at, capital_item_at, capital_item, standup_at}
+use Rattle.item.specs.Item.{ship_types, ship_groups, listed, is_structure, is_capital_item, is_restricted, capital_volume}
+use Rattle.item.specs.Item.{rig_size_at, rig_size, ship_restricted_at, capital_item_at, capital_item}
 use Rattle.item.specs.Ids.{listing, lists_others}
 
 -- ---- rig sizes
@@ -145,18 +145,3 @@ module _ (x : Context) (ps : List Pair) where
       → Emitted b a (capital_item x ps)
   unfolding capital_item
   capital_each volume capital e q t w = emitted-bind _ e (emitted-bind _ q (emitted-past t w))
-
--- ---- items of structures and of ships
-module _ (x : Context) (p : Pair) where
-  pub standup-off : is_on_hull p ≡ false → said p None ≡ standup_at x p
-  unfolding said standup_at when
-  standup-off e = rw e (go (is_structure x))
-    where
-      go : (t : Bool) → ◌≡◌ {A = List Entry} [] (cond t [] [])
-      go true = refl
-      go false = refl
-
-  pub standup-on : is_on_hull p ≡ true → (s t : Bool) → s ≡ is_structure x → t ≡ is_standup x p
-      → cond s (when (not t) (on p ShipItem)) (when t (on p StructureItem)) ≡ standup_at x p
-  unfolding standup_at
-  standup-on e s t q h = rw (e, q, h)

@@ -1,31 +1,29 @@
 // Which items go on which ship: Rust's `validate/item.rs`, all but its limits, which `limits` has.
 #![tactic(auto)]
 
-ghost use Rattle.std.specs.Prelude.{◌≡◌, false, not, ◌&&◌, ◌||◌, List, ℕ, ◌+◌, ◌*◌, ◌/◌, ◌<◌, ◌≤◌, length, Option};
+ghost use Rattle.std.specs.Prelude.{◌≡◌, ◌||◌, ◌+◌, ◌*◌, ◌/◌, ◌<◌, ◌≤◌, length};
 ghost use Rattle.std.specs.Float.Ieee.{ne};
-ghost use Rattle.words.specs.Words.{each, any_of, table, given, same};
+ghost use Rattle.words.specs.Words.{any_of, table};
 ghost use Rattle.numbers.specs.Sizes.{most_pairs};
 ghost use Rattle.floats.specs.Floats.{zero_f};
 ghost use Rattle.keys.specs.Keys.{key_at};
 ghost use Rattle.catalogue.specs.Catalogue.{catalogue_of};
 ghost use Rattle.fit.specs.Fit.{result_count, result_of};
 ghost use Rattle.fit.specs.Lookups.{amount};
-ghost use Rattle.entry.specs.declared.Entry.{Entry};
-ghost use Rattle.entry.specs.declared.Rule.{Rule};
 ghost use Rattle.entry.specs.Wrote.{Room};
 ghost use Rattle.entry.specs.Emitted.{Emitted};
 ghost use Rattle.context.specs.Context.{said};
-ghost use Rattle.context.specs.Gathered.{pair_count, pair_at, pairs_of};
+ghost use Rattle.context.specs.Gathered.{pair_count};
 ghost use Rattle.context.specs.Held.{pair_in, pairs_in, context_in};
 ghost use Rattle.item.specs.Item as Item;
-ghost use Rattle.item.specs.Item.{ship_types, ship_groups, standup_fighters, is_restricted, is_structure, is_capital_item, is_standup};
-ghost use Rattle.item.specs.Item.{rig_size_at, ship_restricted_at, capital_item_at, standup_at, item_rules};
+ghost use Rattle.item.specs.Item.{standup_fighters, is_restricted, is_structure, is_capital_item, is_standup};
+ghost use Rattle.item.specs.Item.{rig_size_at, standup_at, item_rules};
 ghost use Rattle.item.specs.Ids.{IdsOf, listing, listed_under, listed_in, lists_others, marked_under, marked_in};
 ghost use Rattle.item.specs.Flags.{flag_of, Flagged, OnlyAdded, any_flagged, ShipIds};
 
 use catalogue::Catalogue;
 use context::Context;
-use entry::{Entries, Entry, Rule, Target};
+use entry::{Entries, Rule};
 use numbers::{categories, names, slots};
 
 // The attributes naming the ship types an item may go on.
@@ -349,6 +347,7 @@ impl<'a> Marks<'a> {
         category == categories::STRUCTURE_MODULE || is_marked(self.context, i + 2, &self.ids)
     }
 
+    #[tactic(auto, unfolding(context::specs::Context::said, crate::specs::Item::standup_at, words::specs::Words::when))]
     fn standup_at(&self, i: usize) -> Option<Rule>
         requires { i < pair_count self.now.context.now.fit.now }
         ensures { let x = self.now.context.now in

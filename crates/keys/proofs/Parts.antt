@@ -1,21 +1,25 @@
 -- Keys in a part of a slice, which are those of the whole from that place on; and where a key can stand.
-use Rattle.std.proofs.Common.{◌≡◌, ℕ, ◌+◌, ◌*◌, ◌<◌, ◌≤◌, List, length, take, drop, ℤ, sym, ap, ◌∙◌, subst, ap₂, arith, length-drop, length-take}
+use Rattle.std.proofs.Common.{◌≡◌, ℕ, ◌+◌, ◌*◌, ◌/◌, ◌<◌, ◌≤◌, Bool, List, length, take, drop, ℤ, sym, ap, ◌∙◌, subst, ap₂, arith}
 use Rattle.std.specs.Prelude.{Some}
-use Rattle.words.specs.Words.{table, same}
+use Rattle.words.specs.Words.{table, in_order, same}
 use Rattle.words.proofs.Tables.{table_same, find-below}
 use Rattle.image.specs.Bytes.{i32_at}
-use Rattle.image.proofs.Parts.{part-i32}
+use Rattle.image.proofs.Parts.{part_length, part-i32}
 use Rattle.keys.specs.Keys.{key_at, Sorted, place_of}
 
 module _ (b : List ℕ) (at n : ℕ) where
-  pub part_length : at + n ≤ length b → length (take n (drop at b)) ≡ n
-  part_length h = simp (length-take, length-drop) (omega arith)
-
   pub part-key : (i : ℕ) → i < n → key_at (take (4 * n) (drop at b)) i ≡ i32_at b (at + 4 * i)
   part-key i h = part-i32 b at (4 * n) (4 * i) (omega arith)
 
   pub part-keys : table n (key_at (take (4 * n) (drop at b))) ≡ table n (λ i. i32_at b (at + 4 * i))
   part-keys = table_same n _ _ part-key
+
+  -- an order of the keys of a part, which are as many as it has room for
+  pub part-order : (r : ℤ → ℤ → Bool) {l : List ℕ} → at + 4 * n ≤ length b → l ≡ take (4 * n) (drop at b)
+      → in_order r (table (length l / 4) (key_at l)) ≡ in_order r (table n (λ i. i32_at b (at + 4 * i)))
+  part-order r {l} h e =
+      let many : length l / 4 ≡ n = omega (arith, ap length e, part_length b at (4 * n) h) in
+      ap (λ (k : ℕ). in_order r (table k (key_at l))) many ∙ ap (in_order r) (ap (λ (m : List ℕ). table n (key_at m)) e ∙ part-keys)
 
 -- an id stands at one of the n places
 pub place-below : (keys : List ℕ) (n : ℕ) (id : ℤ) (i : ℕ) → place_of keys n id ≡ Some i → i < n

@@ -1,7 +1,7 @@
 // The rules of a league: groups that its profile bans or prices. Document 02, P2.
 #![tactic(auto)]
 
-ghost use Rattle.std.specs.Prelude.{◌≡◌, cond, List, ℕ, ◌+◌, ◌≤◌, ◌<◌, pos};
+ghost use Rattle.std.specs.Prelude.{◌≡◌, cond, ◌+◌, ◌≤◌, ◌<◌, pos};
 ghost use Rattle.words.specs.Words.{when, given};
 ghost use Rattle.numbers.specs.Sizes as Sizes;
 ghost use Rattle.numbers.specs.Sizes.{most_pairs};
@@ -22,7 +22,7 @@ use entry::{Entries, Entry, Rule, Target};
 use numbers::sizes;
 use profile::Profile;
 
-// The group by which a profile bans and prices a type. It lists those that the catalogue lacks under 0.
+// The group by which a profile bans and prices a type. The profile lists types that the catalogue lacks under 0.
 fn group_priced(answer: Option<TypeInfo>) -> i32
     ensures { result ≡ given answer (pos 0) (λ x. x.group) }
 {

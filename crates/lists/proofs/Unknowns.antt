@@ -1,12 +1,9 @@
 -- Rule 26, pair by pair.
-use Prim.Native.Nat.{◌≤◌}
 use mathlib.Core.Path.{◌≡◌, refl, ap, ◌∙◌}
 use mathlib.Core.Bool.{Bool, true, false, not}
 use mathlib.Core.List.{List}
-use lib.ListN.{length}
 use Rattle.std.specs.Prelude.{Option, None, Some, is_some}
 use Rattle.words.specs.Words.{each, given}
-use Rattle.words.proofs.Lengths.{few-when}
 use Rattle.catalogue.specs.Catalogue.{Id, Catalogue}
 use Rattle.catalogue.specs.Lookups.{is_known}
 use Rattle.catalogue.specs.declared.TypeInfo.{TypeInfo}
@@ -26,10 +23,6 @@ none-given (Some x) false e = refl
 module _ (c : Catalogue) where
   pub none-told : (t : Id) (o : Option TypeInfo) {b : Bool} → o ≡ answer_of c t → is_some o ≡ not b → b ≡ not (is_known c t)
   none-told t o e h = none-given o _ h ∙ ap not (told-known c t e)
-
-  pub unknown-few : (p : Pair) → length (unknown_type_at c p) ≤ 1
-  unfolding unknown_type_at
-  unknown-few p = few-when _ _
 
   pub unknown-each : (ps : List Pair) → each ps (unknown_type_at c) ≡ unknown_types c ps
   unfolding unknown_types

@@ -9,6 +9,7 @@ ghost use Rattle.catalogue.specs.Catalogue.{Catalogue, catalogue_of};
 ghost use Rattle.fit.specs.Fit.{fit_of};
 ghost use Rattle.entry.specs.Wrote.{Room, Wrote};
 ghost use Rattle.entry.specs.Emitted.{Emitted};
+ghost use Rattle.context.specs.Context.{said};
 ghost use Rattle.context.specs.Gathered.{pair_count};
 ghost use Rattle.context.specs.Held.{pair_in, pairs_in};
 ghost use Rattle.validate.specs.Validate as Rust;
@@ -18,7 +19,7 @@ ghost use Rattle.lists.specs.Unknown.{unknown_type_at, unknown_types};
 ghost use Rattle.lists.specs.Lists.{for_reader, whole_list, list_for, most_entries};
 
 use context::Context;
-use entry::{Entries, Entry, Rule, Target};
+use entry::{Entries, Rule};
 use fit::Fit;
 use numbers::readers::Reader;
 use numbers::sizes;
@@ -37,19 +38,14 @@ pub fn most_entries(fit: &Fit) -> usize
 }
 
 // Rule 26 of pair i.
-fn unknown_type_at(context: &Context, i: usize, entries: &mut Entries)
-    requires { (i < pair_count context.now.fit.now) × Room entries.old.n 1 }
+fn unknown_type_at(context: &Context, i: usize) -> Option<Rule>
+    requires { i < pair_count context.now.fit.now }
     ensures { let p = pair_in context.now i in
-        Emitted entries.old entries.new (unknown_type_at (catalogue_of context.now.catalogue.now) p) }
+        said p result ≡ unknown_type_at (catalogue_of context.now.catalogue.now) p }
 {
     let id = context.fit.item_type(i);
-    entries.emit_when(
-        context.type_at(i).is_none(),
-        Entry {
-            target: Target::Item(i as u32),
-            rule: Rule::UnknownType(id),
-        },
-    );
+    let missing = context.type_at(i).is_none();
+    missing.then_some(Rule::UnknownType(id))
 }
 
 // Rule 26 by pair, whatever its slot.
@@ -58,9 +54,7 @@ fn unknown_types(context: &Context, entries: &mut Entries)
     ensures { let es = unknown_types (catalogue_of context.now.catalogue.now) (pairs_in context.now) in
         Emitted entries.old entries.new es × (entries.new.n ≤ entries.old.n + most_pairs) }
 {
-    for i in 0..context.fit.pair_count() {
-        unknown_type_at(context, i, entries);
-    }
+    context.report(|i| unknown_type_at(context, i), entries);
 }
 
 // What a list call asks for: whose list it is, and the points that a league allows.
@@ -77,8 +71,8 @@ fn rust_list(reader: Reader, context: &Context, hints: &mut [u32], entries: &mut
         Emitted entries.old entries.new es × (entries.new.n ≤ entries.old.n + Rust.most_entries) }
 {
     match reader {
-        Reader::Guest => validate::without_skills(context, entries),
-        Reader::Pilot | Reader::Officer => validate::validate(context, hints, entries),
+        Reader::Guest => validate::emit_without_skills(context, entries),
+        Reader::Pilot | Reader::Officer => validate::emit(context, hints, entries),
     }
 }
 

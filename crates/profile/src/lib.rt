@@ -8,6 +8,7 @@ ghost use Rattle.image.specs.Bytes.{u32_at};
 ghost use Rattle.profile.specs.Profile.{group_count, points_at, prices_of, too_dear, bad_profile, bad_prices, profile_refusal, points_of};
 ghost use Rattle.profile.specs.Sound.{Sized, Sound};
 
+use keys::Keys;
 use numbers::refusals::Refusal;
 use numbers::sizes;
 use std::marker::Model;
@@ -22,7 +23,7 @@ fn bad_profile(profile: &[u8]) -> bool
     if profile.len() < 4 {
         return true;
     }
-    let n = image::u32_at(profile, 0) as usize;
+    let n = image::size_at(profile, 0);
     if sizes::MOST_GROUPS < n {
         return true;
     }
@@ -37,7 +38,7 @@ fn group_count(profile: &[u8]) -> usize
     if profile.len() < 4 {
         return 0;
     }
-    image::u32_at(profile, 0) as usize
+    image::size_at(profile, 0)
 }
 
 // Points over 1,000,000 that are no ban.
@@ -70,7 +71,7 @@ fn bad_prices(profile: &[u8]) -> bool
         return false;
     }
     let groups = image::part(profile, 4, 4 * n);
-    if keys::ascend(groups, n) {
+    if keys::ascend(groups) {
         return any_too_dear(profile, n);
     }
     true
@@ -107,7 +108,7 @@ impl<'a> Model for Profile<'a> {
 }
 
 impl<'a> Profile<'a> {
-    // Of bytes that `check` passed.
+    // Of bytes that `check` passed. `new` and `is_sound` stand at each of the three images, whose invariants are not alike.
     pub fn new(bytes: &'a [u8]) -> Self
         requires { Sound bytes.now }
         ensures { result ≡ bytes.now }
@@ -139,7 +140,7 @@ impl<'a> Profile<'a> {
             return 0;
         }
         let groups = image::part(bytes, 4, 4 * n);
-        match keys::place_of(groups, n, group) {
+        match Keys::new(groups, n).place_of(group) {
             Some(i) => image::u32_at(bytes, 4 + 4 * n + 4 * i),
             None => 0,
         }

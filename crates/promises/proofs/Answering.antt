@@ -1,5 +1,5 @@
 -- What a call gives, from the first of its conditions that holds. By cases on that number.
-use Prim.Native.Nat.{ℕ, zero, suc, ◌+◌, ◌*◌, ◌-◌, ◌/◌, ◌^◌, ◌≤◌, ◌<◌, suc-le-suc, zero-le}
+use Prim.Native.Nat.{ℕ, zero, suc, ◌*◌, ◌-◌, ◌/◌, ◌^◌, ◌≤◌, ◌<◌, suc-le-suc, zero-le}
 use native.Mathlib.Nat.{le_of_suc-le-suc, not-suc-le-zero}
 use native.Mathlib.Omega.{arith}
 use mathlib.Core.Path.{◌≡◌, refl, ap, ◌∙◌}
@@ -8,7 +8,7 @@ use Rattle.std.proofs.lemmas.Option.{same_Some}
 use Rattle.std.specs.Prelude.{Some}
 use lib.ListN.{length, get_or, drop, length-append, length-drop}
 use Rattle.std.specs.Prelude.{slice_get}
-use lib.Seq.{get_or-append-add, get_or-drop}
+use lib.Seq.{get_or-append_right, get_or-drop}
 use Rattle.words.specs.Words.{each, first_of}
 use Rattle.entry.specs.declared.Entry.{Entry}
 use Rattle.entry.specs.Entries.{entry_bytes, written}
@@ -29,12 +29,19 @@ elem_of d [] i h = absurd (not-suc-le-zero h)
 elem_of d (x ∷ l) zero h = refl
 elem_of d (x ∷ l) (suc i) h = elem_of d l i (le_of_suc-le-suc h)
 
+-- what stands behind bytes that are written in front
+pub behind : (bs before : List ℕ) {n : ℕ} → length bs ≡ n → (i : ℕ) → n ≤ i → get_or (bs ++ drop n before) i 0 ≡ get_or before i 0
+behind bs before {n} w i p =
+    get_or-append_right bs (drop n before) i 0 (omega arith) ∙ get_or-drop n before (i - length bs) 0
+    ∙ ap (λ (j : ℕ). get_or before j 0) (omega arith)
+
 -- a number that is first is given
 pub given-first : (n : ℕ) (buffer : List ℕ) (es : List Entry) (k : ℕ) → k ≡ suc n → refusal (outcome buffer (answer_by k es)) ≡ suc n
 unfolding answer_by returned
 given-first n buffer es k e = let q : suc n * 4294967296 / 4294967296 ≡ suc n = omega arith in ap (λ (m : ℕ). refusal (outcome buffer (answer_by m es))) e ∙ q
 
--- ---- the call
+-- ---- the call. Widening.antt has it again, of an answer that is bytes: two records of specs/ with five fields of eight in common, and a
+-- record of the five would be as long as what it saves
 module _ (l : Conditions) (numbered : Numbered highest l) (es : List Entry) (before : List ℕ)
     (small : None l → length es < 2 ^ 32) (room : None l → 24 * length es ≤ length before) where
   go : (k : ℕ) → first_of l ≡ k → Answers l es before (outcome before (answer_by k es))
@@ -54,13 +61,7 @@ module _ (l : Conditions) (numbered : Numbered highest l) (es : List Entry) (bef
         entries = λ h i x q.
             let a = elem_at es i x q in
             entry_at x es (drop (24 * length es) before) i a.0 ∙ ap entry_bytes a.1;
-        others = λ h i p.
-            let k = i - length (each es entry_bytes) in
-            let q : i ≡ length (each es entry_bytes) + k = omega arith in
-            let q' : 24 * length es + k ≡ i = omega arith in
-            ap (λ (j : ℕ). get_or (each es entry_bytes ++ drop (24 * length es) before) j 0) q
-            ∙ get_or-append-add (each es entry_bytes) (drop (24 * length es) before) k 0 ∙ get_or-drop (24 * length es) before k 0
-            ∙ ap (λ (j : ℕ). get_or before j 0) q';
+        others = λ h. behind (each es entry_bytes) before w;
         length_kept = length-append (each es entry_bytes) (drop (24 * length es) before) ∙ (let d = length-drop (24 * length es) before in omega arith);
       }
   go (suc k) e =

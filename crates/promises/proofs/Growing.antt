@@ -63,6 +63,7 @@ allowed : All (λ (i : Item). i.slot ≡ Slots.cargo → T (volume_allowed (cata
 unfolding opened volume_allowed is_volume le
 allowed = cons fitted (cons (λ _. tt) (cons (λ _. tt) (cons (λ _. tt) (cons fitted nil))))
 
+-- the three examples are three records of specs/, each field of them a computation of its own: no law of two would be shorter
 pub example : Example
 unfolding opened
 example = record {

@@ -69,6 +69,19 @@ Sound (UnknownType t) = Unit {0}
 four : (n : ℕ) → n < 2 ^ 32 → n % 256 + 256 * (n / 256 % 256) + 65536 * (n / 256 / 256 % 256) + 16777216 * (n / 256 / 256 / 256 % 256) ≡ n
 four n h = omega arith
 
+-- an entry of rule 1 stays by its used number, any other where its words at 8 and 12 do not fall and that at 16 does not rise
+by_words : {a b : List ℕ} → blank a ≡ blank b → (u8_at a 1 ≡ 1 → T (Ieee.le (f64_at a 8) (f64_at b 8)))
+    → (1 < u8_at a 1 → (u32_at a 8 ≤ u32_at b 8) × (u32_at a 12 ≤ u32_at b 12) × (u32_at b 16 ≤ u32_at a 16)) → Stays a b
+by_words others used words = record {
+  bytes = others;
+  resource = used;
+  slots = omega arith;
+  skill = omega arith;
+  max_group = omega arith;
+  max_type = omega arith;
+  points = omega arith;
+}
+
 module _ (t : Target) where
   abbrev bytes : Rule → List ℕ
   bytes r = entry_bytes (record { target = t; rule = r })
@@ -112,88 +125,31 @@ module _ (t : Target) where
 
   stays : {r r' : Rule} → Rises r r' → Sound r → Sound r' → Stays (bytes r) (bytes r')
   unfolding fields each entry_bytes u32_at table_from varies blank
-  stays (same {r}) s s' =
-      record {
-        bytes = refl;
-        resource = own r s;
-        slots = λ _. le_refl _;
-        skill = λ _. le_refl _;
-        max_group = λ _. le_refl _;
-        max_type = λ _. le_refl _;
-        points = λ _. le_refl _;
-      }
+  stays (same {r}) s s' = by_words refl (own r s) (λ _. (le_refl _, le_refl _, le_refl _))
   stays (resource {r = k} {u = u} {v = v} {a = a} h) s s' =
       let e : T (Ieee.le (f64_at (bytes (Resource k u a)) 8) (f64_at (bytes (Resource k v a)) 8)) =
       subst₂ (λ (x y : Float). T (Ieee.le x y)) (sym (resource-back k u a s.0)) (sym (resource-back k v a s'.0)) h in
-      record {
-        bytes = refl;
-        resource = λ _. e;
-        slots = omega arith;
-        skill = omega arith;
-        max_group = omega arith;
-        max_type = omega arith;
-        points = omega arith;
-      }
+      by_words refl (λ _. e) (λ n. absurd (omega arith))
   stays (slots {u = u} {v = v} h) s s' =
       let p = four u s in
       let q = four v s' in
-      record {
-        bytes = refl;
-        resource = λ n. absurd (omega arith);
-        slots = omega arith;
-        skill = omega arith;
-        max_group = omega arith;
-        max_type = omega arith;
-        points = omega arith;
-      }
+      by_words refl (λ n. absurd (omega arith)) (λ _. (omega arith, omega arith, omega arith))
   stays (skill {l = l} {m = m} h) s s' =
       let p = four l s in
       let q = four m s' in
-      record {
-        bytes = refl;
-        resource = λ n. absurd (omega arith);
-        slots = omega arith;
-        skill = omega arith;
-        max_group = omega arith;
-        max_type = omega arith;
-        points = omega arith;
-      }
+      by_words refl (λ n. absurd (omega arith)) (λ _. (omega arith, omega arith, omega arith))
   stays (max_group {u = u} {v = v} h) s s' =
       let p = four u s in
       let q = four v s' in
-      record {
-        bytes = refl;
-        resource = λ n. absurd (omega arith);
-        slots = omega arith;
-        skill = omega arith;
-        max_group = omega arith;
-        max_type = omega arith;
-        points = omega arith;
-      }
+      by_words refl (λ n. absurd (omega arith)) (λ _. (omega arith, omega arith, omega arith))
   stays (max_type {u = u} {v = v} h) s s' =
       let p = four u s in
       let q = four v s' in
-      record {
-        bytes = refl;
-        resource = λ n. absurd (omega arith);
-        slots = omega arith;
-        skill = omega arith;
-        max_group = omega arith;
-        max_type = omega arith;
-        points = omega arith;
-      }
+      by_words refl (λ n. absurd (omega arith)) (λ _. (omega arith, omega arith, omega arith))
   stays (points {u = u} {v = v} h) s s' =
       let p = four u s in
       let q = four v s' in
-      record {
-        bytes = refl;
-        resource = λ n. absurd (omega arith);
-        slots = omega arith;
-        skill = omega arith;
-        max_group = omega arith;
-        max_type = omega arith;
-        points = omega arith;
-      }
+      by_words refl (λ n. absurd (omega arith)) (λ _. (omega arith, omega arith, omega arith))
 
 pub covers-stays : (a b : Entry) → Covers a b → Sound a.rule → Sound b.rule → Stays (entry_bytes a) (entry_bytes b)
 covers-stays a b h s s' =

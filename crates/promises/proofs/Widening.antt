@@ -1,12 +1,12 @@
 -- The widening call: its conditions, what it writes, and that nothing changes under a widened catalogue. From what it decodes to.
-use Prim.Native.Nat.{ℕ, zero, suc, ◌+◌, ◌*◌, ◌-◌, ◌/◌, ◌^◌, ◌≤◌, ◌<◌}
+use Prim.Native.Nat.{ℕ, zero, suc, ◌*◌, ◌/◌, ◌^◌, ◌≤◌, ◌<◌}
 use native.Mathlib.Omega.{arith}
 use mathlib.Core.Path.{◌≡◌, refl, sym, ap, ap₂, subst, ◌∙◌}
 use mathlib.Core.Bool.{Bool, true, false, not}
 use mathlib.Core.List.{List, [], ◌∷◌, ◌++◌}
 use lib.Dec.{T, nltb→le}
-use lib.ListN.{length, get_or, take, drop, length-append, length-drop}
-use lib.Seq.{get_or-append-add, get_or-drop, take_at}
+use lib.ListN.{length, take, drop, length-append, length-drop}
+use lib.Seq.{take_at}
 use borrow.Author.Tests.{le-ltb, eq-eqb}
 use Rattle.words.specs.Words.{first_of}
 use Rattle.catalogue.specs.Catalogue.{Catalogue, catalogue_of, size_of}
@@ -28,6 +28,7 @@ use Rattle.fitcheck.specs.Widen.{widen_call}
 use Rattle.calls.proofs.First.{Numbered}
 use Rattle.promises.specs.Answers.{Outcome, refusal, count, Conditions, None}
 use Rattle.promises.specs.Widens.{widen_outcome, widen_conditions, Fills, written, Stands}
+use Rattle.promises.proofs.Answering.{behind}
 use Rattle.promises.proofs.Conditions.{none_is, is_none, word-refused, word-answered, word-numbered}
 
 -- ---- a call that writes bytes, from the first of its conditions that holds
@@ -50,13 +51,7 @@ module _ (most : ℕ) (l : Conditions) (numbered : Numbered most l) (bs before :
         nothing = λ p. absurd (omega arith);
         counted = λ h. omega arith;
         front = λ h. take_at bs (drop (length bs) before) (length bs) refl;
-        others = λ h i p.
-            let k = i - length bs in
-            let q : i ≡ length bs + k = omega arith in
-            ap (λ (j : ℕ). get_or (bs ++ drop (length bs) before) j 0) q
-            ∙ get_or-append-add bs (drop (length bs) before) k 0
-            ∙ get_or-drop (length bs) before k 0
-            ∙ ap (λ (j : ℕ). get_or before j 0) (sym q);
+        others = λ h. behind bs before refl;
         length_kept = length-append bs (drop (length bs) before) ∙ (let d = length-drop (length bs) before in omega arith);
       }
   go (suc k) e =

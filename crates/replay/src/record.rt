@@ -38,17 +38,12 @@ pub struct Record<'a> {
     written: &'a [u8],
 }
 
-fn number(b: &[u8], at: usize) -> usize
-    requires { at + 4 ≤ length b.now }
-    ensures { result ≡ u32_at b.now at }
+// How many records there are, and the records; None where no whole number stands.
+pub fn count(b: &[u8]) -> Option<(u32, &[u8])>
+    ensures { IfSome result (λ r. (r.0 ≡ u32_at b.now 0) × (4 ≤ length b.now) × (r.1.now ≡ drop 4 b.now)) }
 {
-    image::u32_at(b, at) as usize
-}
-
-// How many records there are, and the records.
-pub fn count(b: &[u8]) -> Option<(u32, &[u8])> {
-    let (head, rest) = b.split_at_checked(4)?;
-    Some((image::u32_at(head, 0), rest))
+    let (_, rest) = b.split_at_checked(4)?;
+    Some((image::u32_at(b, 0), rest))
 }
 
 // The record that the bytes begin with, and the bytes behind it; None where it is not whole.
@@ -56,17 +51,17 @@ pub fn first(b: &[u8]) -> Option<(Record<'_>, &[u8])>
     ensures { IfSome result (λ r. (size b.now 0 ≤ length b.now) × (r.1.now ≡ drop (size b.now 0) b.now)) }
 {
     let (_, rest) = b.split_at_checked(36)?;
-    let (catalogue, rest) = rest.split_at_checked(number(b, 0))?;
-    let (input, rest) = rest.split_at_checked(number(b, 4))?;
-    let (profile, rest) = rest.split_at_checked(number(b, 8))?;
-    let (written, rest) = rest.split_at_checked(number(b, 32))?;
+    let (catalogue, rest) = rest.split_at_checked(image::size_at(b, 0))?;
+    let (input, rest) = rest.split_at_checked(image::size_at(b, 4))?;
+    let (profile, rest) = rest.split_at_checked(image::size_at(b, 8))?;
+    let (written, rest) = rest.split_at_checked(image::size_at(b, 32))?;
     let record = Record {
         call: Call::from(image::u32_at(b, 16)),
         catalogue,
         input,
         profile,
         allowance: image::u32_at(b, 12),
-        room: number(b, 20),
+        room: image::size_at(b, 20),
         word: image::u64_at(b, 24),
         written,
     };

@@ -16,7 +16,7 @@ use Rattle.fit.specs.Fit.{Result, fit_of, result_at, result_of, result_count}
 use Rattle.fit.proofs.Decoded.{result-some}
 use Rattle.skill.specs.Skill.{Demand, noted, met, walk_within, wants_too_many}
 use Rattle.skill.specs.Held.{zip_to, held_at, HoldsWanted}
-use Rattle.skill.specs.declared.Walk.{Walk}
+use Rattle.skill.specs.declared.walk.Walk.{Walk}
 use Rattle.skill.proofs.Walks.{met-stays, met-longer}
 
 module _ (c : Catalogue) (r : Result) where
@@ -44,6 +44,6 @@ unfolding given zip_to
 over-limit limit catalogue fit result w v g h =
     let c = catalogue_of catalogue in
     let r = result_of fit result in
-    let e = sym (length-table 0 w.len (held_at w.ids w.levels)) ∙ ap (λ (l : List Demand). length l) (v.holds w refl).1 in
+    let e = sym (length-table 0 w.len (held_at w.ids w.levels)) ∙ ap (λ (l : List Demand). length l) (v.holds w refl) in
     ap (ltb limit) e ∙ sym (small-limit c r limit 512 h)
     ∙ sym (ap (λ (o : Option Result). given o false (wants_too_many limit c)) (result-some fit result g))

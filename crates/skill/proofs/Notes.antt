@@ -17,8 +17,8 @@ use Rattle.fit.specs.Fit.{Result as FitResult, result_of}
 use Rattle.fit.specs.Lookups.{value}
 use Rattle.skill.specs.Skill.{Requirement, required, Demand, demand_of, of_skill, note, noted, skill_at, met, walk_within, wants_too_many}
 use Rattle.skill.specs.Held.{requirements_of, zip_to, held_at, walk_of, HoldsWanted}
-use Rattle.skill.specs.declared.Walk.{Walk}
-use Rattle.skill.specs.declared.TooMany.{TooMany}
+use Rattle.skill.specs.declared.walk.Walk.{Walk}
+use Rattle.skill.specs.declared.walk.TooMany.{TooMany}
 use Rattle.skill.proofs.Zips.{zip_length}
 use Rattle.skill.proofs.Requirements.{each_one, result-asks, skill-asks, asks, asks-next, asks-rest}
 use Rattle.skill.proofs.Walks.{fold_longer, met-first, met_next, met-stays, met-longer}
@@ -107,7 +107,7 @@ module _ (catalogue fit : List ℕ) (result i : ℕ) (h : i ≤ 512) where
       let m = ap noted (met-stays c r i 512 h (omega (arith, e, n))) in
       record {
         many = sym (le-ltb 512 (length (noted (met c r 512))) (omega (arith, e, h, n, ap length m)));
-        holds = λ w' q. let same : w ≡ w' = cc in rw (← same) (omega (arith, e, h), v ∙ sym m);
+        holds = λ w' q. let same : w ≡ w' = cc in rw (← same) (v ∙ sym m);
       }
 
   -- a walk that there was no room for

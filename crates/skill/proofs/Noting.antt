@@ -20,8 +20,8 @@ use Rattle.words.proofs.Sames.{same_refl, same_not}
 use Rattle.words.proofs.Tables.{length-table, get_or-table}
 use Rattle.skill.specs.Skill.{Demand, note}
 use Rattle.skill.specs.Held.{held_at, zip_to, held_of, Placed, New, Noted}
-use Rattle.skill.specs.declared.Walk.{Walk}
-use Rattle.skill.specs.declared.TooMany.{TooMany}
+use Rattle.skill.specs.declared.walk.Walk.{Walk}
+use Rattle.skill.specs.declared.walk.TooMany.{TooMany}
 use Rattle.std.specs.Prelude.{Ok, Err}
 use Rattle.skill.proofs.Zips.{pair_eq, zip_put}
 
@@ -129,14 +129,13 @@ module _ (ids : List ℤ) (levels : List ℕ) (n : ℕ) (i : ℤ) (l j : ℕ) (p
       zip_put (pos 0) 0 ids levels n i l (omega (arith, hi)) (omega (arith, hl)) ∙ sym (missing h)
 
 -- ---- `Noted`, on each way that `note` goes
-module _ (w : Walk) {i : ℤ} {l j : ℕ} (room : w.len ≤ 512) (p : Placed w.ids w.len i j) where
+module _ (w : Walk) {i : ℤ} {l j : ℕ} (p : Placed w.ids w.len i j) where
   -- known at a lower level: it rises
   pub noted-raised : {w' : Walk} → length w.levels ≡ 512 → j < w.len → get_or w.levels j 0 < l
       → (w'.ids ≡ w.ids) × (w'.levels ≡ set w.levels j l) × (w'.len ≡ w.len) → Noted w i l w' (Ok tt)
   noted-raised {w'} hl h g e =
       record {
-        room = omega (arith, e.2, room);
-        holds = λ _. rw (e.0, e.1, e.2) (raised w.ids w.levels w.len i l j p hl room h g);
+        holds = λ _. rw (e.0, e.1, e.2) (raised w.ids w.levels w.len i l j p hl w.few h g);
         full = λ o. absurd (true≢false (sym o));
         untouched = λ k q a u.
             let e : get_or w.levels k 0 ≡ get_or w.levels j 0 = ap (λ (m : ℕ). get_or w.levels m 0) (first-place k j q p a h) in
@@ -147,7 +146,6 @@ module _ (w : Walk) {i : ℤ} {l j : ℕ} (room : w.len ≤ 512) (p : Placed w.i
   pub noted-known : j < w.len → l ≤ get_or w.levels j 0 → Noted w i l w (Ok tt)
   noted-known h g =
       record {
-        room = room;
         holds = λ _. unraised w.ids w.levels w.len i l j p h g;
         full = λ o. absurd (true≢false (sym o));
         untouched = λ k q a u. refl;
@@ -157,13 +155,12 @@ module _ (w : Walk) {i : ℤ} {l j : ℕ} (room : w.len ≤ 512) (p : Placed w.i
 behind : (w : Walk) {i : ℤ} → New w i → Placed w.ids w.len i w.len
 behind w n = record { within = omega arith; before = n; found = λ h. absurd (omega (arith, h)) }
 
-module _ (w : Walk) {i : ℤ} {l : ℕ} (room : w.len ≤ 512) (n : New w i) where
+module _ (w : Walk) {i : ℤ} {l : ℕ} (n : New w i) where
   -- new: it goes last
   pub noted-new : {w' : Walk} → length w.ids ≡ 512 → length w.levels ≡ 512 → w.len < 512
       → (w'.ids ≡ set w.ids w.len i) × (w'.levels ≡ set w.levels w.len l) × (w'.len ≡ w.len + 1) → Noted w i l w' (Ok tt)
   noted-new {w'} hi hl h e =
       record {
-        room = omega (arith, e.2, h);
         holds = λ _. rw (e.0, e.1, e.2) (added w.ids w.levels w.len i l w.len (behind w n) hi hl h (omega arith));
         full = λ o. absurd (true≢false (sym o));
         untouched = λ k q a u. absurd (n k a (q.found a));
@@ -173,7 +170,6 @@ module _ (w : Walk) {i : ℤ} {l : ℕ} (room : w.len ≤ 512) (n : New w i) whe
   pub noted-full : w.len ≡ 512 → {e : TooMany} → Noted w i l w (Err e)
   noted-full h {e} =
       record {
-        room = room;
         holds = λ o. absurd (true≢false (sym o));
         full = λ _. omega (arith, missing-length w.ids w.levels w.len i l w.len (behind w n) (omega arith));
         untouched = λ k q a u. refl;

@@ -16,7 +16,7 @@ use Rattle.words.specs.Words.{table, any_of, same}
 use Rattle.words.proofs.Tables.{any_false}
 use Rattle.words.proofs.Sames.{same_refl, same-eq}
 use Rattle.skill.specs.Held.{New, PlacedAt}
-use Rattle.skill.specs.declared.Walk.{Walk}
+use Rattle.skill.specs.declared.walk.Walk.{Walk}
 
 differs : {a b : ℤ} → same a b ≡ false → a ≡ b → ⊥
 differs {a} {b} d e = true≢false (sym (same_refl b) ∙ ap (λ (z : ℤ). same z b) (sym e) ∙ d)

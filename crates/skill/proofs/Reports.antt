@@ -16,8 +16,8 @@ use Rattle.fit.proofs.Decoded.{result-some}
 use Rattle.entry.specs.declared.Target.TheVariants.{Ship, Item}
 use Rattle.skill.specs.Skill.{Demand, wanted_skills, wants_too_many, target_of, entry_of, reported, skill_list}
 use Rattle.skill.specs.Held.{walk_of, HoldsWanted}
-use Rattle.skill.specs.declared.Walk.{Walk}
-use Rattle.skill.specs.declared.TooMany.{TooMany}
+use Rattle.skill.specs.declared.walk.Walk.{Walk}
+use Rattle.skill.specs.declared.walk.TooMany.{TooMany}
 
 -- the target of a result by its number
 pub target_ship : (n : ℕ) → n < 2 → Ship ≡ target_of n
@@ -42,7 +42,7 @@ list_of c f n r e = rw e
 pub reported-all : (catalogue fit : List ℕ) (result : ℕ) (w : Walk) → HoldsWanted catalogue fit result (Ok w) → result < result_count fit + 2
     → reported (fit_of fit) result (walk_of w) ≡ skill_list (catalogue_of catalogue) (fit_of fit) result
 reported-all catalogue fit result w v g =
-    ap (reported (fit_of fit) result) (v.holds w refl).1 ∙ sym (list_of (catalogue_of catalogue) (fit_of fit) result (result_of fit result) (result-some fit result g))
+    ap (reported (fit_of fit) result) (v.holds w refl) ∙ sym (list_of (catalogue_of catalogue) (fit_of fit) result (result_of fit result) (result-some fit result g))
 
 -- whether the walk is refused, as the skill call asks
 pub too_many : (catalogue fit : List ℕ) (result : ℕ) (r : Result Walk TooMany) → HoldsWanted catalogue fit result r → result < result_count fit + 2

@@ -8,8 +8,8 @@ use Rattle.numbers.specs.Sizes.{most_wanted}
 use Rattle.catalogue.specs.Catalogue.{Id, catalogue_of}
 use Rattle.fit.specs.Fit.{result_of}
 use Rattle.skill.specs.Skill.{Requirement, Demand, note, wanted_skills, wants_too_many}
-use Rattle.skill.specs.declared.Walk.{Walk}
-use Rattle.skill.specs.declared.TooMany.{TooMany}
+use Rattle.skill.specs.declared.walk.Walk.{Walk}
+use Rattle.skill.specs.declared.walk.TooMany.{TooMany}
 
 -- ---- two arrays side by side; x and y stand past their ends
 module _ {A B : Type 0} (x : A) (y : B) where
@@ -60,7 +60,6 @@ PlacedAt w id (Some r) = (r < w.len) × Placed w.ids w.len id r
 
 -- a demand noted, where there is room
 pub record Noted (before : Walk) (id : ℤ) (level : ℕ) (after : Walk) (r : Result (Unit {0}) TooMany) : Type 0 where
-  pub room : after.len ≤ most_wanted
   pub holds : IsOk r → walk_of after ≡ note (walk_of before) (id, level)
   pub full : IsErr r → most_wanted < length (note (walk_of before) (id, level))
   -- a skill whose first place has the same level or a higher one: no place of the arrays changes, those behind the first len included
@@ -68,11 +67,10 @@ pub record Noted (before : Walk) (id : ℤ) (level : ℕ) (after : Walk) (r : Re
 
 -- some demands noted in their order, where there is room
 pub record Notes (before : Walk) (ds : List Demand) (after : Walk) (r : Result (Unit {0}) TooMany) : Type 0 where
-  pub room : after.len ≤ most_wanted
   pub holds : IsOk r → walk_of after ≡ foldl note (walk_of before) ds
   pub full : IsErr r → most_wanted < length (foldl note (walk_of before) ds)
 
 -- a walk that has ended: whether too many skills are wanted, and the wanted ones where not
 pub record HoldsWanted (catalogue fit : List ℕ) (result : ℕ) (r : Result Walk TooMany) : Type 0 where
   pub many : is_err r ≡ wants_too_many most_wanted (catalogue_of catalogue) (result_of fit result)
-  pub holds : (w : Walk) → r ≡ Ok w → (w.len ≤ most_wanted) × (walk_of w ≡ wanted_skills (catalogue_of catalogue) (result_of fit result))
+  pub holds : (w : Walk) → r ≡ Ok w → walk_of w ≡ wanted_skills (catalogue_of catalogue) (result_of fit result)

@@ -1,8 +1,9 @@
 // The skills that one result demands: validate/skill.rs.
 #![tactic(auto)]
 
-ghost use Rattle.std.specs.Prelude.{◌≡◌, ◌+◌, ◌<◌, ◌≤◌, [], get_or, set, pos, option_to_list, position, Option, Float};
-ghost use Rattle.words.specs.Words.{each, table, any_of, same};
+mod walk;
+
+ghost use Rattle.std.specs.Prelude.{◌≡◌, ◌+◌, ◌<◌, ◌≤◌, option_to_list, Option, Float};
 ghost use Rattle.numbers.specs.Sizes as Sizes;
 ghost use Rattle.numbers.specs.Sizes.{most_wanted};
 ghost use Rattle.catalogue.specs.Catalogue.{Id, catalogue_of};
@@ -11,13 +12,13 @@ ghost use Rattle.entry.specs.Wrote.{Room, Wrote};
 ghost use Rattle.entry.specs.Emitted.{Emitted};
 ghost use Rattle.skill.specs.Skill as Skill;
 ghost use Rattle.skill.specs.Skill.{requirement_of, required, demand_of, target_of, entry_of, reported};
-ghost use Rattle.skill.specs.Held.{requirements_of, walk_of, Reads, New, LevelRises, PlacedAt, Noted, Notes, HoldsWanted};
+ghost use Rattle.skill.specs.Held.{requirements_of, walk_of, Reads, HoldsWanted};
 
 use catalogue::Catalogue;
 use entry::{Entries, Entry, Rule, Target};
 use fit::Fit;
 use numbers::names;
-use numbers::sizes::MOST_WANTED;
+pub use walk::{TooMany, Walk};
 
 // The names of each skill and of the level it wants.
 const REQUIRED: [(u32, u32); 6] = [
@@ -28,19 +29,6 @@ const REQUIRED: [(u32, u32); 6] = [
     (names::REQUIRED_SKILL_5, names::REQUIRED_SKILL_5_LEVEL),
     (names::REQUIRED_SKILL_6, names::REQUIRED_SKILL_6_LEVEL),
 ];
-
-// A result wants more skills than a walk holds.
-#[derive(Clone, Copy, Debug, PartialEq, Eq)]
-pub struct TooMany;
-
-// The skills noted so far, in the order met, each with the highest level asked of it. Two arrays: `is_among` reads ids alone, and took
-// two thirds longer on 200 of an array of pairs.
-#[derive(Clone, Copy)]
-pub struct Walk {
-    pub ids: [i32; MOST_WANTED],
-    pub levels: [u8; MOST_WANTED],
-    pub len: usize,
-}
 
 // The attributes of a row's skill and of its level, where both names have one.
 fn requirement(catalogue: &Catalogue, row: (u32, u32)) -> Option<(i32, i32)>
@@ -77,119 +65,6 @@ fn asked<F: Fn(i32) -> Option<f64>>(look: F, skill: i32, level: i32) -> Option<(
 {
     let wanted = look(skill)?;
     Some(demand(wanted, look(level)))
-}
-
-// The first place of an id.
-#[tactic(auto, using(words::proofs::Ids::bits_same))]
-fn first_place(ids: &[i32], id: i32) -> Option<usize>
-    ensures { result ≡ position (λ x. same x id) ids.now }
-{
-    ids.iter().position(
-        |x: &i32| -> bool
-            ensures { result ≡ same x.now id }
-        { *x == id },
-    )
-}
-
-impl Walk {
-    fn new() -> Self
-        ensures { (walk_of result ≡ []) × (result.len ≡ 0) }
-    {
-        Walk {
-            ids: [0; MOST_WANTED],
-            levels: [0; MOST_WANTED],
-            len: 0,
-        }
-    }
-
-    // Whether a skill is noted. The loop runs to its end, so that the compiler can take many ids at once.
-    fn is_among(&self, id: i32) -> bool
-        requires { self.now.len ≤ most_wanted }
-        ensures { result ≡ any_of (λ x. same x id) (table self.now.len (λ k. get_or self.now.ids k (pos 0))) }
-    {
-        let mut found = false;
-        for i in 0..self.len {
-            found |= self.ids[i] == id;
-        }
-        found
-    }
-
-    // The first place of a skill. Most demands are of new skills.
-    fn place(&self, id: i32) -> Option<usize>
-        requires { self.now.len ≤ most_wanted }
-        ensures { PlacedAt self.now id result }
-    {
-        if !self.is_among(id) {
-            return None;
-        }
-        first_place(&self.ids[..self.len], id)
-    }
-
-    // `add` and `raise` are the only functions of this crate that store into a walk. No contract can tell a store of the old value from
-    // none, so that tests/style holds this.
-
-    // Puts a skill that is new behind the others.
-    fn add(&mut self, id: i32, level: u8)
-        requires { (self.old.len < most_wanted) × New self.old id }
-        ensures { (self.new.ids ≡ set self.old.ids self.old.len id) × (self.new.levels ≡ set self.old.levels self.old.len level)
-            × (self.new.len ≡ self.old.len + 1) }
-    {
-        self.ids[self.len] = id;
-        self.levels[self.len] = level;
-        self.len += 1;
-    }
-
-    // Raises the level of a skill that is known at a lower one. The id is there for what is required.
-    fn raise(&mut self, at: usize, id: i32, level: u8)
-        requires { (at < most_wanted) × LevelRises self.old at id level }
-        ensures { (self.new.ids ≡ self.old.ids) × (self.new.levels ≡ set self.old.levels at level) × (self.new.len ≡ self.old.len) }
-    {
-        self.levels[at] = level;
-    }
-
-    // Keeps the highest level asked of a skill, in the order it was first met.
-    fn note(&mut self, id: i32, level: u8) -> Result<(), TooMany>
-        requires { self.old.len ≤ most_wanted }
-        ensures { Noted self.old id level self.new result }
-    {
-        match self.place(id) {
-            Some(at) => {
-                if level <= self.levels[at] {
-                    // the walk goes on as it came
-                    return Ok(());
-                }
-                self.raise(at, id, level);
-                Ok(())
-            }
-            None => {
-                if self.len == MOST_WANTED {
-                    return Err(TooMany);
-                }
-                self.add(id, level);
-                Ok(())
-            }
-        }
-    }
-
-    // Notes all that is asked for by a source of values.
-    fn note_all<F: Fn(i32) -> Option<f64>>(
-        &mut self,
-        required: &[Option<(i32, i32)>; 6],
-        look: F,
-    ) -> Result<(), TooMany>
-        requires { F.IsAlwaysCallable look × (self.old.len ≤ most_wanted) }
-        ensures { (values : Id → Option Float) → Reads (F.post look) values
-            → Notes self.old (each (requirements_of required.now) (demand_of values)) self.new result }
-    {
-        for requirement in required {
-            if let Some((skill, level)) = *requirement {
-                if let Some((id, level)) = asked(&look, skill, level) {
-                    self.note(id, level)?;
-                }
-            }
-        }
-        Ok(())
-    }
 }
 
 // The whole tree of skills depending on skills. The walk goes on while skills are added; a skill is added once, so it ends even where
@@ -239,7 +114,7 @@ fn report_skill(fit: &Fit, res: usize, id: i32, wanted: u8, entries: &mut Entrie
 
 // The wanted skills that are trained lower, in the walk's order.
 pub fn report(fit: &Fit, res: usize, walk: Walk, entries: &mut Entries)
-    requires { (res < result_count fit.now + 2) × (walk.len ≤ most_wanted) × Room entries.old.n most_wanted }
+    requires { (res < result_count fit.now + 2) × Room entries.old.n most_wanted }
     ensures { let es = reported (fit_of fit.now) res (walk_of walk) in
         Emitted entries.old entries.new es × (entries.new.n ≤ entries.old.n + most_wanted) }
 {
@@ -250,9 +125,9 @@ pub fn report(fit: &Fit, res: usize, walk: Walk, entries: &mut Entries)
     }
 }
 
-// The same, from the first entry of a buffer on.
+// The same, from the first entry of a buffer on: a writer more, and nothing of `report` said twice.
 pub fn write(fit: &Fit, res: usize, walk: Walk, out: &mut [u8]) -> usize
-    requires { (res < result_count fit.now + 2) × (walk.len ≤ most_wanted) }
+    requires { res < result_count fit.now + 2 }
     ensures { let es = reported (fit_of fit.now) res (walk_of walk) in
         Wrote out.old 0 out.new result es × (result ≤ most_wanted) }
 {

@@ -43,7 +43,7 @@ fn ids_of(catalogue: &Catalogue) -> Ids
 fn place_of(slot: u8, index: u16) -> u32
     ensures { Sits slot index result }
 {
-    slot as u32 * 65536 + index as u32
+    u32::from(slot) * 65536 + u32::from(index)
 }
 
 fn places(context: &Context) -> [u32; 256]

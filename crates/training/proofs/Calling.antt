@@ -18,7 +18,7 @@ use Rattle.fit.proofs.Decoded.{levels_length, result-some}
 use Rattle.fit.proofs.Soundness.{skill-order}
 use Rattle.skill.specs.Skill.{Demand}
 use Rattle.skill.specs.Held.{walk_of, HoldsWanted}
-use Rattle.skill.specs.declared.Walk.{Walk}
+use Rattle.skill.specs.declared.walk.Walk.{Walk}
 use Rattle.calls.specs.Answers.{no_result, too_many_skills}
 use Rattle.calls.specs.Output.{Withheld, output}
 use Rattle.calls.proofs.Outputs.{output-true, output-false}
@@ -54,7 +54,7 @@ module _ (catalogue fit : List ℕ) (result : ℕ) (w : Walk) (v : HoldsWanted c
   trained-by_turns s steps =
       let f = fit_of fit in
       let c = catalogue_of catalogue in
-      ap (λ (ws : List Demand). (turns (training_of f) steps ws).0) (v.holds w refl).1
+      ap (λ (ws : List Demand). (turns (training_of f) steps ws).0) (v.holds w refl)
       ∙ sym (ap training_of (trained-turns c result steps f (result_of fit result) (result-some fit result below) (fit-listed fit s)))
 
   -- refusal 16, by what is counted
@@ -64,7 +64,7 @@ module _ (catalogue fit : List ℕ) (result : ℕ) (w : Walk) (v : HoldsWanted c
   listed-count =
       let f = fit_of fit in
       let counted = count-listed f result (catalogue_of catalogue) (result_of fit result) (result-some fit result below)
-      ∙ sym (ap (count_of (is_new (training_of f))) (v.holds w refl).1) in
+      ∙ sym (ap (count_of (is_new (training_of f))) (v.holds w refl)) in
       ap₂ (λ (x y : ℕ). ltb Sizes.most_skills (x + y)) (skills-length fit) counted
 
 -- ---- which answer: 8 and 9 stand in front of 16

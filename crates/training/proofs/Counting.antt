@@ -21,7 +21,7 @@ use Rattle.entry.specs.declared.Entry.{Entry}
 use Rattle.entry.specs.declared.Rule.TheVariants.{Skill}
 use Rattle.skill.specs.Skill.{Demand, wanted_skills, target_of, entry_of, reported, skill_list}
 use Rattle.skill.specs.Held.{walk_of}
-use Rattle.skill.specs.declared.Walk.{Walk}
+use Rattle.skill.specs.declared.walk.Walk.{Walk}
 use Rattle.skill.proofs.Zips.{zip_length}
 use Rattle.lists.proofs.Few.{count-le}
 use Rattle.training.specs.Training.{training_of, skill_of}

@@ -13,10 +13,10 @@ ghost use Rattle.calls.specs.Output.{output, room_refusals};
 ghost use Rattle.calls.specs.Gave.{GaveBytes, word_of};
 ghost use Rattle.training.specs.Training.{training_of, raised, trained_by, trained_image, train_refusals};
 ghost use Rattle.training.specs.Turns.{turn, turns, is_new, Listed};
-ghost use Rattle.training.specs.Plans.{plan_of, stands_at, Lacks, Grown};
 
 use catalogue::Catalogue;
 use fit::Fit;
+use keys::Keys;
 use numbers::refusals::Refusal;
 use numbers::sizes;
 use skill::Walk;
@@ -26,13 +26,15 @@ const ROOM: usize = sizes::MOST_SKILLS + 2 * sizes::MOST_WANTED;
 
 const ROOM_BYTES: usize = 4 * ROOM;
 
-// Listed skills, ids and levels side by side, from a place on.
+// Listed skills, ids and levels side by side, from a place on. Two arrays of bytes, as in the image, which lists all ids before all levels.
 #[derive(Drop)]
 struct Plan {
     ids: [u8; ROOM_BYTES],
     levels: [u8; ROOM],
     from: usize,
     len: usize,
+    // how far it has room on either side, and that a skill lacks, are the functions' own and stand in clauses
+    ghost within: { from + len ≤ 2048 },
 }
 
 // What a skill is given: what it lacks, as far as the steps reach.
@@ -51,6 +53,8 @@ fn move_down(b: &mut [u8], at: usize, end: usize, by: usize)
 }
 
 impl Plan {
+    ghost use Rattle.training.specs.Plans.{plan_of, stands_at, Lacks, Grown};
+
     // A fit's skills.
     fn new(fit: &Fit) -> Self
         ensures { (plan_of result ≡ training_of (fit_of fit.now)) × (result.from ≡ Sizes.most_wanted) × (result.len ≤ Sizes.most_skills) }
@@ -78,7 +82,6 @@ impl Plan {
 
     // Whether an id stands at a place.
     fn stands(&self, at: usize, id: i32) -> bool
-        requires { self.now.from + self.now.len ≤ 2048 }
         ensures { result ≡ stands_at self.now at id }
     {
         at < self.len && image::i32_at(&self.ids, 4 * (self.from + at)) == id
@@ -102,7 +105,7 @@ impl Plan {
 
     // The same, and those below it make room. Not one with the other: what moves, which way and where to would all be parameters.
     fn insert_down(&mut self, at: usize, id: i32, level: u8)
-        requires { (1 ≤ self.old.from) × (self.old.from + self.old.len ≤ 2048) × Lacks self.old at id }
+        requires { (1 ≤ self.old.from) × Lacks self.old at id }
         ensures { let t = plan_of self.old in
             (plan_of self.new ≡ raised t.ids t.levels id level)
             × (self.new.from + 1 ≡ self.old.from) × (self.new.len ≡ self.old.len + 1) }
@@ -135,7 +138,7 @@ impl Plan {
         ensures { ((plan_of self.new, result) ≡ turn (plan_of self.old, steps) (id, wanted)) × Grown self.old self.new 1 }
     {
         let ids = image::part(&self.ids, 4 * self.from, 4 * self.len);
-        let at = keys::first_from(ids, self.len, id);
+        let at = Keys::new(ids, self.len).first_from(id);
         if self.stands(at, id) {
             let place = self.from + at;
             let given = portion(wanted, self.levels[place], steps);
@@ -152,7 +155,7 @@ impl Plan {
     // The turns of a walk's skills, in their order.
     fn take_turns(&mut self, walk: Walk, steps: u32)
         requires { (Sizes.most_wanted ≤ self.old.from) × (self.old.from + self.old.len + Sizes.most_wanted ≤ 2048)
-            × (walk.len ≤ Sizes.most_wanted) × Listed (plan_of self.old) }
+            × Listed (plan_of self.old) }
         ensures { (plan_of self.new ≡ (turns (plan_of self.old) steps (walk_of walk)).0) × Grown self.old self.new walk.len }
     {
         let mut left = steps;
@@ -164,12 +167,11 @@ impl Plan {
 
     // The fit's image with these skills, from byte 0 on.
     fn write(&self, fit: &Fit, out: &mut [u8])
-        requires { (self.now.from + self.now.len ≤ 2048)
-            × (length fit.now + 5 * self.now.len ≤ length out.old + 5 * skill_count fit.now) }
+        requires { length fit.now + 5 * self.now.len ≤ length out.old + 5 * skill_count fit.now }
         ensures { out.new ≡ put out.old 0 (trained_image fit.now (plan_of self.now)) }
     {
         let bytes = fit.bytes();
-        let at = fit::layout::items_at(bytes);
+        let at = fit.layout().items_at();
         let from = self.from;
         let n = self.len;
         image::put_u32(out, 0, n as u32);
@@ -184,8 +186,7 @@ impl Plan {
 fn is_listed(fit: &Fit, id: i32) -> bool
     ensures { result ≡ contains id (fit_of fit.now).skills }
 {
-    let n = fit.skill_count();
-    keys::place_of(image::part(fit.bytes(), 28, 4 * n), n, id).is_some()
+    fit.skill_keys().place_of(id).is_some()
 }
 
 // 1 for a wanted skill that lacks and is not listed, else 0. One that is not listed has level 0.
@@ -203,7 +204,6 @@ fn new_skill(fit: &Fit, id: i32, wanted: u8) -> usize
 
 // How many of a walk's skills lack and are not listed.
 fn new_skills(fit: &Fit, walk: Walk) -> usize
-    requires { walk.len ≤ Sizes.most_wanted }
     ensures { (result ≡ count_of (is_new (training_of (fit_of fit.now))) (walk_of walk)) × (result ≤ Sizes.most_wanted) }
 {
     let mut count: usize = 0;
@@ -217,7 +217,6 @@ fn new_skills(fit: &Fit, walk: Walk) -> usize
 // Whether the skills of a walk that lack and are not listed would carry those that are over 1,024. Where all of its skills would not,
 // none is looked up.
 fn too_many_listed(fit: &Fit, walk: Walk) -> bool
-    requires { walk.len ≤ Sizes.most_wanted }
     ensures { let b = fit.now in
         result ≡ ltb Sizes.most_skills (skill_count b + count_of (is_new (training_of (fit_of b))) (walk_of walk)) }
 {
@@ -231,7 +230,6 @@ fn too_many_listed(fit: &Fit, walk: Walk) -> bool
 
 // The fit that the steps lead to, where there is room for it.
 fn train_listed(fit: &Fit, walk: Walk, steps: u32, out: &mut [u8]) -> Result<usize, Refusal>
-    requires { walk.len ≤ Sizes.most_wanted }
     ensures { let b = fit.now in
         let bs = trained_image b (turns (training_of (fit_of b)) steps (walk_of walk)).0 in
         GaveBytes out.old out.new (word_of result) (output (room_refusals out.old bs) bs) }

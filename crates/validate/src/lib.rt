@@ -10,7 +10,7 @@ ghost use Rattle.catalogue.specs.Catalogue.{catalogue_of};
 ghost use Rattle.fit.specs.Fit.{skill_count, mode_of, fit_of};
 ghost use Rattle.entry.specs.declared.Rule.TheVariants.{NotAHull, NotASkill};
 ghost use Rattle.entry.specs.Entries.{on_ship};
-ghost use Rattle.entry.specs.Wrote.{Room};
+ghost use Rattle.entry.specs.Wrote.{Room, Wrote};
 ghost use Rattle.entry.specs.Emitted.{Emitted};
 ghost use Rattle.context.specs.Held.{pairs_in, context_in};
 ghost use Rattle.validate.specs.Kind.{is_hull_kind, is_hull, is_mode, not_a_mode, not_a_skill_at, not_a_skill};
@@ -135,7 +135,7 @@ fn searched(context: &Context, hints: usize) -> usize
     }
 }
 
-// Rule 21 of the first so many skills, four at a time; of those that are left behind, fewer than four, nothing.
+// Rule 21 of the first so many skills, four at a time; the last ones, fewer than four, are left out.
 fn by_fours(context: &Context, count: usize, entries: &mut Entries)
     requires { (count ≤ skill_count context.now.fit.now) × Room entries.old.n most_skills }
     ensures { let es = OfSkills (catalogue_of context.now.catalogue.now) context.now.fit.now in
@@ -238,7 +238,7 @@ fn not_a_hull(entries: &mut Entries)
 }
 
 // The list of a fit. `hints` are those of `Catalogue::type_of`.
-pub fn validate(context: &Context, hints: &mut [u32], entries: &mut Entries)
+pub fn emit(context: &Context, hints: &mut [u32], entries: &mut Entries)
     requires { Room entries.old.n most_entries }
     ensures { let es = list_of (catalogue_of context.now.catalogue.now) (fit_of context.now.fit.now) in
         Emitted entries.old entries.new es × (entries.new.n ≤ entries.old.n + most_entries) }
@@ -250,8 +250,8 @@ pub fn validate(context: &Context, hints: &mut [u32], entries: &mut Entries)
     hull_rules(context, entries);
 }
 
-// The list of a fit as if it listed no skills: none is looked up. Beside `validate`, as a flag for the skills would be no plainer.
-pub fn without_skills(context: &Context, entries: &mut Entries)
+// The list of a fit as if it listed no skills: none is looked up. Beside `emit`, as a flag for the skills would be no plainer.
+pub fn emit_without_skills(context: &Context, entries: &mut Entries)
     requires { Room entries.old.n most_entries }
     ensures { let f = fit_of context.now.fit.now in
         let ps = pairs_in context.now in
@@ -264,6 +264,27 @@ pub fn without_skills(context: &Context, entries: &mut Entries)
     } else {
         not_a_hull(entries);
     }
+}
+
+// `emit`, from the first entry of a buffer on.
+pub fn validate(context: &Context, hints: &mut [u32], out: &mut [u8]) -> usize
+    ensures { let es = list_of (catalogue_of context.now.catalogue.now) (fit_of context.now.fit.now) in
+        Wrote out.old 0 out.new result es × (result ≤ most_entries) }
+{
+    let mut entries = Entries::new(out);
+    emit(context, hints, &mut entries);
+    entries.count()
+}
+
+// `emit_without_skills`, from the first entry of a buffer on.
+pub fn without_skills(context: &Context, out: &mut [u8]) -> usize
+    ensures { let x = context.now in
+        let es = list_with (catalogue_of x.catalogue.now) (fit_of x.fit.now).frame [] (pairs_in x) in
+        Wrote out.old 0 out.new result es × (result ≤ most_entries) }
+{
+    let mut entries = Entries::new(out);
+    emit_without_skills(context, &mut entries);
+    entries.count()
 }
 
 // Whether the list of a fit is empty: nothing is asked once an entry is found, and the listed skills, of which there are most, come last.

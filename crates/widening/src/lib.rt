@@ -4,10 +4,11 @@
 ghost use Rattle.std.specs.Prelude.{◌≡◌, ◌+◌, ◌*◌, ◌≤◌, length};
 ghost use Rattle.numbers.specs.Refused.{number_of};
 ghost use Rattle.image.specs.Bytes.{put};
-ghost use Rattle.catalogue.specs.Catalogue.{base_count, base_values_at, size_of};
-ghost use Rattle.widening.specs.Old.{old_size_of, old_value_at, old_bad_length, old_refusal};
+ghost use Rattle.catalogue.specs.Catalogue.{base_values_at, size_of};
+ghost use Rattle.widening.specs.Old.{old_size_of, old_bad_length, old_refusal};
 ghost use Rattle.widening.specs.Widen.{wide_value, wide_values, widened};
 
+use catalogue::blocks::Blocks;
 use numbers::refusals::Refusal;
 
 // Bytes of a base in the old form: two ids and an f32.
@@ -21,17 +22,19 @@ fn bad_length(old: &[u8]) -> bool
     catalogue_refusals::bad_length(old, BASE_SIZE)
 }
 
-// The first refusal of 1 to 3 that holds of the old form. Keys and fields stand where the new form has them.
+// The first refusal of 1 to 3 that holds of the old form. Keys and fields stand where the new form has them. Beside `check` of
+// `catalogue_refusals`, whose clause is another definition: one function for both would need a definition over the size of a base.
 pub fn check(old: &[u8]) -> Result<(), Refusal>
     ensures { number_of result ≡ old_refusal old.now }
 {
     if bad_length(old) {
         return Err(Refusal::BadLength);
     }
-    if catalogue_refusals::bad_order(old) {
+    let blocks = Blocks::new(old);
+    if catalogue_refusals::bad_order(&blocks) {
         return Err(Refusal::BadKeys);
     }
-    if catalogue_refusals::bad_field(old) {
+    if catalogue_refusals::bad_field(&blocks) {
         return Err(Refusal::BadEntry);
     }
     Ok(())
@@ -42,7 +45,7 @@ pub fn wide_size(old: &[u8]) -> usize
     requires { length old.now ≡ old_size_of old.now }
     ensures { result ≡ length (widened old.now) }
 {
-    let b = catalogue::bases(old);
+    let b = Blocks::new(old).bases();
     b.at + 16 * b.n
 }
 
@@ -70,7 +73,7 @@ pub fn widen(old: &[u8], out: &mut [u8])
     requires { (length old.now ≡ old_size_of old.now) × (size_of old.now ≤ length out.old) }
     ensures { out.new ≡ put out.old 0 (widened old.now) }
 {
-    let b = catalogue::bases(old);
+    let b = Blocks::new(old).bases();
     let at = b.at + 4 * b.n;
     image::copy(out, 0, image::part(old, 0, at));
     widen_values(old, at, b.n, out);

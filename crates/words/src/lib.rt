@@ -1,4 +1,5 @@
-// The vocabulary of the definitions, with its laws, and the small tests that the code is written in.
+// The vocabulary of the definitions, with its laws, and four functions that say its words. Code calls `one_if`; the others stand for the
+// edits that hold what the words say.
 #![tactic(auto)]
 
 ghost use Rattle.std.specs.Prelude.{◌≡◌, ◌&&◌, ◌||◌, cond, ◌≤◌};
@@ -10,7 +11,7 @@ pub fn both(a: bool, b: bool) -> bool
     a & b
 }
 
-// Whether one of two tests holds. A loop that gathers its verdict with this call has no branch of its own.
+// Whether one of two tests holds.
 pub fn either(a: bool, b: bool) -> bool
     ensures { result ≡ (a || b) }
 {

@@ -4,7 +4,6 @@ use native.Mathlib.Omega.{arith}
 use Rattle.fit.specs.Fit.{result_count}
 use mathlib.Core.Path.{refl, sym, ap, ◌∙◌}
 use borrow.Author.Rules.{rules}
-use Rattle.numbers.specs.Sizes as Sizes
 use Rattle.numbers.specs.Refusals as Refusals
 use Rattle.skill.proofs.Reports.{reported-all}
 use Rattle.lists.specs.Terms.{limited, main}
@@ -48,7 +47,7 @@ returns-then-limit-walk c =
     (gave_refused _ Refusals.over_limit refl)
 
 pub skill_list-requires : goal.skill_list-requires
-skill_list-requires c = (omega (arith, c.result_count.ensures, c.if-result_count-res.false), (c.in-Ok.ensures.holds c.in-Ok.walk refl).0)
+skill_list-requires c = omega (arith, c.result_count.ensures, c.if-result_count-res.false)
 
 pub returns : goal.returns
 returns c =

@@ -1,5 +1,5 @@
 -- `catalogue_refusals::any_above` meets its contract. The invariant: the verdict so far is that of the first i numbers.
-use Rattle.std.proofs.Common.{ℕ, Bool, ◌≡◌, ◌||◌, ◌+◌, ◌*◌, sym, ap, ◌∙◌, ltb}
+use Rattle.std.proofs.Common.{ℕ, Bool, ◌||◌, ◌+◌, ◌*◌, sym, ap, ◌∙◌, ltb}
 use Rattle.words.proofs.Tables.{any_none, any-more}
 use Rattle.image.specs.Bytes.{u32_at}
 use Rattle.catalogue_refusals.proofs.any_above.Goals as goal

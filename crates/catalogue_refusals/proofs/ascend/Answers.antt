@@ -1,20 +1,10 @@
 -- `catalogue_refusals::ascend` meets its contract: the keys in their part are those in the whole.
-use Prim.Native.Nat.{ℕ}
-use native.Mathlib.Omega.{arith}
-use mathlib.Core.Path.{◌∙◌, ap}
-use mathlib.Core.List.{List}
+use mathlib.Core.Path.{◌∙◌}
 use lib.Signed.{lt_z}
-use Rattle.words.specs.Words.{table, in_order}
-use Rattle.keys.specs.Keys.{key_at}
-use Rattle.catalogue.proofs.Blocks.{keys_part}
+use Rattle.keys.proofs.Parts.{part-order}
 use Rattle.catalogue_refusals.proofs.ascend.Goals as goal
-
-pub ascend-requires : goal.ascend-requires
-ascend-requires c = omega (arith, c.keys_of.ensures.1)
 
 pub returns : goal.returns
 returns c =
     let a = c.args in
-    c.ascend.ensures
-    ∙ ap (λ (l : List ℕ). in_order lt_z (table a.b.n (key_at l))) c.keys_of.ensures.0
-    ∙ ap (in_order lt_z) (keys_part a.catalogue.now a.b.at a.b.n)
+    c.ascend.ensures ∙ part-order a.blocks.now a.b.at a.b.n lt_z c.requires c.keys_of.ensures.0

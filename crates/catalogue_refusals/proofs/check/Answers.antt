@@ -15,22 +15,19 @@ of-length b e f = sym e ∙ f
 pub returns-then-bad_length : goal.returns-then-bad_length
 returns-then-bad_length c = refused-1 _ (of-length _ c.bad_length.ensures c.if-bad_length.true)
 
-pub bad_order-requires : goal.bad_order-requires
-bad_order-requires c = omega (arith, fits-size _ (of-length _ c.bad_length.ensures c.if-bad_length.false))
+pub new-blocks-requires : goal.new-blocks-requires
+new-blocks-requires c = omega (arith, fits-size _ (of-length _ c.bad_length.ensures c.if-bad_length.false))
 
 pub returns-then-bad_order : goal.returns-then-bad_order
 returns-then-bad_order c =
-    refused-2 _ (of-length _ c.bad_length.ensures c.if-bad_length.false) (sym c.bad_order.ensures ∙ c.if-bad_order.true)
-
-pub bad_field-requires : goal.bad_field-requires
-bad_field-requires c = omega (arith, fits-size _ (of-length _ c.bad_length.ensures c.if-bad_length.false))
+    refused-2 _ (of-length _ c.bad_length.ensures c.if-bad_length.false) (rw c.new-blocks.ensures at (sym c.bad_order.ensures ∙ c.if-bad_order.true))
 
 pub returns-then-bad_field : goal.returns-then-bad_field
 returns-then-bad_field c =
-    refused-3 _ (of-length _ c.bad_length.ensures c.if-bad_length.false) (sym c.bad_order.ensures ∙ c.if-bad_order.false)
-    (sym c.bad_field.ensures ∙ c.if-bad_field.true)
+    refused-3 _ (of-length _ c.bad_length.ensures c.if-bad_length.false) (rw c.new-blocks.ensures at (sym c.bad_order.ensures ∙ c.if-bad_order.false))
+    (rw c.new-blocks.ensures at (sym c.bad_field.ensures ∙ c.if-bad_field.true))
 
 pub returns : goal.returns
 returns c =
-    refused_none _ (of-length _ c.bad_length.ensures c.if-bad_length.false) (sym c.bad_order.ensures ∙ c.if-bad_order.false)
-    (sym c.bad_field.ensures ∙ c.if-bad_field.false)
+    refused_none _ (of-length _ c.bad_length.ensures c.if-bad_length.false) (rw c.new-blocks.ensures at (sym c.bad_order.ensures ∙ c.if-bad_order.false))
+    (rw c.new-blocks.ensures at (sym c.bad_field.ensures ∙ c.if-bad_field.false))

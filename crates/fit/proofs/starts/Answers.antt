@@ -7,7 +7,7 @@ use mathlib.Core.Logic.{⊎_elim}
 use mathlib.Core.Path.{◌≡◌, refl, ◌∙◌, ap, sym}
 use lib.ListN.{length, get_or, set, length-set, replicate}
 use lib.Seq.{get_or-set_same, get_or-set_other}
-use Rattle.fit.specs.Fit.{attribute_count, count_at, start_at}
+use Rattle.fit.specs.Fit.{result_count, count_at, start_at}
 use Rattle.fit.proofs.Decoded.{start_none, start-next, start-within}
 use Rattle.fit.proofs.starts.Goals as goal
 
@@ -35,14 +35,18 @@ loop-j-init c =
       begins = first a.fit.now (replicate 259 0) refl;
     }
 
+-- the layout is that of the image
+told : {l b : List ℕ} → l ≡ b → (j : ℕ) → count_at l j ≡ count_at b j
+told e j = ap (λ (x : List ℕ). count_at x j) e
+
 pub overflow_add-sum : goal.overflow_add-sum
-overflow_add-sum c = omega (arith, c.loop-j.invariant.sum, start-within c.args.fit.now c.requires.sized c.loop-j.j (omega arith))
+overflow_add-sum c = omega (arith, c.loop-j.invariant.sum, start-within c.args.fit.now c.requires.sized c.loop-j.j (omega (arith, ap result_count c.new-layout.ensures)), told c.new-layout.ensures c.loop-j.j)
 
 pub loop-j-preserved : goal.loop-j-preserved
 loop-j-preserved c =
     let l = c.loop-j in
     let b = c.args.fit.now in
-    let e : l.sum + c.count_at.result ≡ start_at b (l.j + 1) = omega (arith, l.invariant.sum, start-next b l.j) in
+    let e : l.sum + c.count_at.result ≡ start_at b (l.j + 1) = omega (arith, l.invariant.sum, start-next b l.j, told c.new-layout.ensures l.j) in
     record {
       long = length-set _ _ _ ∙ l.invariant.long;
       sum = e;

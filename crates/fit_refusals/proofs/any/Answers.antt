@@ -1,5 +1,5 @@
 -- `fit_refusals::any` meets its contract. The invariant: the verdict so far is that of the first i.
-use Rattle.std.proofs.Common.{ℕ, Bool, ◌||◌, sym, ap₂, ◌∙◌, arith}
+use Rattle.std.proofs.Common.{Bool, ◌||◌, sym, ap₂, ◌∙◌}
 use Rattle.words.proofs.Tables.{any_none, any-more}
 use Rattle.fit_refusals.proofs.any.Goals as goal
 

@@ -6,4 +6,4 @@ use Rattle.fit.proofs.Soundness.{disordered}
 use Rattle.fit_refusals.proofs.any_disordered.Given as goal
 
 abbrev pub invariant-loop-j : goal.invariant-loop-j
-invariant-loop-j l = (l.start ≡ start_at l.fit l.j) × (l.bad ≡ any_of disordered (table l.j (result_of l.fit)))
+invariant-loop-j l = (l.start ≡ start_at l.layout l.j) × (l.bad ≡ any_of disordered (table l.j (result_of l.layout)))

@@ -32,31 +32,36 @@ results-told b c e =
 
 pub returns-then-bad_mode : goal.returns-then-bad_mode
 returns-then-bad_mode c =
-    let b = c.args.fit.now in
-    rw (field_parts b, mode-told b c.bad_mode.ensures c.u32_at-flag.ensures c.u32_at-mode.ensures, c.if-bad_mode.true)
+    let b = c.bytes-fit.result.now in
+    let same = c.bytes-fit.ensures.0 in
+    rw (sym same, field_parts b, mode-told b c.bad_mode.ensures c.u32_at-flag.ensures c.u32_at-mode.ensures, c.if-bad_mode.true)
 
 pub returns-then-any : goal.returns-then-any
 returns-then-any c =
-    let b = c.args.fit.now in
+    let b = c.bytes-fit.result.now in
+    let same = c.bytes-fit.ensures.0 in
     let e = c.any.ensures (λ i. bad_item (item_at b i)) (λ i r h q. search rules) in
     rw (
+      sym same,
       field_parts b,
       mode-told b c.bad_mode.ensures c.u32_at-flag.ensures c.u32_at-mode.ensures,
       c.if-bad_mode.false,
-      items-told b c.items.ensures e,
+      items-told b (c.items.ensures.0 ∙ sym (ap item_count same)) e,
       c.if-any.true,
     )
 
 pub returns : goal.returns
 returns c =
-    let b = c.args.fit.now in
+    let b = c.bytes-fit.result.now in
+    let same = c.bytes-fit.ensures.0 in
     let e = c.any.ensures (λ i. bad_item (item_at b i)) (λ i r h q. search rules) in
     let f = c.any-2.ensures (λ j. bad_result (result_of b j)) (λ j r h q. search rules) in
     rw (
+      sym same,
       field_parts b,
       mode-told b c.bad_mode.ensures c.u32_at-flag.ensures c.u32_at-mode.ensures,
       c.if-bad_mode.false,
-      items-told b c.items.ensures e,
+      items-told b (c.items.ensures.0 ∙ sym (ap item_count same)) e,
       c.if-any.false,
-      results-told b (ap (λ (k : ℕ). k + 2) c.results.ensures) f,
+      results-told b (ap (λ (k : ℕ). k + 2) (c.results.ensures.0 ∙ sym (ap result_count same))) f,
     )

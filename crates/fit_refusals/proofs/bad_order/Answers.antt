@@ -1,5 +1,5 @@
 -- `fit_refusals::bad_order` meets its contract: the skill ids are the keys of a part, and the results follow.
-use Prim.Native.Nat.{ℕ, ◌+◌, ◌*◌}
+use Prim.Native.Nat.{ℕ, ◌+◌, ◌*◌, ◌/◌}
 use native.Mathlib.Omega.{arith}
 use mathlib.Core.List.{List}
 use mathlib.Core.Path.{◌≡◌, ◌∙◌, ap, sym}
@@ -8,31 +8,25 @@ use lib.Signed.{lt_z}
 use lib.ListN.{length, take, drop}
 use Rattle.words.specs.Words.{in_order, table}
 use Rattle.image.specs.Bytes.{i32_at}
-use Rattle.keys.proofs.Parts.{part_length, part-keys}
+use Rattle.keys.proofs.Parts.{part-order}
 use Rattle.keys.specs.Keys.{key_at}
 use Rattle.fit.specs.Fit.{skill_count, skills_at}
+use Rattle.fit.specs.Sound.{Sized}
 use Rattle.fit_refusals.proofs.Refused.{order-parts}
 use Rattle.fit_refusals.proofs.bad_order.Goals as goal
 
-pub ascend-requires : goal.ascend-requires
-ascend-requires c =
-    let b = c.args.fit.now in
-    omega (arith, ap length c.part-ids.ensures, part_length b 28 (4 * c.skills-n.result) (omega arith))
-
 -- what `ascend` says, of the skill ids themselves
-told : (b : List ℕ) {n : ℕ} {ids : List ℕ} {r : Bool} → n ≡ skill_count b → ids ≡ take (4 * n) (drop 28 b) → r ≡ in_order lt_z (table n (key_at ids))
-    → r ≡ in_order lt_z (table (skill_count b) (λ i. i32_at b (skills_at b + 4 * i)))
-told b {n} e part r =
-    r
-    ∙ ap (in_order lt_z) (ap (λ (l : List ℕ). table n (key_at l)) part ∙ part-keys b 28 n)
-    ∙ ap (λ (k : ℕ). in_order lt_z (table k (λ i. i32_at b (28 + 4 * i)))) e
+told : (b : List ℕ) {n : ℕ} {l ids : List ℕ} {r : Bool} → (l ≡ b) × Sized b → n ≡ skill_count b → ids ≡ take (4 * n) (drop 28 l)
+    → r ≡ in_order lt_z (table (length ids / 4) (key_at ids)) → r ≡ in_order lt_z (table (skill_count b) (λ i. i32_at b (skills_at b + 4 * i)))
+told b {n} s e part r =
+    r ∙ part-order b 28 n lt_z (omega (arith, s.1.size, e)) (part ∙ ap (λ (l : List ℕ). take (4 * n) (drop 28 l)) s.0) ∙ ap (λ (k : ℕ). in_order lt_z (table k (λ i. i32_at b (28 + 4 * i)))) e
 
 pub returns-then-ascend : goal.returns-then-ascend
 returns-then-ascend c =
-    let b = c.args.fit.now in
-    sym (order-parts b ∙ rw (sym (told b c.skills-n.ensures c.part-ids.ensures c.ascend.ensures), c.if-ascend.true, sym c.any_disordered.ensures))
+    let b = c.args.layout.now in
+    sym (order-parts b ∙ rw (sym (told b c.bytes.ensures c.skills-n.ensures.0 c.part-ids.ensures c.ascend.ensures), c.if-ascend.true, sym c.any_disordered.ensures))
 
 pub returns : goal.returns
 returns c =
-    let b = c.args.fit.now in
-    sym (order-parts b ∙ rw (sym (told b c.skills-n.ensures c.part-ids.ensures c.ascend.ensures), c.if-ascend.false))
+    let b = c.args.layout.now in
+    sym (order-parts b ∙ rw (sym (told b c.bytes.ensures c.skills-n.ensures.0 c.part-ids.ensures c.ascend.ensures), c.if-ascend.false))

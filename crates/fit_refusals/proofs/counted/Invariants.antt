@@ -1,5 +1,5 @@
 -- `fit_refusals::counted` meets its contract. The invariant: the sum is how many attributes stand before result j.
-use Prim.Native.Nat.{◌*◌, ◌-◌, ◌≤◌}
+use Prim.Native.Nat.{◌*◌, ◌≤◌}
 use mathlib.Core.Path.{◌≡◌}
 use Rattle.fit.specs.Fit.{start_at}
 use Rattle.fit_refusals.proofs.counted.Given as goal

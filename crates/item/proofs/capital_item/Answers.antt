@@ -54,10 +54,10 @@ returns c =
     let z : to_z w32 (of_z w32 c.in-Some-attribute_id.capital) ≡ c.in-Some-attribute_id.capital = search rules in
     let open' = ap (λ (i : ℤ). ne (amount x.ship_result i) zero_f || is_structure x) (sym z) ∙ sym c.takes_capitals.ensures ∙ c.if-takes_capitals.false in
     let pair = pair_in a.context.now in
-    let w = c.report.ensures (capital_item_at c.in-Some.volume) (λ i r h p.
+    let w = c.report.ensures.wrote (capital_item_at c.in-Some.volume) (λ i r h p.
     let e : r ≡ then_some (is_capital_item c.in-Some.volume (pair i)) CapitalItem = search rules in
     ap (said (pair i)) e ∙ said-capital c.in-Some.volume (pair i)) in (
       capital_each x (pairs_in a.context.now) c.in-Some.volume c.in-Some-attribute_id.capital
-          (sym c.attribute_id.ensures ∙ c.in-Some.is) (sym c.attribute_id-2.ensures ∙ c.in-Some-attribute_id.is) open' w.0,
-      w.1,
+          (sym c.attribute_id.ensures ∙ c.in-Some.is) (sym c.attribute_id-2.ensures ∙ c.in-Some-attribute_id.is) open' w,
+      c.report.ensures.few,
     )

@@ -34,9 +34,9 @@ unfolding context_of context fit_of
 returns c =
     let a = c.args in
     let z : c.in-Some.id ≡ to_z w32 (of_z w32 c.in-Some.id) = search rules in
-    let w = c.report.ensures (rig_size_at c.in-Some.id c.in-Some-value.ship) (λ i r h p. search rules) in (
+    let w = c.report.ensures.wrote (rig_size_at c.in-Some.id c.in-Some-value.ship) (λ i r h p. search rules) in (
       rig-each (context_in a.context.now) (pairs_in a.context.now) c.in-Some.id c.in-Some-value.ship
           (sym c.attribute_id.ensures ∙ c.in-Some.is)
-          (ap (value (result_of a.context.now.fit.now 0)) z ∙ sym c.value.ensures ∙ c.in-Some-value.is) w.0,
-      w.1,
+          (ap (value (result_of a.context.now.fit.now 0)) z ∙ sym c.value.ensures ∙ c.in-Some-value.is) w,
+      c.report.ensures.few,
     )

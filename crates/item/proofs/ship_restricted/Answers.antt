@@ -26,4 +26,7 @@ returns c =
     let a = c.args in
     let x = context_in a.context.now in
     let pair = pair_in a.context.now in
-    c.report.ensures (ship_restricted_at x) (λ i r h p. let e : r ≡ then_some (is_restricted x (pair i)) ShipRestricted = search rules in ap (said (pair i)) e ∙ said-restricted x (pair i))
+    let w = c.report.ensures in (
+      w.wrote (ship_restricted_at x) (λ i r h p. let e : r ≡ then_some (is_restricted x (pair i)) ShipRestricted = search rules in ap (said (pair i)) e ∙ said-restricted x (pair i)),
+      w.few,
+    )

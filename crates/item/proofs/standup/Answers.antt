@@ -8,4 +8,4 @@ pub returns : goal.returns
 unfolding standup
 returns c =
     let a = c.args in
-    c.report.ensures (standup_at (context_in a.context.now)) (λ i r h p. search rules)
+    (c.report.ensures.wrote (standup_at (context_in a.context.now)) (λ i r h p. search rules), c.report.ensures.few)

@@ -7,4 +7,4 @@ use Rattle.keys.proofs.ascend.Goals as goal
 pub returns : goal.returns
 returns c =
     let a = c.args in
-    c.ascending.ensures ∙ biased-lt a.keys.now (u32_small a.keys.now c.type_inv.keys) a.n
+    c.ascending.ensures ∙ biased-lt a.keys.now (u32_small a.keys.now c.type_inv.keys) _

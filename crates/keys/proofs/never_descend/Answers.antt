@@ -7,4 +7,4 @@ use Rattle.keys.proofs.never_descend.Goals as goal
 pub returns : goal.returns
 returns c =
     let a = c.args in
-    c.ordered.ensures ∙ biased-le a.keys.now (u32_small a.keys.now c.type_inv.keys) a.n
+    c.ordered.ensures ∙ biased-le a.keys.now (u32_small a.keys.now c.type_inv.keys) _

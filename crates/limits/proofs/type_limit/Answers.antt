@@ -20,5 +20,5 @@ unfolding context_of context
 returns c =
     let x = c.args.context.now in
     let id = c.in-Some.id in
-    let w = c.report.ensures (type_limit_at id (pairs_in x)) (λ i s h p. search rules) in
-    (type-each (context_in x) (pairs_in x) id (sym c.in-Some.ensures) w.0, w.1)
+    let w = c.report.ensures.wrote (type_limit_at id (pairs_in x)) (λ i s h p. search rules) in
+    (type-each (context_in x) (pairs_in x) id (sym c.in-Some.ensures) w, c.report.ensures.few)

@@ -23,5 +23,5 @@ returns-then-n-gt-MOST_GROUPS c = sym (profile-bad _ (λ z. omega (arith, z.few)
 pub returns : goal.returns
 returns c =
     let b = c.args.profile.now in
-    let n = c.u32_at-n.ensures in
+    let n = c.size_at-n.ensures.0 in
     ap (λ (n : ℕ). not (eqb (length b) (4 + 8 * n))) n ∙ sym (profile-rest b (omega arith) (omega (arith, n)))

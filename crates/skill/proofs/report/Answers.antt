@@ -37,7 +37,7 @@ loop-i-preserved c =
 pub report_skill-requires : goal.report_skill-requires
 report_skill-requires c =
     let l = c.loop-i in
-    (omega (arith, c.requires.0, c.is_sound.ensures.sized.results), omega (arith, l.invariant.1, l.auto, c.loop-i-test.true, c.requires))
+    (omega (arith, c.requires.0, c.is_sound.ensures.sized.results), omega (arith, l.invariant.1, c.args.walk.few, c.loop-i-test.true, c.requires.1))
 
 pub returns : goal.returns
 unfolding zip_to
@@ -47,5 +47,5 @@ returns c =
     let w = a.walk in
     let f = entry_of (fit_of a.fit.now) a.res in (
       emitted-table_all f (held_at w.ids w.levels) l.auto.i-end c.loop-i-test.false l.invariant.0,
-      omega (arith, l.auto.i-end, l.invariant.1, c.requires.1),
+      omega (arith, l.auto.i-end, l.invariant.1, w.few),
     )

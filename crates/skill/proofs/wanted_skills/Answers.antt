@@ -32,7 +32,6 @@ loop-next-init c =
     let r = result_of a.fit.now a.res in
     let noted = c.in_ok-note_all.ensures (value r) (λ id v fits gives. search rules) in (
       omega arith,
-      noted.room,
       noted.holds refl
           ∙ walk_first (catalogue_of a.catalogue.now) r c.required_of-required.ensures (walk_of c.new-walk.result) c.new-walk.ensures.0,
     )
@@ -48,9 +47,9 @@ returns-in_err-note_all-2 c =
     (λ id v fits gives.
     let read : v ≡ span_value a.catalogue.now span.result.from span.result.to id = search rules in
     read ∙ span_value_lem a.catalogue.now (to_z w32 (of_z w32 t)) id span.result span.ensures)).full refl in
-    let step = walk_step cat (result_of a.fit.now a.res) l.next l.walk l.invariant.2 c.loop-next-test.true (to_z w32 (of_z w32 t))
+    let step = walk_step cat (result_of a.fit.now a.res) l.next l.walk l.invariant.1 c.loop-next-test.true (to_z w32 (of_z w32 t))
     (to_z-of_z w32 t (search rules)) c.required_of-required.ensures in
-    walked-full a.catalogue.now a.fit.now a.res (l.next + 1) (omega (arith, l.invariant.1, c.loop-next-test.true)) c.from_residual-in_err-note_all-2.result
+    walked-full a.catalogue.now a.fit.now a.res (l.next + 1) (omega (arith, l.walk.few, c.loop-next-test.true)) c.from_residual-in_err-note_all-2.result
     c.from_residual-in_err-note_all-2.ensures.0 (omega (arith, over, ap length step))
 
 pub loop-next-preserved : goal.loop-next-preserved
@@ -64,10 +63,9 @@ loop-next-preserved c =
     (λ id v fits gives.
     let read : v ≡ span_value a.catalogue.now span.result.from span.result.to id = search rules in
     read ∙ span_value_lem a.catalogue.now (to_z w32 (of_z w32 t)) id span.result span.ensures) in (
-      omega (arith, l.invariant.1, c.loop-next-test.true),
-      noted.room,
+      omega (arith, l.walk.few, c.loop-next-test.true),
       noted.holds refl
-          ∙ walk_step cat (result_of a.fit.now a.res) l.next l.walk l.invariant.2 c.loop-next-test.true (to_z w32 (of_z w32 t))
+          ∙ walk_step cat (result_of a.fit.now a.res) l.next l.walk l.invariant.1 c.loop-next-test.true (to_z w32 (of_z w32 t))
           (to_z-of_z w32 t (search rules)) c.required_of-required.ensures,
     )
 
@@ -75,4 +73,4 @@ pub returns : goal.returns
 returns c =
     let a = c.args in
     let l = c.loop-next in
-    walked_all a.catalogue.now a.fit.now a.res l.next l.invariant.0 l.walk l.invariant.2 c.loop-next-test.false
+    walked_all a.catalogue.now a.fit.now a.res l.next l.invariant.0 l.walk l.invariant.1 c.loop-next-test.false

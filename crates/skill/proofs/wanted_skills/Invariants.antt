@@ -9,7 +9,7 @@ use Rattle.skill.proofs.wanted_skills.Given as goal
 
 abbrev pub invariant-loop-next : goal.invariant-loop-next
 invariant-loop-next l =
-    (l.next ≤ 512) × (l.walk.len ≤ 512) × (walk_of l.walk ≡ noted (met (catalogue_of l.catalogue) (result_of l.fit l.fn.res) l.next))
+    (l.next ≤ 512) × (walk_of l.walk ≡ noted (met (catalogue_of l.catalogue) (result_of l.fit l.fn.res) l.next))
 
 abbrev pub decreases-loop-next : goal.decreases-loop-next
 decreases-loop-next l = 512 - l.next

@@ -25,7 +25,7 @@ loop-i-init c =
     (sym (count_none (held_at a.walk.ids a.walk.levels) (is_new (training_of (fit_of a.fit.now)))), omega arith)
 
 pub overflow_add-count : goal.overflow_add-count
-overflow_add-count c = let l = c.loop-i in omega (arith, c.new_skill-count.ensures.1, l.invariant.1, l.auto, c.requires)
+overflow_add-count c = let l = c.loop-i in omega (arith, c.new_skill-count.ensures.1, l.invariant.1, c.loop-i-test.true, c.args.walk.few)
 
 pub loop-i-preserved : goal.loop-i-preserved
 unfolding zip_to
@@ -45,5 +45,5 @@ returns c =
     let a = c.args in
     let all : l.i ≡ a.walk.len = omega (arith, c.loop-i-test.false, l.auto.i-end) in (
       l.invariant.0 ∙ ap (λ (k : ℕ). count_of (is_new (training_of (fit_of a.fit.now))) (held_of a.walk.ids a.walk.levels k)) all,
-      omega (arith, l.invariant.1, all, c.requires),
+      omega (arith, l.invariant.1, all, a.walk.few),
     )

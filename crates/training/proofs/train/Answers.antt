@@ -24,9 +24,6 @@ returns-in_default c =
     let many = over-many a.catalogue.now a.fit.now a.res (omega (arith, small)) c.wanted_skills.result c.wanted_skills.ensures (search rules) in
     bytes_same (sym (train-9 (catalogue_of a.catalogue.now) (fit_of a.fit.now) a.res _ _ (has_result a.fit.now a.res small) many)) (bytes-refused _ Refusals.too_many_skills refl)
 
-pub too_many_listed-requires : goal.too_many_listed-requires
-too_many_listed-requires c = (c.in-Ok.ensures.holds c.in-Ok.walk refl).0
-
 pub returns-then-too_many_listed : goal.returns-then-too_many_listed
 returns-then-too_many_listed c =
     let a = c.args in
@@ -38,9 +35,6 @@ returns-then-too_many_listed c =
     bytes_same
     (sym (train-16 (catalogue_of a.catalogue.now) (fit_of a.fit.now) a.res _ _ (has_result a.fit.now a.res small) few many))
     (bytes-refused _ Refusals.too_many_listed refl)
-
-pub train_listed-requires : goal.train_listed-requires
-train_listed-requires c = (c.in-Ok.ensures.holds c.in-Ok.walk refl).0
 
 pub returns : goal.returns
 returns c =

@@ -29,7 +29,6 @@ take_turns-requires c =
     let n = c.new-plan.ensures in (
       omega (arith, n.1),
       omega (arith, n.1, n.2),
-      c.requires,
       subst Listed (sym n.0) (fit-listed c.args.fit.now c.bytes.ensures.1),
     )
 

@@ -5,4 +5,4 @@ use Rattle.widening.proofs.wide_size.Goals as goal
 
 pub returns : goal.returns
 returns c =
-    omega (arith, widened-length c.args.old.now c.requires, c.bases-b.ensures)
+    omega (arith, widened-length c.args.old.now c.requires, rw c.new.ensures at c.bases-b.ensures)

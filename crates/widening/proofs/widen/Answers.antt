@@ -13,14 +13,14 @@ use Rattle.widening.proofs.widen.Goals as goal
 
 pub copy-requires : goal.copy-requires
 copy-requires c =
-    let e = c.bases-b.ensures in
+    let e = rw c.new.ensures at c.bases-b.ensures in
     let at = c.bases-b.result.at + 4 * c.bases-b.result.n in
     omega (arith, ap length c.part.ensures, part_length c.args.old.now 0 at (omega (arith, e, c.requires)), e, c.requires)
 
 pub returns : goal.returns
 returns c =
     let a = c.args in
-    let e = c.bases-b.ensures in
+    let e = rw c.new.ensures at c.bases-b.ensures in
     let at = c.bases-b.result.at + 4 * c.bases-b.result.n in
     let here : at ≡ base_values_at a.old.now = omega (arith, e) in
     c.widen_values.ensures

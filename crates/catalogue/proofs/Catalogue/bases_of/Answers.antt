@@ -4,21 +4,16 @@ use mir.ValLaws.{to_z-of_z}
 use Rattle.catalogue.specs.Catalogue.{bases_at, base_count}
 use Rattle.catalogue.proofs.Reading.{bases-sorted}
 use Rattle.catalogue.proofs.Walking.{run_of}
-use borrow.Author.Rules.{rules}
 use Rattle.catalogue.proofs.Catalogue.bases_of.Goals as goal
-
-pub first_key-from-requires : goal.first_key-from-requires
-first_key-from-requires c =
-    let e = c.bases-b.ensures in
-    (search rules, rw (e.0, e.1) (bases-sorted c.self.inside.bytes.now c.self.invariant))
 
 pub returns : goal.returns
 returns c =
     rw (← c.self.view_is) (
-    let b = c.self.inside.bytes.now in
+    let b = c.self.inside.blocks in
     let e = c.bases-b.ensures in
+    let keys = rw (← c.self.view_is) at c.base_keys.ensures in
     let z = to_z-of_z w32 c.args.id c.ranges.id in
-    run_of b (bases_at b) (base_count b) c.args.id c.ranges.id.sfits c.first_key-from.result
-    (rw (e.0, e.1, z) at c.first_key-from.ensures) (bases-sorted b c.self.invariant)
-    c.run_end.result (rw (e.0, e.1, z) at c.run_end.ensures)
+    run_of b (bases_at b) (base_count b) c.args.id c.ranges.id.sfits c.first_from-from.result
+    (rw (keys.0, keys.1, z) at c.first_from-from.ensures) (bases-sorted b c.self.invariant)
+    c.run_end.result (rw (c.bytes.ensures.0, e.0, e.1, z) at c.run_end.ensures)
     )

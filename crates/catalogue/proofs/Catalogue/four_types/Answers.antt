@@ -1,38 +1,27 @@
 -- `Catalogue::four_types` meets its contract: each of the four by the place where its search ends.
-use Rattle.std.proofs.Common.{◌≡◌, ℕ, ◌<◌, List, get_or, ℤ, pos, ⊎_elim, subst, sym, ap, ◌∙◌, length, ◌≤◌, eq-or-lt_of_le, arith, w32}
+use Rattle.std.proofs.Common.{◌≡◌, ℕ, ◌<◌, get_or, ℤ, pos, ⊎_elim, sym, ap, ◌∙◌, length, ◌≤◌, eq-or-lt_of_le, arith, w32}
 use Rattle.std.specs.Prelude.{Option, None, Some}
 use borrow.Author.Rules.{rules}
 use mir.Val.{to_z, of_z}
 use lib.ListN.{set, length-set}
 use lib.Seq.{get_or-set_same, get_or-set_other}
-use mir.ValLaws.{to_z-of_z}
 use Rattle.words.specs.Words.{given}
 use Rattle.catalogue.specs.Catalogue.{Catalogue, catalogue_of}
 use Rattle.catalogue.specs.Lookups.{type_of}
 use Rattle.catalogue.specs.Answers.{info_of_type}
 use Rattle.catalogue.specs.declared.TypeInfo.{TypeInfo}
-use Rattle.keys.specs.Keys.{Sorted, Parts}
-use Rattle.catalogue.proofs.Reading.{types-sorted, types-part}
 use Rattle.catalogue.proofs.Catalogue.four_types.Goals as goal
 
 abbrev answer : Catalogue → ℤ → Option TypeInfo
 answer x id = given (type_of x id) None (λ t. Some (info_of_type t))
 
-pub each_from-found-requires : goal.each_from-found-requires
-each_from-found-requires c =
-    let e = c.types-b.ensures in
-    let sorted = subst (λ (l : List ℕ). Sorted l c.types-b.result.n) (sym c.keys_of.ensures.0)
-    (rw (e.0, e.1) (types-sorted c.self.inside.bytes.now c.self.invariant)) in
-    (omega arith, (omega arith, (omega (arith, c.keys_of.ensures.1), sorted)))
-
 pub type_found-requires : goal.type_found-requires
 type_found-requires c =
-    let e = c.types-b.ensures in
+    let e = c.type_keys.ensures in
     let j = c.loop-j.j in
     let id : get_or c.args.ids.now j (pos 0) ≡ to_z w32 (of_z w32 (get_or c.args.ids.now j (pos 0))) = search rules in
-    let r = get_or c.each_from-found.result j 0 in
     let parts = c.each_from-found.ensures j c.loop-j-test.true in
-    rw (← c.self.view_is) (types-part c.self.inside.bytes.now c.keys_of.ensures.0 e.0 e.1 (subst (λ (z : ℤ). Parts c.keys_of.result.now c.types-b.result.n z r) id parts))
+    rw (← e.0, ← e.1, ← id) parts
 
 pub loop-j-preserved : goal.loop-j-preserved
 loop-j-preserved c = (

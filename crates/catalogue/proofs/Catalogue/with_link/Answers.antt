@@ -10,7 +10,7 @@ unfolding ◌>>=◌
 returns-in-Some c =
     let i = c.id_at-effect in
     let e = c.links.ensures in
-    let told = rw (to_z-of_z w32 i.result (record { sfits = i.type_inv }), i.ensures, e.0, e.1) at (rw (← c.self.view_is) at c.in-Some.ensures) in
+    let told = rw (to_z-of_z w32 i.result (record { sfits = i.type_inv }), i.ensures, c.bytes.ensures.0, e.0, e.1) at (rw (← c.self.view_is) at c.in-Some.ensures) in
     rw (← c.self.view_is, ← told) c.with_mark.ensures
 
 pub returns-in-None : goal.returns-in-None
@@ -18,5 +18,5 @@ unfolding ◌>>=◌
 returns-in-None c =
     let i = c.id_at-effect in
     let e = c.links.ensures in
-    let told = rw (to_z-of_z w32 i.result (record { sfits = i.type_inv }), i.ensures, e.0, e.1) at (rw (← c.self.view_is) at c.in-None.ensures) in
+    let told = rw (to_z-of_z w32 i.result (record { sfits = i.type_inv }), i.ensures, c.bytes.ensures.0, e.0, e.1) at (rw (← c.self.view_is) at c.in-None.ensures) in
     rw (← c.self.view_is, ← told) (record { rack = refl; hardpoint = refl })

@@ -1,9 +1,8 @@
 -- `Fit::ids_of` meets its contract: of all ids, the result's.
 use Prim.Native.Nat.{ℕ, ◌+◌, ◌*◌}
-use native.Mathlib.Omega.{arith}
 use mathlib.Core.Path.{◌∙◌, ap}
 use lib.ListN.{take, drop}
-use Rattle.fit.specs.Fit.{count_at, start_at}
+use Rattle.fit.specs.Fit.{ids_at, count_at, start_at}
 use Rattle.fit.specs.Sound.{ids_part}
 use Rattle.fit.proofs.Fit.ids_of.Goals as goal
 
@@ -11,5 +10,5 @@ pub returns : goal.returns
 unfolding ids_part
 returns c =
     let a = c.args in
-    let b = c.self.inside.bytes.now in
-    rw (← c.self.view_is) (rw (← c.self.view_is) at c.part_of.ensures ∙ ap (λ (first : ℕ). take (4 * count_at b a.j) (drop (first + 4 * start_at b a.j) b)) c.ids_at.ensures)
+    let b = a.self.now in
+    c.part_of.ensures ∙ ap (λ (first : ℕ). take (4 * count_at b a.j) (drop (first + 4 * start_at b a.j) b)) (c.ids_at.ensures ∙ ap ids_at c.layout.ensures)

@@ -9,31 +9,28 @@ use mir.Syntax.{w32}
 use Rattle.std.specs.Prelude.{Some}
 use Rattle.floats.specs.Floats.{f64_at}
 use Rattle.words.specs.Words.{given}
-use Rattle.keys.proofs.Parts.{place-below}
+use Rattle.keys.proofs.Parts.{place-below, place-alike}
 use Rattle.fit.specs.Fit.{count_at, start_at}
-use Rattle.fit.proofs.Searches.{found_in, part-sorted, value_told}
+use Rattle.fit.proofs.Searches.{value_told}
 use Rattle.fit.proofs.Decoded.{start-within, value-at, values_length}
 use Rattle.fit.proofs.Fit.value.Goals.{After-values_of}
 use Rattle.fit.proofs.Fit.value.Goals as goal
-
-pub place_of-requires : goal.place_of-requires
-place_of-requires c = (omega arith, part-sorted c.args.self.now c.is_sound.ensures c.args.j c.requires c.ids_of-ids.ensures)
 
 pub returns-in_err-i : goal.returns-in_err-i
 unfolding given
 returns-in_err-i c =
     let a = c.args in
+    let k = c.id_keys.ensures in
     c.from_residual.ensures
-    ∙ value_told c.args.self.now a.j a.id (found_in c.args.self.now c.is_sound.ensures a.j c.requires c.ids_of-ids.ensures a.id c.in_err-i.ensures (to_z-of_z w32 a.id c.ranges.id))
+    ∙ value_told a.self.now a.j a.id (c.in_err-i.ensures ∙ place-alike _ _ _ _ k.0 k.1 _ _ (to_z-of_z w32 a.id c.ranges.id))
 
 -- the value stands at the id's place, in a part that is as long as the values
 place_in : (c : After-values_of) → let a = c.args in let b = c.args.self.now in
     (c.in_ok-i.i < count_at b a.j) × (length c.values_of.result.now ≡ 8 * count_at b a.j)
 place_in c =
     let a = c.args in
-    let b = c.args.self.now in
-    let z = to_z-of_z w32 a.id c.ranges.id in (
-      place-below _ _ _ _ (sym (found_in b c.is_sound.ensures a.j c.requires c.ids_of-ids.ensures a.id c.in_ok-i.ensures z)),
+    let b = c.args.self.now in (
+      omega (arith, c.id_keys.ensures.1, place-below _ _ _ _ (sym c.in_ok-i.ensures)),
       ap length c.values_of.ensures
           ∙ values_length b (start_at b a.j) (count_at b a.j)
           (omega (arith, start-within b c.is_sound.ensures.sized a.j c.requires, c.is_sound.ensures.sized.size)),
@@ -50,7 +47,8 @@ unfolding given
 returns c =
     let a = c.args in
     let b = c.args.self.now in
-    let e = found_in b c.is_sound.ensures a.j c.requires c.ids_of-ids.ensures a.id c.in_ok-i.ensures (to_z-of_z w32 a.id c.ranges.id) in
+    let k = c.id_keys.ensures in
+    let e = c.in_ok-i.ensures ∙ place-alike _ _ _ _ k.0 k.1 _ _ (to_z-of_z w32 a.id c.ranges.id) in
     ap Some (c.f64_at.ensures ∙ ap (λ (l : List ℕ). f64_at l (8 * c.in_ok-i.i)) c.values_of.ensures
     ∙ value-at b (start_at b a.j) (count_at b a.j) c.in_ok-i.i (place-below _ _ _ _ (sym e)))
     ∙ value_told b a.j a.id e

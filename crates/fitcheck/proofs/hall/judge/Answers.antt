@@ -23,16 +23,13 @@ pub returns-then-is_err : goal.returns-then-is_err
 returns-then-is_err c =
     share_unread (catalogue_of c.args.catalogue.now) c.args.fit.now (refused c.check.result c.check.ensures c.is_err.ensures.value c.if-is_err.true)
 
-pub items-requires : goal.items-requires
-items-requires c = (sound _ (accepted c.check.result c.check.ensures c.is_err.ensures.value c.if-is_err.false)).sized
-
-pub results-requires : goal.results-requires
-results-requires c = (sound _ (accepted c.check.result c.check.ensures c.is_err.ensures.value c.if-is_err.false)).sized
+pub new-layout-requires : goal.new-layout-requires
+new-layout-requires c = (sound _ (accepted c.check.result c.check.ensures c.is_err.ensures.value c.if-is_err.false)).sized
 
 pub returns-then-items-results : goal.returns-then-items-results
 returns-then-items-results c =
     share_unequal (catalogue_of c.args.catalogue.now) c.args.fit.now (accepted c.check.result c.check.ensures c.is_err.ensures.value c.if-is_err.false)
-    (λ q. omega (arith, c.items.ensures, c.results.ensures, c.if-items-results.true, q))
+    (λ q. omega (arith, rw c.new-layout.ensures at c.items.ensures.0, rw c.new-layout.ensures at c.results.ensures.0, c.if-items-results.true, q))
 
 pub new-fit-requires : goal.new-fit-requires
 new-fit-requires c = sound _ (accepted c.check.result c.check.ensures c.is_err.ensures.value c.if-is_err.false)
@@ -41,7 +38,7 @@ pub returns-then-is_empty : goal.returns-then-is_empty
 returns-then-is_empty c =
     share_clear (catalogue_of c.args.catalogue.now) c.args.fit.now (accepted c.check.result c.check.ensures c.is_err.ensures.value c.if-is_err.false)
     (sym (rw (c.new-context.ensures.0, c.new-context.ensures.1, c.new-fit.ensures) at c.is_empty.ensures) ∙ c.if-is_empty.true)
-    (omega (arith, c.items.ensures, c.results.ensures, c.if-items-results.false))
+    (omega (arith, rw c.new-layout.ensures at c.items.ensures.0, rw c.new-layout.ensures at c.results.ensures.0, c.if-items-results.false))
 
 pub returns : goal.returns
 returns c =

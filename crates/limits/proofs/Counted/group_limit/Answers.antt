@@ -22,5 +22,5 @@ returns c =
     let x = c.args.self.now.context.now in
     let r = c.args.row in
     let id = c.in-Some.id in
-    let w = c.report.ensures (group_limit_at r.limit r.lowest id (pairs_in x)) (λ i s h p. search rules) in
-    (group-each (context_in x) (pairs_in x) (row_of r) id (sym c.in-Some.ensures) w.0, w.1)
+    let w = c.report.ensures.wrote (group_limit_at r.limit r.lowest id (pairs_in x)) (λ i s h p. search rules) in
+    (group-each (context_in x) (pairs_in x) (row_of r) id (sym c.in-Some.ensures) w, c.report.ensures.few)

@@ -9,7 +9,8 @@ use lib.ListN.{length, take, drop}
 use mir.ValLaws.{to_z-of_z}
 use mir.Syntax.{w32}
 use Rattle.image.specs.Bytes.{u32_at}
-use Rattle.keys.proofs.Parts.{part_length, place-below, place-alike, sorted_alike}
+use Rattle.image.proofs.Parts.{part_length}
+use Rattle.keys.proofs.Parts.{place-below, place-alike, sorted_alike}
 use Rattle.keys.specs.Keys.{place_of}
 use Rattle.profile.specs.Profile.{group_count, size_of}
 use Rattle.profile.specs.Sound.{Sound}
@@ -28,8 +29,9 @@ module _ (b : List ℕ) {n : ℕ} (e : n ≡ group_count b) where
   searched p = p ∙ ap (λ (n : ℕ). take (4 * n) (drop 4 b)) e
 
   -- what the search says
-  told : {l : List ℕ} → l ≡ take (4 * n) (drop 4 b) → {y z : ℤ} → y ≡ z → {o : Option ℕ} → o ≡ place_of l n y → place_of (groups b) (group_count b) z ≡ o
-  told p q h = sym (h ∙ place-alike _ _ _ _ (searched p) e _ _ q)
+  told : {l k : List ℕ} {m : ℕ} → (k ≡ l) × (m ≡ n) → l ≡ take (4 * n) (drop 4 b) → {y z : ℤ} → y ≡ z → {o : Option ℕ} → o ≡ place_of k m y
+      → place_of (groups b) (group_count b) z ≡ o
+  told f p q h = sym (h ∙ place-alike _ _ _ _ (f.0 ∙ searched p) (f.1 ∙ e) _ _ q)
 
 pub returns-then-n-eq0 : goal.returns-then-n-eq0
 returns-then-n-eq0 c =
@@ -41,8 +43,8 @@ part-groups-requires c =
     let n = c.group_count-n.ensures in
     omega (arith, n, whole c.self.inside.bytes.now n c.self.invariant c.if-n-eq0.false)
 
-pub place_of-requires : goal.place_of-requires
-place_of-requires c =
+pub new-requires : goal.new-requires
+new-requires c =
     let b = c.self.inside.bytes.now in
     let n = c.group_count-n in
     let s = c.self.invariant in (
@@ -64,7 +66,7 @@ within c =
     let b = c.self.inside.bytes.now in
     let n = c.group_count-n.ensures in
     let s = c.self.invariant in
-    let e = told b n c.part-groups.ensures (to_z-of_z w32 c.args.group c.ranges.group) c.in-Some.ensures in
+    let e = told b n c.new.ensures c.part-groups.ensures (to_z-of_z w32 c.args.group c.ranges.group) c.in-Some.ensures in
     (n, place-below _ _ _ _ e, whole b n s c.if-n-eq0.false, s.sized.few)
 
 pub overflow_mul-i : goal.overflow_mul-i
@@ -80,11 +82,11 @@ pub returns-in-Some : goal.returns-in-Some
 returns-in-Some c =
     let b = c.self.inside.bytes.now in
     let i = c.in-Some.i in
-    let e = told b c.group_count-n.ensures c.part-groups.ensures (to_z-of_z w32 c.args.group c.ranges.group) c.in-Some.ensures in
+    let e = told b c.group_count-n.ensures c.new.ensures c.part-groups.ensures (to_z-of_z w32 c.args.group c.ranges.group) c.in-Some.ensures in
     rw (← c.self.view_is) (c.u32_at.ensures ∙ ap (λ (n : ℕ). u32_at b (4 + 4 * n + 4 * i)) c.group_count-n.ensures ∙ sym (points-given b c.args.group i e))
 
 pub returns-in-None : goal.returns-in-None
 returns-in-None c =
     let b = c.self.inside.bytes.now in
-    let e = told b c.group_count-n.ensures c.part-groups.ensures (to_z-of_z w32 c.args.group c.ranges.group) c.in-None.ensures in
+    let e = told b c.group_count-n.ensures c.new.ensures c.part-groups.ensures (to_z-of_z w32 c.args.group c.ranges.group) c.in-None.ensures in
     rw (← c.self.view_is) (sym (points-missing b c.args.group e))

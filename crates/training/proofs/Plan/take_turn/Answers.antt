@@ -30,16 +30,16 @@ module _ (p : Plan) (id : ℤ) (fits : SFits w32 id) (at : ℕ) where
   read = to_z w32 (of_z w32 id)
 
   -- the place parts the ids
-  parted : {ids : List ℕ} → ids ≡ take (4 * p.len) (drop (4 * p.from) p.ids) → Parts ids p.len read at → Parted p.ids p.from p.len id at
-  parted {ids} e v =
-      subst (λ (l : List ℕ). Parts l p.len id at) e (subst (λ (z : ℤ). Parts ids p.len z at) (to_z-of_z w32 id fits) v)
+  parted : {ids keys : List ℕ} {n : ℕ} → ids ≡ take (4 * p.len) (drop (4 * p.from) p.ids) → (keys ≡ ids) × (n ≡ p.len) → Parts keys n read at
+      → Parted p.ids p.from p.len id at
+  parted e k v = rw (← e, ← k.0, ← k.1, ← to_z-of_z w32 id fits) v
 
   -- whether the skill stands there
   told : {t : Bool} → t ≡ stands_at p at read → t ≡ stands_at p at id
   told e = e ∙ ap (stands_at p at) (to_z-of_z w32 id fits)
 
-pub first_from-at-requires : goal.first_from-at-requires
-first_from-at-requires c =
+pub new-requires : goal.new-requires
+new-requires c =
     let p = c.args.self.now in
     let e = c.part-ids.ensures in (
       omega (arith, ap length e, part_length p.ids (4 * p.from) (4 * p.len) (omega (arith, c.requires))),
@@ -51,7 +51,7 @@ returns-then-stands c =
     let a = c.args in
     let p = a.self.now in
     let at = c.first_from-at.result in
-    let parts = parted p a.id c.ranges.id at c.part-ids.ensures c.first_from-at.ensures in
+    let parts = parted p a.id c.ranges.id at c.part-ids.ensures c.new.ensures c.first_from-at.ensures in
     let there = and_true (ltb at p.len) (same (key_at p.ids (p.from + at)) a.id) (sym (told p a.id c.ranges.id at c.stands.ensures) ∙ c.if-stands.true) in
     let inside = ltb-true at p.len there.0 in (
       turn-found p.ids p.levels p.from p.len a.id c.ranges.id.sfits at parts a.wanted a.steps c.portion-given.result
@@ -64,7 +64,7 @@ returns c =
     let a = c.args in
     let p = a.self.now in
     let at = c.first_from-at.result in
-    let parts = parted p a.id c.ranges.id at c.part-ids.ensures c.first_from-at.ensures in
+    let parts = parted p a.id c.ranges.id at c.part-ids.ensures c.new.ensures c.first_from-at.ensures in
     let missing = sym (told p a.id c.ranges.id at c.stands.ensures) ∙ c.if-stands.false in
     let given = c.portion-given-2.result in
     let whole : given ≡ min a.wanted a.steps = omega (arith, c.portion-given-2.ensures) in
@@ -72,7 +72,7 @@ returns c =
       | then-given-ne0 w ↦ (
         rw w.self-is (turn-new p.ids p.levels p.from p.len a.id c.ranges.id.sfits at parts a.wanted a.steps given missing c.requires.2 whole (omega (arith, w.if-given-ne0.true))
             (w.insert.ensures.0 ∙ ap (λ (z : ℤ). raised (plan_of p).ids (plan_of p).levels z given) (to_z-of_z w32 a.id c.ranges.id))),
-        rw w.self-is w.insert.ensures.1,
+        rw w.self-is (let g = w.insert.ensures.1 in record { longer = g.longer; lower = g.lower; near = g.near }),
       )
       | else-given-ne0 w ↦ (
         rw w.self-is (turn-none p.ids p.levels p.from p.len a.id c.ranges.id.sfits at parts a.wanted a.steps given missing c.requires.2 whole (omega (arith, w.if-given-ne0.false))),

@@ -27,10 +27,10 @@ take_turn-left-requires c =
     let a = c.args in
     let g = l.invariant.1 in
     let test = c.loop-i-test.true in (
-      omega (arith, g.near, test, c.requires),
-      omega (arith, g.longer, g.lower, test, c.requires),
+      omega (arith, g.near, test, c.requires, a.walk.few),
+      omega (arith, g.longer, g.lower, test, c.requires, a.walk.few),
       subst Listed (sym (ap (λ (p : Training × ℕ). p.0) l.invariant.0))
-          (turns-listed (held_of a.walk.ids a.walk.levels l.i) (plan_of a.self.now) a.steps c.requires.3),
+          (turns-listed (held_of a.walk.ids a.walk.levels l.i) (plan_of a.self.now) a.steps c.requires.2),
     )
 
 pub loop-i-preserved : goal.loop-i-preserved

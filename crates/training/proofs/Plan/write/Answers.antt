@@ -36,17 +36,17 @@ returns c =
     let head = c.part.ensures ∙ ap (λ l. take 24 (drop 4 l)) same in
     let rest : take (length b - items_at b) (drop (items_at b) b) ≡ drop (items_at b) b = take_all (length b - items_at b) (drop (items_at b) b) (omega (arith, length-drop (items_at b) b)) in
     let tail = c.part-4.ensures
-    ∙ ap₂ (λ (l : List ℕ) (i : ℕ). take (length l - i) (drop i l)) same (c.items_at-at.ensures ∙ ap items_at same)
+    ∙ ap₂ (λ (l : List ℕ) (i : ℕ). take (length l - i) (drop i l)) same (c.items_at-at.ensures ∙ ap items_at c.layout.ensures)
     ∙ rest in
     let first = c.put_u32.ensures in
     let second = c.copy.ensures ∙ ap₂ (λ (l m : List ℕ). put l 4 m) first head in
     let third = c.copy-2.ensures ∙ ap₂ (λ (l m : List ℕ). put l 28 m) second c.part-2.ensures in
     let fourth = c.copy-3.ensures ∙ ap₂ (λ (l m : List ℕ). put l (28 + 4 * n) m) third c.part-3.ensures in
     let l2 = part_length b 4 24 (omega (arith, s)) in
-    let l3 = part_length p.ids (4 * from) (4 * n) (omega (arith, c.requires)) in
-    let l4 = part_length p.levels from n (omega (arith, c.requires)) in
+    let l3 = part_length p.ids (4 * from) (4 * n) (omega (arith, p.within)) in
+    let l4 = part_length p.levels from n (omega (arith, p.within)) in
     c.copy-4.ensures
     ∙ ap₂ (λ (l t : List ℕ). put l (28 + 5 * n) t) fourth tail
     ∙ put_five a.out.now (le 4 n) (take 24 (drop 4 b)) (take (4 * n) (drop (4 * from) p.ids)) (take n (drop from p.levels)) (drop (items_at b) b)
     4 28 (28 + 4 * n) (28 + 5 * n) (length-le 4 n) (omega (arith, l2)) (omega (arith, l3)) (omega (arith, l4))
-    ∙ ap (put a.out.now 0) (image_parts b p.ids p.levels small from n (omega (arith, c.requires)) (omega (arith, c.requires)))
+    ∙ ap (put a.out.now 0) (image_parts b p.ids p.levels small from n (omega (arith, p.within)) (omega (arith, p.within)))

@@ -1,8 +1,0 @@
--- `Catalogue::base_value` meets its contract. The invariant: what is left holds the first match.
-use mathlib.Core.Path.{◌≡◌}
-use Rattle.catalogue.specs.Walks.{span_value}
-use Rattle.catalogue.proofs.Catalogue.base_value.Given as goal
-
-abbrev pub invariant-loop-i : goal.invariant-loop-i
-invariant-loop-i l =
-    span_value l.self-inside.bytes.now l.fn.span.from l.fn.span.to l.attribute ≡ span_value l.self-inside.bytes.now l.i l.fn.span.to l.attribute

@@ -1,0 +1,9 @@
+-- `Catalogue::effect_keys` meets its contract: a sound catalogue's effects are in order.
+use native.Mathlib.Omega.{arith}
+use Rattle.catalogue.proofs.Reading.{effects-sorted}
+use Rattle.catalogue.proofs.Catalogue.effect_keys.Goals as goal
+
+pub new-requires : goal.new-requires
+new-requires c =
+    let e = c.effects-b.ensures in
+    (omega (arith, c.keys_of.ensures.1), rw (c.keys_of.ensures.0, e.0, e.1) (effects-sorted c.self.inside.blocks c.self.invariant))
