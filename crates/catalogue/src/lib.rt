@@ -207,6 +207,20 @@ impl<'a> Catalogue<'a> {
         let _ = &self.blocks;
     }
 
+    // Where its blocks are.
+    pub fn blocks(&self) -> &Blocks<'a>
+        ensures { result.now ≡ self.now }
+    {
+        &self.blocks
+    }
+
+    // The image itself, for who copies parts of it.
+    pub fn bytes(&self) -> &'a [u8]
+        ensures { (result.now ≡ self.now) × Sound self.now }
+    {
+        self.blocks.bytes()
+    }
+
     // ---- the keys of each block: one function for all five would ask for the order of its block, which is what each knows
 
     fn name_keys(&self) -> Keys<'a>
@@ -223,21 +237,21 @@ impl<'a> Catalogue<'a> {
         Keys::new(self.blocks.keys_of(b), b.n)
     }
 
-    fn type_keys(&self) -> Keys<'a>
+    pub fn type_keys(&self) -> Keys<'a>
         ensures { KeysOf self.now (types_at self.now) (type_count self.now) result }
     {
         let b = self.blocks.types();
         Keys::new(self.blocks.keys_of(b), b.n)
     }
 
-    fn link_keys(&self) -> Keys<'a>
+    pub fn link_keys(&self) -> Keys<'a>
         ensures { KeysOf self.now (links_at self.now) (link_count self.now) result }
     {
         let b = self.blocks.links();
         Keys::new(self.blocks.keys_of(b), b.n)
     }
 
-    fn base_keys(&self) -> Keys<'a>
+    pub fn base_keys(&self) -> Keys<'a>
         ensures { KeysOf self.now (bases_at self.now) (base_count self.now) result }
     {
         let b = self.blocks.bases();
@@ -364,12 +378,22 @@ impl<'a> Catalogue<'a> {
         found
     }
 
-    // Where the bases of a type stand.
-    pub fn bases_of(&self, id: i32) -> Span
+    // The place behind the last record of a block that is under the id of the one at a place.
+    pub fn run_end(&self, b: Block, first: usize) -> usize
+        requires { (b.at + 4 * b.n ≤ length self.now) × (first < b.n) }
+        ensures { let id = i32_at self.now (b.at + 4 * first) in
+            Ends (λ k. i32_at self.now (b.at + 4 * k)) b.n id first result }
+    {
+        let bytes = self.blocks.bytes();
+        run_end(bytes, b, first, image::i32_at(bytes, b.at + 4 * first))
+    }
+
+    // Where the bases of a type stand. A guess where they begin saves the search if it is right, and any may be given.
+    pub fn bases_of(&self, id: i32, guess: usize) -> Span
         ensures { SpanOf self.now id result }
     {
         let b = self.blocks.bases();
-        let from = self.base_keys().first_from(id);
+        let from = self.base_keys().first_near(id, guess);
         Span {
             from,
             to: run_end(self.blocks.bytes(), b, from, id),

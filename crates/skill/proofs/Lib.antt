@@ -7,3 +7,6 @@ pub mod Walks
 pub mod Limits
 pub mod Notes
 pub mod Reports
+pub mod Walking
+pub mod Onces
+pub mod Together

@@ -14,7 +14,7 @@ use Rattle.words.proofs.Tables.{length-table}
 use Rattle.catalogue.specs.Catalogue.{Catalogue, catalogue_of}
 use Rattle.fit.specs.Fit.{Result, fit_of, result_at, result_of, result_count}
 use Rattle.fit.proofs.Decoded.{result-some}
-use Rattle.skill.specs.Skill.{Demand, noted, met, walk_within, wants_too_many}
+use Rattle.skill.specs.Skill.{Demand, of_result, noted, met, walk_within, wants_too_many}
 use Rattle.skill.specs.Held.{zip_to, held_at, HoldsWanted}
 use Rattle.skill.specs.declared.walk.Walk.{Walk}
 use Rattle.skill.proofs.Walks.{met-stays, met-longer}
@@ -22,7 +22,7 @@ use Rattle.skill.proofs.Walks.{met-stays, met-longer}
 module _ (c : Catalogue) (r : Result) where
   pub walk_same : (m n : ℕ) → m ≤ n → T (not (wants_too_many m c r)) → walk_within n c r ≡ walk_within m c r
   unfolding walk_within wants_too_many
-  walk_same m n h t = ap noted (met-stays c r m n h (nltb→le m (length (noted (met c r m))) t))
+  walk_same m n h t = ap noted (met-stays c (of_result c r) m n h (nltb→le m (length (noted (met c r m))) t))
 
   pub small-limit : (m n : ℕ) → m ≤ n → wants_too_many m c r ≡ ltb m (length (walk_within n c r))
   unfolding wants_too_many
@@ -30,7 +30,7 @@ module _ (c : Catalogue) (r : Result) where
     where
       go : (b : Bool) → ltb m (length (walk_within m c r)) ≡ b → ltb m (length (walk_within m c r)) ≡ ltb m (length (walk_within n c r))
       go true e =
-          let k = met-longer c r m n h in
+          let k = met-longer c (of_result c r) m n h in
           let l : length (walk_within m c r) ≤ length (walk_within n c r) = unfold walk_within in k in
           e ∙ sym (lt-ltb m (length (walk_within n c r)) (let q = ltb-true m (length (walk_within m c r)) e in omega arith))
       go false e = ap (λ (l : List Demand). ltb m (length l)) (sym (walk_same m n h (subst (λ (b : Bool). T (not b)) (sym e) tt)))

@@ -10,8 +10,7 @@ use Rattle.std.specs.Prelude.{Option, None, Some}
 use lib.ListN.{length}
 use Rattle.words.specs.Words.{given, same}
 use Rattle.catalogue.specs.Catalogue.{Id, Catalogue}
-use Rattle.fit.specs.Fit.{Result}
-use Rattle.skill.specs.Skill.{Demand, of_result, of_skill, note, noted, skill_at, met}
+use Rattle.skill.specs.Skill.{Demand, of_skill, note, noted, skill_at, met_from}
 
 -- ---- one demand noted, and many
 pub note-longer : (ws : List Demand) (d : Demand) → length ws ≤ length (note ws d)
@@ -48,38 +47,38 @@ past_end [] n h = refl
 past_end (w ∷ ws) zero h = absurd (not-suc-le-zero h)
 past_end (w ∷ ws) (suc n) h = past_end ws n (le_of_suc-le-suc h)
 
-module _ (c : Catalogue) (r : Result) where
-  -- before the first step the result's own demands are met
-  pub met-first : of_result c r ≡ met c r 0
-  unfolding met
+module _ (c : Catalogue) (start : List Demand) where
+  -- before the first step nothing else is met
+  pub met-first : start ≡ met_from c start 0
+  unfolding met_from
   met-first = refl
 
   -- a skill of the order is walked
-  pub met_next : (n : ℕ) (t : Id) → skill_at (noted (met c r n)) n ≡ Some t → met c r (n + 1) ≡ met c r n ++ of_skill c t
-  unfolding met given
-  met_next n t e = rw add-one (ap (λ (o : Option Id). met c r n ++ given o [] (of_skill c)) e)
+  pub met_next : (n : ℕ) (t : Id) → skill_at (noted (met_from c start n)) n ≡ Some t → met_from c start (n + 1) ≡ met_from c start n ++ of_skill c t
+  unfolding met_from given
+  met_next n t e = rw add-one (ap (λ (o : Option Id). met_from c start n ++ given o [] (of_skill c)) e)
 
   -- no skill is left to walk
-  met-done : (n : ℕ) → length (noted (met c r n)) ≤ n → met c r (suc n) ≡ met c r n
-  unfolding met given
-  met-done n h = ap (λ (o : Option Id). met c r n ++ given o [] (of_skill c)) (past_end (noted (met c r n)) n h) ∙ append-nil (met c r n)
+  met-done : (n : ℕ) → length (noted (met_from c start n)) ≤ n → met_from c start (suc n) ≡ met_from c start n
+  unfolding met_from given
+  met-done n h = ap (λ (o : Option Id). met_from c start n ++ given o [] (of_skill c)) (past_end (noted (met_from c start n)) n h) ∙ append-nil (met_from c start n)
 
-  stays : (n k : ℕ) → length (noted (met c r n)) ≤ n → met c r (n + k) ≡ met c r n
-  stays n zero h = ap (met c r) (add-zero n)
+  stays : (n k : ℕ) → length (noted (met_from c start n)) ≤ n → met_from c start (n + k) ≡ met_from c start n
+  stays n zero h = ap (met_from c start) (add-zero n)
   stays n (suc k) h =
       let e = stays n k h in
-      let l : length (noted (met c r (n + k))) ≤ n + k = omega (arith, ap (λ (ds : List Demand). length (noted ds)) e) in
-      ap (met c r) (add-suc n k) ∙ met-done (n + k) l ∙ e
+      let l : length (noted (met_from c start (n + k))) ≤ n + k = omega (arith, ap (λ (ds : List Demand). length (noted ds)) e) in
+      ap (met_from c start) (add-suc n k) ∙ met-done (n + k) l ∙ e
 
   -- once the order is walked to its end, further steps meet nothing
-  pub met-stays : (n m : ℕ) → n ≤ m → length (noted (met c r n)) ≤ n → met c r m ≡ met c r n
-  met-stays n m q h = let e : m ≡ n + (m - n) = omega arith in ap (met c r) e ∙ stays n (m - n) h
+  pub met-stays : (n m : ℕ) → n ≤ m → length (noted (met_from c start n)) ≤ n → met_from c start m ≡ met_from c start n
+  met-stays n m q h = let e : m ≡ n + (m - n) = omega arith in ap (met_from c start) e ∙ stays n (m - n) h
 
-  longer : (n k : ℕ) → length (noted (met c r n)) ≤ length (noted (met c r (n + k)))
-  unfolding met
+  longer : (n k : ℕ) → length (noted (met_from c start n)) ≤ length (noted (met_from c start (n + k)))
+  unfolding met_from
   longer n zero = rw add-zero (le_refl _)
-  longer n (suc k) = rw add-suc (le_trans (longer n k) (noted-longer (met c r (n + k)) _))
+  longer n (suc k) = rw add-suc (le_trans (longer n k) (noted-longer (met_from c start (n + k)) _))
 
   -- the order never gets shorter
-  pub met-longer : (n m : ℕ) → n ≤ m → length (noted (met c r n)) ≤ length (noted (met c r m))
+  pub met-longer : (n m : ℕ) → n ≤ m → length (noted (met_from c start n)) ≤ length (noted (met_from c start m))
   met-longer n m q = let e : m ≡ n + (m - n) = omega arith in rw e (longer n (m - n))

@@ -1,13 +1,13 @@
 -- Document 01, "Skill walk": up to 512 skills and levels are held. What the arrays of the code hold, what noting does to them, and what
 -- a walk that has ended says.
-use Rattle.std.specs.Prelude.{ℕ, ◌≤◌, ◌<◌, ◌≡◌, length, get_or, ℤ, pos, Float, Option, None, Some, option_to_list, Result, Ok, IsOk, IsErr, is_err, FitsSigned}
+use Rattle.std.specs.Prelude.{ℕ, ◌≤◌, ◌<◌, ◌≡◌, length, get_or, ℤ, pos, ltb, Float, Option, None, Some, option_to_list, Result, Ok, IsOk, IsErr, is_err, FitsSigned}
 use mir.Syntax.{w32}
 use mathlib.Core.List.{List, foldl}
 use Rattle.words.specs.Words.{each, table}
 use Rattle.numbers.specs.Sizes.{most_wanted}
-use Rattle.catalogue.specs.Catalogue.{Id, catalogue_of}
-use Rattle.fit.specs.Fit.{result_of}
-use Rattle.skill.specs.Skill.{Requirement, Demand, note, wanted_skills, wants_too_many}
+use Rattle.catalogue.specs.Catalogue.{Id, Catalogue, catalogue_of}
+use Rattle.fit.specs.Fit.{Fit, fit_of, result_of, all_results}
+use Rattle.skill.specs.Skill.{Requirement, Demand, note, noted, met_from, of_result, wanted_skills, wants_too_many}
 use Rattle.skill.specs.declared.walk.Walk.{Walk}
 use Rattle.skill.specs.declared.walk.TooMany.{TooMany}
 
@@ -69,6 +69,19 @@ pub record Noted (before : Walk) (id : ℤ) (level : ℕ) (after : Walk) (r : Re
 pub record Notes (before : Walk) (ds : List Demand) (after : Walk) (r : Result (Unit {0}) TooMany) : Type 0 where
   pub holds : IsOk r → walk_of after ≡ foldl note (walk_of before) ds
   pub full : IsErr r → most_wanted < length (foldl note (walk_of before) ds)
+
+-- some demands and all that follows from them, noted: whether those are too many, and what they are where not
+pub record Walks (c : Catalogue) (ds : List Demand) (after : Walk) (r : Result (Unit {0}) TooMany) : Type 0 where
+  pub many : is_err r ≡ ltb most_wanted (length (noted (met_from c ds most_wanted)))
+  pub holds : IsOk r → walk_of after ≡ noted (met_from c ds most_wanted)
+
+-- what all results ask for, and all that follows from it, where one walk has room for it
+abbrev pub all_demands : Catalogue → Fit → List Demand
+all_demands c f = each (all_results f) (of_result c)
+
+pub record HoldsAll (catalogue fit : List ℕ) (r : Result Walk TooMany) : Type 0 where
+  pub holds : (w : Walk) → r ≡ Ok w → walk_of w ≡ noted (met_from (catalogue_of catalogue) (all_demands (catalogue_of catalogue) (fit_of fit)) most_wanted)
+  pub few : (w : Walk) → r ≡ Ok w → w.len ≤ most_wanted
 
 -- a walk that has ended: whether too many skills are wanted, and the wanted ones where not
 pub record HoldsWanted (catalogue fit : List ℕ) (result : ℕ) (r : Result Walk TooMany) : Type 0 where

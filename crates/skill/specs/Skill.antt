@@ -84,10 +84,14 @@ noted ds = foldl note [] ds
 unfoldable pub skill_at : List Demand → ℕ → Option Id
 skill_at ws n = slice_get (map (λ w. w.0) ws) n
 
--- all demands met once the first n skills of the order have been walked
-unfoldable pub met : Catalogue → Result → ℕ → List Demand
-met c r zero = of_result c r
-met c r (suc n) = met c r n ++ given (skill_at (noted (met c r n)) n) [] (of_skill c)
+-- all demands met once the first n skills of the order have been walked, of those that are met before the first
+unfoldable pub met_from : Catalogue → List Demand → ℕ → List Demand
+met_from c ds zero = ds
+met_from c ds (suc n) = met_from c ds n ++ given (skill_at (noted (met_from c ds n)) n) [] (of_skill c)
+
+-- of a result: its own demands are met first
+abbrev pub met : Catalogue → Result → ℕ → List Demand
+met c r n = met_from c (of_result c r) n
 
 -- what is noted within `limit` steps: all wanted skills where `wants_too_many limit` is false, and not to be read where it is true
 unfoldable pub walk_within : ℕ → Catalogue → Result → List Demand

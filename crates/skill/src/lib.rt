@@ -1,9 +1,10 @@
 // The skills that one result demands: validate/skill.rs.
 #![tactic(auto)]
 
+mod ahead;
 mod walk;
 
-ghost use Rattle.std.specs.Prelude.{◌≡◌, ◌+◌, ◌<◌, ◌≤◌, option_to_list, Option, Float};
+ghost use Rattle.std.specs.Prelude.{◌≡◌, ◌+◌, ◌<◌, ◌≤◌, option_to_list, List, Option, Float};
 ghost use Rattle.numbers.specs.Sizes as Sizes;
 ghost use Rattle.numbers.specs.Sizes.{most_wanted};
 ghost use Rattle.catalogue.specs.Catalogue.{Id, catalogue_of};
@@ -11,9 +12,10 @@ ghost use Rattle.fit.specs.Fit.{fit_of, result_count};
 ghost use Rattle.entry.specs.Wrote.{Room, Wrote};
 ghost use Rattle.entry.specs.Emitted.{Emitted};
 ghost use Rattle.skill.specs.Skill as Skill;
-ghost use Rattle.skill.specs.Skill.{requirement_of, required, demand_of, target_of, entry_of, reported};
-ghost use Rattle.skill.specs.Held.{requirements_of, walk_of, Reads, HoldsWanted};
+ghost use Rattle.skill.specs.Skill.{Demand, requirement_of, required, demand_of, noted, target_of, entry_of, reported};
+ghost use Rattle.skill.specs.Held.{requirements_of, walk_of, Reads, Walks, HoldsAll, HoldsWanted};
 
+use ahead::Ahead;
 use catalogue::Catalogue;
 use entry::{Entries, Entry, Rule, Target};
 use fit::Fit;
@@ -67,8 +69,30 @@ fn asked<F: Fn(i32) -> Option<f64>>(look: F, skill: i32, level: i32) -> Option<(
     Some(demand(wanted, look(level)))
 }
 
-// The whole tree of skills depending on skills. The walk goes on while skills are added; a skill is added once, so it ends even where
-// skills point at one another.
+// The whole tree of skills depending on skills, from those that are noted on. The walk goes on while skills are added; a skill is added
+// once, so it ends even where skills point at one another. Inlined, as it was part of `wanted_skills` before it had two callers.
+#[inline(always)]
+fn walk_on(
+    catalogue: &Catalogue,
+    required: &[Option<(i32, i32)>; 6],
+    walk: &mut Walk,
+) -> Result<(), TooMany>
+    requires { requirements_of required.now ≡ Skill.required (catalogue_of catalogue.now) }
+    ensures { (ds : List Demand) → walk_of walk.old ≡ noted ds → Walks (catalogue_of catalogue.now) ds walk.new result }
+{
+    let mut ahead = Ahead::new();
+    let mut next: usize = 0;
+    // a while: the walk grows as it is walked
+    while next < walk.len {
+        let guess = ahead.guess(catalogue, walk, next);
+        let span = catalogue.bases_of(walk.ids[next], guess);
+        walk.note_all(required, |id| catalogue.base_value(span, id))?;
+        next += 1;
+    }
+    Ok(())
+}
+
+// The skills that one result wants.
 pub fn wanted_skills(catalogue: &Catalogue, fit: &Fit, res: usize) -> Result<Walk, TooMany>
     requires { res < result_count fit.now + 2 }
     ensures { HoldsWanted catalogue.now fit.now res result }
@@ -76,13 +100,21 @@ pub fn wanted_skills(catalogue: &Catalogue, fit: &Fit, res: usize) -> Result<Wal
     let required = required_of(catalogue);
     let mut walk = Walk::new();
     walk.note_all(&required, |id| fit.value(res, id))?;
-    let mut next: usize = 0;
-    // a while: the walk grows as it is walked
-    while next < walk.len {
-        let span = catalogue.bases_of(walk.ids[next]);
-        walk.note_all(&required, |id| catalogue.base_value(span, id))?;
-        next += 1;
+    walk_on(catalogue, &required, &mut walk)?;
+    Ok(walk)
+}
+
+// Those that all results want, if a walk has room for them. The levels are the highest of any.
+pub fn wanted_by_all(catalogue: &Catalogue, fit: &Fit) -> Result<Walk, TooMany>
+    ensures { HoldsAll catalogue.now fit.now result }
+{
+    fit.is_sound();
+    let required = required_of(catalogue);
+    let mut walk = Walk::new();
+    for res in 0..fit.result_count() + 2 {
+        walk.note_all(&required, |id| fit.value(res, id))?;
     }
+    walk_on(catalogue, &required, &mut walk)?;
     Ok(walk)
 }
 

@@ -15,7 +15,7 @@ use Rattle.catalogue.specs.Catalogue.{Id, Catalogue}
 use Rattle.catalogue.specs.Lookups.{base_value}
 use Rattle.fit.specs.Lookups.{value}
 use Rattle.fit.specs.Fit.{Result, fit_of, skill_count, skills_at}
-use Rattle.skill.specs.Skill.{Requirement, Demand, demand_of, demands, required, of_result, of_skill, note, noted, skill_at, met, walk_within}
+use Rattle.skill.specs.Skill.{Requirement, Demand, demand_of, demands, required, of_result, of_skill, note, noted, skill_at, met_from, met, walk_within}
 use Rattle.training.specs.Training.{Training, behind, raised}
 use Rattle.training.specs.Turns.{gain, portion, turns}
 
@@ -49,7 +49,7 @@ unfolding demands demand_of
 asked-range c look = all-each (required c) (λ (r : Requirement). all-bind (look r.0) (λ skill. cons (to_signed_in 31 skill) nil))
 
 met-range : (c : Catalogue) (r : Result) (n : ℕ) → All Wanted (met c r n)
-unfolding met of_result of_skill
+unfolding met_from of_result of_skill
 met-range c r zero = asked-range c (value r)
 met-range c r (suc n) = all_join (met-range c r n) (go (skill_at (noted (met c r n)) n))
   where

@@ -13,7 +13,7 @@ returns c =
     let e = c.bases-b.ensures in
     let keys = rw (← c.self.view_is) at c.base_keys.ensures in
     let z = to_z-of_z w32 c.args.id c.ranges.id in
-    run_of b (bases_at b) (base_count b) c.args.id c.ranges.id.sfits c.first_from-from.result
-    (rw (keys.0, keys.1, z) at c.first_from-from.ensures) (bases-sorted b c.self.invariant)
+    run_of b (bases_at b) (base_count b) c.args.id c.ranges.id.sfits c.first_near-from.result
+    (rw (keys.0, keys.1, z) at c.first_near-from.ensures) (bases-sorted b c.self.invariant)
     c.run_end.result (rw (c.bytes.ensures.0, e.0, e.1, z) at c.run_end.ensures)
     )
