@@ -1,0 +1,6 @@
+pub mod Trim
+pub mod Marked
+pub mod Parts
+pub mod Windows
+pub mod Trimmers
+pub mod Kept
