@@ -3,3 +3,4 @@ pub mod Reading
 pub mod HallLaws
 pub mod Widening
 pub mod Training
+pub mod Trimming

@@ -3,3 +3,4 @@ pub mod Hall
 pub mod Standing
 pub mod Widen
 pub mod Train
+pub mod Trim

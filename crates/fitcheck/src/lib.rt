@@ -12,6 +12,7 @@ ghost use Rattle.fitcheck.specs.Calls.{list_call, skill_call};
 ghost use Rattle.fitcheck.specs.Hall.{hall_call, hall_returned};
 ghost use Rattle.fitcheck.specs.Widen.{widen_call};
 ghost use Rattle.fitcheck.specs.Train.{train_call};
+ghost use Rattle.fitcheck.specs.Trim.{trim_call};
 
 use calls::word;
 use catalogue::Catalogue;
@@ -162,9 +163,26 @@ pub fn fit_train(catalogue: &[u8], fit: &[u8], res: u32, steps: u32, out: &mut [
     word(answer_train(catalogue, fit, res, steps, out))
 }
 
-// The number of this set of calls and images, in the symbol's name: a caller written for another set does not link.
-pub fn fit_interface_7() -> u64
-    ensures { result ≡ 7 }
+fn answer_trim(catalogue: &[u8], fit: &[u8], out: &mut [u8]) -> Result<usize, Refusal>
+    ensures { GaveBytes out.old out.new (word_of result) (trim_call catalogue.now fit.now out.old) }
 {
-    7
+    calls::check_images(catalogue, fit)?;
+    let catalogue = Catalogue::new(catalogue);
+    let fit = Fit::new(fit);
+    trim::trim(&catalogue, &fit, out)
+}
+
+// The trimming: the catalogue that keeps of another what one fit touches.
+pub fn fit_trim(catalogue: &[u8], fit: &[u8], out: &mut [u8]) -> u64
+    ensures { let call = trim_call catalogue.now fit.now out.old in
+        (result ≡ output_word call) × (out.new ≡ filled out.old call) }
+{
+    word(answer_trim(catalogue, fit, out))
+}
+
+// The number of this set of calls and images, in the symbol's name: a caller written for another set does not link.
+pub fn fit_interface_8() -> u64
+    ensures { result ≡ 8 }
+{
+    8
 }

@@ -9,6 +9,7 @@ ghost use Rattle.fitcheck.specs.Calls.{list_call, skill_call};
 ghost use Rattle.fitcheck.specs.Hall.{hall_call, hall_returned};
 ghost use Rattle.fitcheck.specs.Widen.{widen_call};
 ghost use Rattle.fitcheck.specs.Train.{train_call};
+ghost use Rattle.fitcheck.specs.Trim.{trim_call};
 
 // The list call.
 #[unsafe(no_mangle)]
@@ -81,10 +82,19 @@ pub extern "C" fn fit_train(
     fitcheck::fit_train(catalogue, fit, res, steps, out)
 }
 
+// The trimming.
+#[unsafe(no_mangle)]
+pub extern "C" fn fit_trim(catalogue: &[u8], fit: &[u8], out: &mut [u8]) -> u64
+    ensures { let call = trim_call catalogue.now fit.now out.old in
+        (result ≡ output_word call) × (out.new ≡ filled out.old call) }
+{
+    fitcheck::fit_trim(catalogue, fit, out)
+}
+
 // The number of this set of calls and images, in the symbol's name.
 #[unsafe(no_mangle)]
-pub extern "C" fn fit_interface_7() -> u64
-    ensures { result ≡ 7 }
+pub extern "C" fn fit_interface_8() -> u64
+    ensures { result ≡ 8 }
 {
-    fitcheck::fit_interface_7()
+    fitcheck::fit_interface_8()
 }

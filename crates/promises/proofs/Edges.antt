@@ -12,6 +12,7 @@ use Rattle.promises.specs.UnknownCases.{UNKNOWNS, CARRIED}
 use Rattle.promises.specs.PageCases.{PAIRS, PAGES}
 use Rattle.promises.specs.ReaderCases.{TOLD, READERS}
 use Rattle.promises.specs.TrainCases.{TRAINED, FULL}
+use Rattle.promises.specs.TrimCases.{TRIMMED}
 use Rattle.promises.specs.Edges.{STARRED, SKILLS, PARTS, EDGES, Agree}
 use Rattle.words.proofs.All.{All, nil, cons}
 use Rattle.promises.proofs.Opened.{opened}
@@ -154,6 +155,10 @@ agree_full : Agree FULL
 unfolding opened
 agree_full = refl
 
+agree_trimmed : Agree TRIMMED
+unfolding opened
+agree_trimmed = refl
+
 join : (a b : List Case) → Agree a → Agree b → Agree (a ++ b)
 join a b p q = map-append (λ (x : Case). outcome_of x.0) a b ∙ ap₂ ◌++◌ p q ∙ sym (map-append (λ (x : Case). x.1) a b)
 
@@ -173,4 +178,4 @@ edges =
     (cons agree_unknowns (cons agree_carried
     (cons agree_pairs (cons agree_limits (cons agree_pages
     (cons agree_told (cons agree_readers
-    (cons agree_trained (cons agree_full nil))))))))))))))))))))))))))))))))))))
+    (cons agree_trained (cons agree_full (cons agree_trimmed nil)))))))))))))))))))))))))))))))))))))

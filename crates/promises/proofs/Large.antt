@@ -14,7 +14,7 @@ use lib.Ieee.{Float}
 use lib.ListN.{length, replicate, length-append, length-replicate, get_or}
 use Rattle.std.specs.Prelude.{slice_get}
 use borrow.Author.Tests.{ne_eqb, lt-ltb, le-ltb}
-use Rattle.words.specs.Words.{◌>>=◌, each, find, given, sum_of, first_of, table_from, table, from, same}
+use Rattle.words.specs.Words.{◌>>=◌, each, find, given, sum_of, any_of, first_of, table_from, table, from, same}
 use Rattle.words.proofs.Tables.{length-table, get_or-table, table_more, map-table}
 use Rattle.words.proofs.Elements.{elem_table}
 use Rattle.image.specs.Bytes.{le, u32_at}
@@ -23,15 +23,16 @@ use Rattle.catalogue.specs.Catalogue.{Id, Base, Catalogue}
 use Rattle.catalogue.specs.Catalogue as Catalogue
 use Rattle.catalogue.specs.Refusals.{bad_length}
 use Rattle.catalogue.specs.Lookups.{base_value}
-use Rattle.fit.specs.Fit.{result_at, all_results, fit_of, skill_count, item_count, result_count, attribute_count, size_of}
+use Rattle.fit.specs.Fit.{Fit, result_at, all_results, fit_of, skill_count, item_count, result_count, attribute_count, size_of}
 use Rattle.fit.specs.Refusals.{bad_size}
-use Rattle.skill.specs.Skill.{Demand, required, demands, of_skill, note, noted, skill_at, met, walk_within, wants_too_many, entry_of, skill_list}
+use Rattle.skill.specs.Skill.{Demand, required, demands, of_skill, note, noted, skill_at, met_from, met, walk_within, wants_too_many, entry_of, skill_list}
 use Rattle.skill.proofs.Limits.{walk_same, small-limit}
 use Rattle.lists.specs.Terms.{Terms, limited, main, skill_limit}
 use Rattle.calls.specs.Answers.{too_short}
-use Rattle.promises.specs.Cases.{base, tree, asks, OverSkills, SkillRefusal, Number, Holds, Expected, outcome_of}
+use Rattle.trim.specs.Trim.{any_too_many}
+use Rattle.promises.specs.Cases.{base, tree, result, asks, OverSkills, SkillRefusal, TrimRefusal, Number, Holds, Expected, outcome_of}
 use Rattle.promises.specs.CallCases.{words}
-use Rattle.promises.specs.RefusalCases.{linked, laden, step, chain, flown, LARGE}
+use Rattle.promises.specs.RefusalCases.{linked, laden, step, chain, flown, crewed, LARGE}
 use Rattle.promises.specs.PageCases.{LIMITS}
 use Rattle.promises.specs.Edges.{Agree}
 use Rattle.promises.proofs.Opened.{opened}
@@ -134,7 +135,7 @@ at_line k =
 -- a step: what the skill at the last place demands
 met-more : (n k : ℕ) → met (chain n) (asks 0 1) k ≡ table (suc k) wanted
     → met (chain n) (asks 0 1) (suc k) ≡ table (suc k) wanted ++ of_skill (chain n) (pos k)
-unfolding met given
+unfolding met_from given
 met-more n k e =
     ap (λ (l : List Demand). l ++ given (skill_at (noted l) k) [] (of_skill (chain n))) e
     ∙ ap (λ (l : List Demand). table (suc k) wanted ++ given (skill_at l k) [] (of_skill (chain n))) (noted-line (suc k))
@@ -227,6 +228,44 @@ by-walk t c buffer ws e =
     ap (noted-refusal t buffer (walk_within 512 c (asks 0 1))) (small-limit c (asks 0 1) (skill_limit t) 512 (omega arith))
     ∙ ap (λ (l : List Demand). noted-refusal t buffer l (ltb (skill_limit t) (length l))) e
 
+-- ---- 9 of a trim
+many-513 : wants_too_many 512 (chain 513) (asks 0 1) ≡ true
+unfolding wants_too_many
+many-513 =
+    let e = ap (λ (l : List Demand). length l) walk-513 ∙ length-table 0 513 wanted in
+    lt-ltb 512 (length (walk_within 512 (chain 513) (asks 0 1))) (omega (arith, e))
+
+few-512 : wants_too_many 512 (chain 512) (asks 0 1) ≡ false
+unfolding wants_too_many
+few-512 =
+    let e = ap (λ (l : List Demand). length l) (walk-to 511 (omega arith)) ∙ length-table 0 512 wanted in
+    le-ltb 512 (length (walk_within 512 (chain 512) (asks 0 1))) (omega (arith, e))
+
+-- what wants nothing
+idle : wants_too_many 512 (chain 513) (result 0 []) ≡ false
+unfolding opened
+idle = refl
+
+by-any : (c : Catalogue) (f : Fit) (b : Bool) → any_too_many c f ≡ b → outcome_of (TrimRefusal c f) ≡ Number (cond b 9 0)
+unfolding outcome_of first_of
+by-any c f b e = ap (λ (x : Bool). Number (cond x 9 0)) e
+
+any-512 : any_too_many (chain 512) (crewed (asks 0 1) (asks 0 1) (asks 0 1 ∷ [])) ≡ false
+unfolding any_too_many any_of
+any-512 = rw few-512
+
+any-ship : any_too_many (chain 513) (crewed (asks 0 1) (result 0 []) []) ≡ true
+unfolding any_too_many any_of
+any-ship = rw many-513
+
+any-character : any_too_many (chain 513) (crewed (result 0 []) (asks 0 1) []) ≡ true
+unfolding any_too_many any_of
+any-character = rw (idle, many-513)
+
+any_last : any_too_many (chain 513) (crewed (result 0 []) (result 0 []) (asks 0 1 ∷ [])) ≡ true
+unfolding any_too_many any_of
+any_last = rw (idle, many-513)
+
 pub agree_large : Agree LARGE
 unfolding opened noted-refusal
 agree_large =
@@ -235,7 +274,11 @@ agree_large =
     (ap₂ ◌∷◌ (by-walk main (chain 513) [] (table 513 wanted) walk-513)
     (ap₂ ◌∷◌ (by-walk main (chain 512) (replicate 12287 7) (table 512 wanted) (walk-to 511 (omega arith)))
     (ap₂ ◌∷◌ (by-walk main (chain 512) (replicate 12288 7) (table 512 wanted) (walk-to 511 (omega arith)))
-    refl))))))
+    (ap₂ ◌∷◌ (by-any (chain 512) (crewed (asks 0 1) (asks 0 1) (asks 0 1 ∷ [])) false any-512)
+    (ap₂ ◌∷◌ (by-any (chain 513) (crewed (asks 0 1) (result 0 []) []) true any-ship)
+    (ap₂ ◌∷◌ (by-any (chain 513) (crewed (result 0 []) (asks 0 1) []) true any-character)
+    (ap₂ ◌∷◌ (by-any (chain 513) (crewed (result 0 []) (result 0 []) (asks 0 1 ∷ [])) true any_last)
+    refl))))))))))
 
 -- on a page, with no room for an entry
 by-limit : (k limit : ℕ) → k < 512

@@ -10,7 +10,6 @@ pub mod Accepted
 pub mod Answering
 pub mod Calls
 pub mod Comparing
-pub mod Walking
 pub mod Refusing
 pub mod Meeting
 pub mod Wanting
@@ -27,6 +26,14 @@ pub mod Haul
 pub mod Hauling
 pub mod Widening
 pub mod Trains
+pub mod Only
+pub mod Sides
+pub mod Cutting
+pub mod Cut
+pub mod Touching
+pub mod Touched
+pub mod Trims
+pub mod Trimmed
 pub mod Trained
 pub mod Edges
 pub mod Deciding

@@ -15,8 +15,9 @@ use Rattle.words.specs.Words.{each, any_of, contains, same, given}
 use Rattle.words.proofs.Steps.{each_step}
 use Rattle.catalogue.specs.Catalogue.{Id, Catalogue}
 use Rattle.fit.specs.Fit.{Result}
-use Rattle.skill.specs.Skill.{Demand, of_result, of_skill, note, noted, skill_at, met, walk_within, wants_too_many}
-use Rattle.promises.specs.Walks.{ids_of, firsts, met_by}
+use Rattle.skill.specs.Skill.{Demand, of_result, of_skill, note, noted, skill_at, met_from, met, walk_within, wants_too_many}
+use Rattle.skill.specs.Wanted.{ids_of}
+use Rattle.promises.specs.Walks.{firsts, met_by}
 use Rattle.promises.proofs.Answering.{elem_at}
 
 -- one more id met
@@ -86,7 +87,7 @@ beyond (x ∷ l) (suc n) e = let h = beyond l n e in omega arith
 module _ (c : Catalogue) (r : Result) where
   -- after n steps, what is met are the demands of the result and of the first n skills
   met-is : (n : ℕ) → met c r n ≡ met_by c r (take n (ids_of (noted (met c r n))))
-  unfolding met met_by given each
+  unfolding met_from met_by given each
   met-is zero = sym (append-nil (of_result c r))
   met-is (suc n) = go (skill_at (noted (met c r n)) n) refl (met-is n)
     where

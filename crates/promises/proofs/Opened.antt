@@ -28,7 +28,7 @@ use Rattle.profile.specs.Profile as Profile
 use Rattle.league.specs.League.{banned_at, banned, cost, points, over_allowance, league}
 use Rattle.lists.specs.Unknown.{unknown_type_at, unknown_types}
 use Rattle.lists.specs.Lists.{on_hull, league_with, whole_with, league_list, whole_list, for_reader, list_for}
-use Rattle.skill.specs.Skill.{required, demand_of, demands, of_result, of_skill, note, noted, skill_at, met, walk_within, wants_too_many, entry_of, skill_list}
+use Rattle.skill.specs.Skill.{required, demand_of, demands, of_result, of_skill, note, noted, skill_at, met_from, walk_within, wants_too_many, entry_of, skill_list}
 use Rattle.calls.specs.Answers.{answer_by, answer, too_short, buffered, returned}
 use Rattle.fitcheck.specs.Calls.{list_call, skill_call}
 use Rattle.fitcheck.specs.Hall.{fit_start, fits, bad_input, fit_refused, is_clear, is_faulted, hall_by, hall_call, hall_returned}
@@ -36,6 +36,8 @@ use Rattle.calls.specs.Output.{output_by, output, filled, output_word, no_room}
 use Rattle.fitcheck.specs.Widen.{widen_call}
 use Rattle.training.specs.Training.{raised, skill_of, lacking, step_by, step, trained_by, too_many_listed, trained_image}
 use Rattle.fitcheck.specs.Train.{train_call}
+use Rattle.trim.specs.Trim.{touched, any_too_many, trimmed, kept_at, copied, kept_block, trimmed_image}
+use Rattle.fitcheck.specs.Trim.{trim_call}
 use Rattle.promises.specs.Before.{too_many_drones, list_before, rust_call}
 use Rattle.promises.specs.Cases.{known, outcome_of}
 
@@ -56,7 +58,7 @@ unfolding fit_of mode_of result_at start_at value amount trained pairs_from pair
 open_fit = tt
 
 open_bytes : Unit {0}
-unfolding u16_at u32_at u64_at signed32 bits32 i32_at f32_at f64_at fields entry_bytes written
+unfolding open_floats u16_at u32_at u64_at signed32 bits32 i32_at f32_at f64_at fields entry_bytes written
 open_bytes = tt
 
 open_bad_fit : Unit {0}
@@ -96,7 +98,7 @@ unfolding in_group group_limit_at group_limit group_limits of_type type_limit_at
 open_limits = tt
 
 open_skills : Unit {0}
-unfolding required demand_of demands of_result of_skill note noted skill_at met walk_within wants_too_many entry_of skill_list
+unfolding required demand_of demands of_result of_skill note noted skill_at met_from walk_within wants_too_many entry_of skill_list
 open_skills = tt
 
 open_calls : Unit {0}
@@ -115,6 +117,10 @@ open_training : Unit {0}
 unfolding raised skill_of lacking step_by step trained_by too_many_listed trained_image train_call
 open_training = tt
 
+open_trimming : Unit {0}
+unfolding touched any_too_many trimmed kept_at copied kept_block trimmed_image trim_call
+open_trimming = tt
+
 open_league : Unit {0}
 unfolding Profile.prices_of Profile.bad_profile Profile.bad_prices Profile.profile_refusals Profile.profile_refusal Profile.points_of
 open_league = tt
@@ -127,6 +133,10 @@ open_rules : Unit {0}
 unfolding open_lists open_kinds open_resources open_slots open_slot_checks open_items open_standup open_limits open_skills
 open_rules = tt
 
+open_outputs : Unit {0}
+unfolding open_widening open_training open_trimming
+open_outputs = tt
+
 unfoldable pub opened : Unit {0}
-unfolding known outcome_of open_floats open_words open_catalogue open_fit open_bytes open_refusals open_rules open_calls open_hall open_widening open_training
+unfolding known outcome_of open_words open_catalogue open_fit open_bytes open_refusals open_rules open_calls open_hall open_outputs
 opened = tt

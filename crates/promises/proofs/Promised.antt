@@ -12,6 +12,8 @@ use Rattle.promises.specs.Hauls.{outside_hold}
 use Rattle.promises.specs.GrownCase.{CATALOGUE, OLD, NEW, RETRAINED, LOADED, BANNING, PRICING, NARROW, WIDER, ROOM}
 use Rattle.promises.specs.TrainCases.{demanding}
 use Rattle.promises.specs.Trains.{train_outcome, list_after, Onward, Copied, PILOT}
+use Rattle.promises.specs.TrimCases.{WHOLE, FLOWN, SMALL}
+use Rattle.promises.specs.Trims.{SameAnswers, Touching, Copy}
 use Rattle.promises.specs.Widens.{written}
 use Rattle.promises.specs.Promises.{list_outcome, skill_outcome, Names, Promises}
 use Rattle.promises.proofs.Calls.{list_answers, skill_answers, list_room, skill_room}
@@ -30,6 +32,9 @@ use Rattle.promises.proofs.Pages.{small_page, small_page_skills, main_page}
 use Rattle.promises.proofs.Widening.{widen_answers, widen_decodes, widen_stands}
 use Rattle.promises.proofs.Trains.{train_answers, train_as_skill, trained-accepts, trained-fit, trained-copies, trained-same, trained-empty, trained-onward, step-none}
 use Rattle.promises.proofs.Trained.{train_example}
+use Rattle.promises.proofs.Trims.{trim_answers, trim_as_list, trim_as_skills, trim_room}
+use Rattle.promises.proofs.Trims.{trim_accepted, trim_decodes, trim_touches, trim_copies, trim_same, trim_twice}
+use Rattle.promises.proofs.Trimmed.{trim_example}
 use Rattle.promises.proofs.Edges.{edges}
 
 names : Names
@@ -81,6 +86,15 @@ promised = record {
   train_steps = trained-onward;
   train_still = step-none;
   train_example = train_example;
+  trim_answers = trim_answers;
+  trim_refused = λ catalogue fit buffer other. (trim_as_list catalogue fit buffer other, trim_as_skills catalogue fit buffer other);
+  trim_room = trim_room;
+  trim_decodes = λ catalogue fit buffer h. (trim_accepted catalogue fit buffer h, trim_decodes catalogue fit buffer h);
+  trim_touches = trim_touches;
+  trim_copies = trim_copies;
+  trim_same = trim_same;
+  trim_twice = trim_twice;
+  trim_example = trim_example;
   names = names;
   edges = edges;
 }
@@ -140,3 +154,16 @@ copies_apply = (promised.train_copies demanding PILOT 2 5 (replicate 105 7) refl
 same-applies : written (train_outcome demanding PILOT 0 3 (replicate 105 7)) ≡ PILOT
 unfolding opened
 same-applies = (promised.train_copies demanding PILOT 0 3 (replicate 105 7) refl).1 train_example.bytes refl
+
+-- P1 as it is promised, of an image
+trim_applies : SameAnswers FLOWN SMALL WHOLE
+unfolding opened
+trim_applies = promised.trim_same WHOLE FLOWN (replicate 400 7) refl
+
+touches-applies : Touching SMALL
+unfolding opened
+touches-applies = promised.trim_touches WHOLE FLOWN (replicate 400 7) refl
+
+kept-applies : Copy SMALL
+unfolding opened
+kept-applies = promised.trim_copies WHOLE FLOWN (replicate 400 7) refl

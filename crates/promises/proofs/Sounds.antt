@@ -43,7 +43,7 @@ use Rattle.league.specs.League.{price_of, banned_at, banned, cost, points, over_
 use Rattle.lists.specs.Terms.{Terms}
 use Rattle.lists.specs.Unknown.{unknown_type_at, unknown_types}
 use Rattle.lists.specs.Lists.{on_hull, league_with, whole_with, whole_list, for_guests, for_reader, list_for}
-use Rattle.skill.specs.Skill.{Demand, required, demand_of, demands, of_result, of_skill, note, noted, met, walk_within, entry_of, skill_list}
+use Rattle.skill.specs.Skill.{Demand, required, demand_of, demands, of_result, of_skill, note, noted, met_from, met, walk_within, entry_of, skill_list}
 use Rattle.promises.specs.Answers.{profile_conditions, None}
 use Rattle.promises.proofs.Conditions.{none_is}
 use Rattle.words.proofs.All.{All, nil, cons, all_join, all-table, all-when, all-unless, all-cond, all-bind, all-each, all-each_of, all-find}
@@ -247,7 +247,7 @@ given-small c Missing = nil
 given-small c (Some t) = demands-small c _
 
 met-small : (c : Catalogue) (r : Result) (n : ℕ) → All Small (met c r n)
-unfolding met of_result
+unfolding met_from of_result
 met-small c r zero = demands-small c _
 met-small c r (suc n) = all_join (met-small c r n) (given-small c _)
 

@@ -53,7 +53,7 @@ use Rattle.promises.proofs.Conditions.{none-parts, prefix_first, front-first, pa
 use Rattle.promises.proofs.Pages.{few-pairs}
 use Rattle.promises.proofs.Calls.{skill_answers}
 use Rattle.promises.proofs.Widening.{fills}
-use Rattle.promises.proofs.Walking.{noted-once}
+use Rattle.skill.proofs.Walking.{noted-once}
 
 abbrev ids_in : List Demand → List Id
 ids_in ws = map (λ w. w.0) ws

@@ -1,13 +1,13 @@
--- The list of wanted skills and the entries made of it, said without the walk. From `Walking`, `Refusing` and `Meeting`.
+-- The list of wanted skills and the entries made of it, said without the walk. From `skill/proofs/Walking`, `Refusing` and `Meeting`.
 use Prim.Native.Nat.{ℕ, ◌≤◌}
 use native.Mathlib.Nat.{le_antisymm}
 use native.Mathlib.Omega.{arith}
-use mathlib.Core.Path.{◌≡◌, refl, sym, ap, ◌∙◌, subst}
+use mathlib.Core.Path.{◌≡◌, sym, ap, ◌∙◌, subst}
 use mathlib.Core.Bool.{Bool, true, false, not}
 use mathlib.Core.List.Memᴰ
 use mathlib.Core.List.{List, [], ◌∷◌, Memᴰ}
 use Rattle.std.specs.Prelude.{Option, Some}
-use mathlib.Core.Logic.{◌⊎◌, ◌↔◌, inl, inr}
+use mathlib.Core.Logic.{◌↔◌}
 use lib.Dec.{T, T_not, ltb, ltb→lt, lt→ltb}
 use lib.ListN.{length, get_or}
 use Rattle.std.specs.Prelude.{slice_get}
@@ -17,14 +17,15 @@ use Rattle.fit.specs.Fit.{Result, Fit, all_results, result_at, fit_of}
 use Rattle.fit.specs.Lookups.{trained}
 use Rattle.entry.specs.declared.Rule.TheVariants.{Skill}
 use Rattle.entry.specs.declared.Entry.{Entry}
-use Rattle.skill.specs.Skill.{Demand, walk_within, wants_too_many, target_of, entry_of, skill_list}
-use Rattle.skill.specs.Wanted.{Wanted, Once, Walked}
+use Rattle.skill.specs.Skill.{Demand, of_result, walk_within, wants_too_many, target_of, entry_of, skill_list}
+use Rattle.skill.specs.Wanted.{ids_of, Wanted, Once, Walked}
+use Rattle.skill.proofs.Walking.{walked, listed-iff_wanted}
+use Rattle.skill.proofs.Onces.{mem_contains, each_from, each-has}
 use Rattle.lists.specs.Terms.{Terms}
 use Rattle.fitcheck.specs.Calls.{skill_call}
 use Rattle.promises.specs.Answers.{outcome, refusal}
-use Rattle.promises.specs.Walks.{Highest, ids_of, WalkOf, MoreWanted, Lacks, SkillsOf}
-use Rattle.promises.proofs.Walking.{walked, listed-iff_wanted}
-use Rattle.promises.proofs.Refusing.{mem_contains, refused-many, answered-few}
+use Rattle.promises.specs.Walks.{Highest, WalkOf, MoreWanted, Lacks, SkillsOf}
+use Rattle.promises.proofs.Refusing.{refused-many, answered-few}
 use Rattle.promises.proofs.Meeting.{walk-order}
 use Rattle.promises.proofs.Answering.{elem_of}
 use Rattle.promises.proofs.Accepted.{asked}
@@ -64,7 +65,7 @@ walk_of limit c r h =
     let w = walked limit c r h in
     record {
       walked = w;
-      wanted = listed-iff_wanted c r (walk_within limit c r) w;
+      wanted = listed-iff_wanted c (of_result c r) (walk_within limit c r) w;
       level = level-is c r (walk_within limit c r) w;
       order = walk-order c r limit h;
     }
@@ -77,22 +78,6 @@ more_wanted limit c r = (refused-many limit c r, λ h. go (wants_too_many limit 
     go false f h = absurd (let k = f tt h.0 h.1 h.2 in let l = h.3 in omega arith)
 
 -- ---- the entries
-module _ {A B : Type 0} where
-  each_from : (l : List A) (f : A → List B) (y : B) → Memᴰ y (each l f) → (x : A) × Memᴰ x l × Memᴰ y (f x)
-  unfolding each
-  each_from [] f y m = absurd (Memᴰ.not-nil m)
-  each_from (x ∷ l) f y m = go (Memᴰ.append_cases (f x) m) (each_from l f y)
-    where
-      go : Memᴰ y (f x) ⊎ Memᴰ y (each l f) → (Memᴰ y (each l f) → (z : A) × Memᴰ z l × Memᴰ y (f z))
-          → (z : A) × Memᴰ z (x ∷ l) × Memᴰ y (f z)
-      go (inl a) k = (x, Memᴰ.head refl, a)
-      go (inr a) k = let h = k a in (h.0, Memᴰ.tail h.1, h.2)
-
-  each-has : (f : A → List B) (y : B) {x : A} {l : List A} → Memᴰ x l → Memᴰ y (f x) → Memᴰ y (each l f)
-  unfolding each
-  each-has f y (Memᴰ.head {xs = xs} e) k = Memᴰ.append_left (each xs f) (subst (λ (z : A). Memᴰ y (f z)) e k)
-  each-has f y (Memᴰ.tail {x = z} m) k = Memᴰ.append_right (f z) (each-has f y m k)
-
 when-from : {A : Type 0} (b : Bool) (e y : A) → Memᴰ y (when b e) → T b × (y ≡ e)
 unfolding when
 when-from true e y m = (tt, Memᴰ.eq_of_singleton m)

@@ -23,6 +23,8 @@ use Rattle.calls.specs.Output.{output_word, filled}
 use Rattle.fitcheck.specs.Widen.{widen_call}
 use Rattle.training.specs.Training.{train_refusals}
 use Rattle.fitcheck.specs.Train.{train_call}
+use Rattle.trim.specs.Trim.{trim_refusals}
+use Rattle.fitcheck.specs.Trim.{trim_call}
 use Rattle.promises.specs.Before.{list_before}
 
 -- ---- a catalogue: types with their groups and categories in the game
@@ -223,6 +225,9 @@ pub data Input : Type 0 where
   -- the first of 8, 9 and 16 that holds, or 0; the training call
   TrainRefusal : Catalogue → Fit → (result : ℕ) → Input
   TrainCall : (catalogue fit : List ℕ) (result steps : ℕ) (buffer : List ℕ) → Input
+  -- 9 of a trim, or 0; the trimming call
+  TrimRefusal : Catalogue → Fit → Input
+  TrimCall : (catalogue fit buffer : List ℕ) → Input
 
 pub data Expected : Type 0 where
   Number : ℕ → Expected
@@ -264,6 +269,8 @@ outcome_of (WidenCall old buffer) = let o = widen_call old buffer in Returns (ou
 outcome_of (TrainRefusal c f n) = Number (first_of (train_refusals c f n))
 outcome_of (TrainCall catalogue fit result steps buffer) =
     let o = train_call catalogue fit result steps buffer in Returns (output_word o) (filled buffer o)
+outcome_of (TrimRefusal c f) = Number (first_of (trim_refusals c f))
+outcome_of (TrimCall catalogue fit buffer) = let o = trim_call catalogue fit buffer in Returns (output_word o) (filled buffer o)
 
 abbrev pub Case : Type 0
 Case = Input × Expected

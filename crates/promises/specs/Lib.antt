@@ -10,6 +10,7 @@ pub mod Halls
 pub mod Widens
 pub mod Hauls
 pub mod Trains
+pub mod Trims
 pub mod Names
 pub mod Edges
 pub mod Cases
@@ -22,3 +23,4 @@ pub mod UnknownCases
 pub mod PageCases
 pub mod ReaderCases
 pub mod TrainCases
+pub mod TrimCases

@@ -1,7 +1,8 @@
 -- Every promise, whole, with no proof in it; `proofs/Promised.antt` has the theorem. The calls are `list_call`, `skill_call`, `hall_call`,
--- `widen_call` and `train_call` of fitcheck/specs, functions of bytes, and the exported functions are proved equal to them: the word by
--- `returned`, `hall_returned`, `output_word`, the buffer by `buffered`, `filled`. Read `Answers`, `Compare`, `GrownCase`, `KeptCases`, `Walks`,
--- `Halls`, `Widens`, `Trains`, `Edges` beside this file, and lists/specs for the list. `Terms` is what a call brings beside images and buffer.
+-- `widen_call`, `train_call` and `trim_call` of fitcheck/specs, functions of bytes, and the exported functions are proved equal to them:
+-- the word by `returned`, `hall_returned`, `output_word`, the buffer by `buffered`, `filled`. Read `Answers`, `Compare`, `GrownCase`,
+-- `KeptCases`, `Walks`, `Halls`, `Widens`, `Trains`, `Trims`, `Edges` beside this file, and lists/specs for the list. `Terms` is what a
+-- call brings beside images and buffer.
 use Rattle.std.specs.Prelude.{ℕ, ◌+◌, ◌*◌, ◌/◌, ◌≤◌, ◌<◌, ◌≡◌, false, not, ◌↔◌, T, leb, eqb, length, get_or}
 use mathlib.Core.List.{List, [], map, Memᴰ}
 use Rattle.std.specs.Float.Ieee.Exact.{HasValue}
@@ -9,6 +10,7 @@ use Rattle.words.specs.Words.{from, only, is_empty}
 use Rattle.image.specs.Bytes.{u8_at}
 use Rattle.floats.specs.Floats.{of_nat}
 use Rattle.catalogue.specs.Catalogue.{Catalogue, catalogue_of}
+use Rattle.catalogue.specs.Refusals.{catalogue_refusal}
 use Rattle.widening.specs.Old.{old_catalogue_of}
 use Rattle.widening.specs.Widen.{widened}
 use Rattle.fit.specs.Fit.{Item, Result, Fit, fit_of}
@@ -21,8 +23,11 @@ use Rattle.lists.specs.Terms.{Terms, read_by, main}
 use Rattle.validate.specs.Validate.{list_of}
 use Rattle.lists.specs.Lists.{league_list, whole_list, for_reader, list_for}
 use Rattle.training.specs.Training.{step, trained_by}
+use Rattle.trim.specs.Trim.{touched, trimmed}
+use Rattle.calls.specs.Output.{Written}
 use Rattle.fitcheck.specs.Calls.{list_call, skill_call}
 use Rattle.fitcheck.specs.Hall.{hall_call, hall_returned}
+use Rattle.fitcheck.specs.Trim.{trim_call}
 use Rattle.promises.specs.Answers.{Outcome, outcome, refusal, count, entries_of, catalogue_conditions, fit_conditions, list_conditions, skill_conditions, None, Answers}
 use Rattle.promises.specs.Before.{list_before, rust_call}
 use Rattle.promises.specs.Compare.{Bytes, Grown, AddedVolumes, Alike, Apart, Kept}
@@ -33,6 +38,7 @@ use Rattle.promises.specs.Walks.{MoreWanted, SkillsOf}
 use Rattle.promises.specs.Halls.{HallAnswers, Judged}
 use Rattle.promises.specs.Widens.{widen_outcome, widen_conditions, Fills, written, Stands}
 use Rattle.promises.specs.Trains.{train_outcome, trained_bytes, train_conditions, missing, list_after, Onward, Copied, TrainExample}
+use Rattle.promises.specs.Trims.{trim_outcome, trimmed_bytes, trim_conditions, SameAnswers, TouchedAlone, CopiedUnder, TrimExample}
 use Rattle.promises.specs.Names.{numbered, name_numbers}
 use Rattle.promises.specs.Edges.{EDGES, Agree}
 
@@ -278,6 +284,54 @@ TrainSteps = (catalogue fit : List ℕ) (result steps : ℕ) (buffer : List ℕ)
 abbrev pub TrainStill : Type 0
 TrainStill = (c : Catalogue) (result : ℕ) (f : Fit) → skill_list c f result ≡ [] → step c result f ≡ f
 
+-- P1. Of any bytes, the trimming call gives the first refusal whose condition holds, 10 being the highest, and no other byte than the
+-- trimmed catalogue's own changes; where no condition holds, it gives the trimmed catalogue.
+abbrev pub TrimAnswers : Type 0
+TrimAnswers = (catalogue fit buffer : List ℕ)
+    → Fills 10 (trim_conditions catalogue fit buffer) (trimmed_bytes catalogue fit) buffer (trim_outcome catalogue fit buffer)
+
+-- 1 to 6 refuse it exactly where they refuse the list call of that fit, and 9 exactly where it refuses the skill call of one of its
+-- results: an officer's on the main page, whatever is lent to any of them.
+abbrev pub TrimRefused : Type 0
+TrimRefused = (catalogue fit buffer other : List ℕ)
+    → ((n : ℕ) → 0 < n → n ≤ 6 → (refusal (trim_outcome catalogue fit buffer) ≡ n) ↔ (refusal (list_outcome main catalogue fit other) ≡ n))
+    × ((refusal (trim_outcome catalogue fit buffer) ≡ 9) ↔ ((result : ℕ) × (refusal (skill_outcome main catalogue fit result other) ≡ 9)))
+
+-- A buffer as long as the catalogue is never too short.
+abbrev pub TrimRoom : Type 0
+TrimRoom = (catalogue fit buffer : List ℕ) → length catalogue ≤ length buffer → refusal (trim_outcome catalogue fit buffer) ≡ 10 → ⊥
+
+-- What it writes is a catalogue that 1 to 3 do not refuse, and decodes to all names and effects and to what stands under the ids that the
+-- fit touches, in its old order.
+abbrev pub TrimDecodes : Type 0
+TrimDecodes = (catalogue fit buffer : List ℕ) → refusal (trim_outcome catalogue fit buffer) ≡ 0
+    → let small = written (trim_outcome catalogue fit buffer) in
+    (catalogue_refusal small ≡ 0) × (catalogue_of small ≡ trimmed (catalogue_of catalogue) (touched (catalogue_of catalogue) (fit_of fit)))
+
+-- So a type, a link or a base is in it exactly where it was in the old one and the fit touches its id: it names that, or a result of it wants
+-- that skill.
+abbrev pub TrimTouches : Type 0
+TrimTouches = (catalogue fit buffer : List ℕ) → refusal (trim_outcome catalogue fit buffer) ≡ 0
+    → TouchedAlone (catalogue_of catalogue) (fit_of fit) (catalogue_of (written (trim_outcome catalogue fit buffer)))
+
+-- What is kept is copied byte for byte: N, E, all names and effects, and the key and the value of each record under those ids, volume bits
+-- under flag 0 and every NaN too.
+abbrev pub TrimCopies : Type 0
+TrimCopies = (catalogue fit buffer : List ℕ) → refusal (trim_outcome catalogue fit buffer) ≡ 0
+    → CopiedUnder catalogue (touched (catalogue_of catalogue) (fit_of fit)) (written (trim_outcome catalogue fit buffer))
+
+-- The list and each skill list of that fit are the same under both catalogues, and so is what refuses them: for every reader, profile,
+-- allowance, limit, result and buffer.
+abbrev pub TrimSame : Type 0
+TrimSame = (catalogue fit buffer : List ℕ) → refusal (trim_outcome catalogue fit buffer) ≡ 0
+    → SameAnswers fit (written (trim_outcome catalogue fit buffer)) catalogue
+
+-- Trimmed a second time by the same fit, it comes out as it is.
+abbrev pub TrimTwice : Type 0
+TrimTwice = (catalogue fit buffer : List ℕ) → refusal (trim_outcome catalogue fit buffer) ≡ 0
+    → let small = written (trim_outcome catalogue fit buffer) in
+    (other : List ℕ) → length small ≤ length other → trim_call small fit other ≡ Written small
+
 -- Every name has its number of document 01, and the tables go through them in order: 0 to 87, none twice and none left out.
 abbrev pub Names : Type 0
 Names = (map (λ n. n.0) numbered ≡ map (λ n. n.1) numbered) × (name_numbers ≡ from 0 88)
@@ -334,5 +388,16 @@ pub record Promises : Type 0 where
   pub train_still : TrainStill
   -- a fit trained step by step; lists that no step leads to, and bytes that no training writes
   pub train_example : TrainExample
+  pub trim_answers : TrimAnswers
+  pub trim_refused : TrimRefused
+  pub trim_room : TrimRoom
+  pub trim_decodes : TrimDecodes
+  pub trim_touches : TrimTouches
+  pub trim_copies : TrimCopies
+  pub trim_same : TrimSame
+  pub trim_twice : TrimTwice
+  -- a catalogue that is trimmed, catalogues under which that fit's calls answer otherwise or that it does not touch alone, and bytes that
+  -- are no copies
+  pub trim_example : TrimExample
   pub names : Names
   pub edges : Edges

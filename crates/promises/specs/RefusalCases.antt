@@ -15,7 +15,8 @@ use Rattle.entry.specs.declared.Rule.TheVariants.{WrongSlot, NotAModule, Skill, 
 use Rattle.entry.specs.Entries.{on_ship, on_item}
 use Rattle.lists.specs.Terms.{main}
 use Rattle.promises.specs.Cases.{attribute, typed, ship, gun, unknown, base, tree, has, result, asks_for, asks, Thing, one, fit}
-use Rattle.promises.specs.Cases.{Fitted, Wants, Skilled, BadLength, BadSize, SkillRefusal, ListCall, SkillCall, HallCall, ListBefore}
+use Rattle.promises.specs.Cases.{Fitted, Wants, Skilled, BadLength, BadSize, SkillRefusal, TrimRefusal}
+use Rattle.promises.specs.Cases.{ListCall, SkillCall, HallCall, ListBefore}
 use Rattle.promises.specs.Cases.{Number, Holds, Entries, Demands, Returns, Case}
 use Rattle.promises.specs.CallCases.{words, bare, small, empty, fitted, types_at, holding, list_refuses, list_gives}
 
@@ -364,6 +365,16 @@ flown r ids = record {
   results = [];
 }
 
+-- what the ship, the character and some results want; there is no item
+abbrev pub crewed : (ship character : Result) → List Result → Fit
+crewed r s rs = record {
+  frame = record { ship = ship; mode_flag = 0; mode = pos 0; ship_result = r; character_result = s };
+  skills = [];
+  levels = [];
+  items = [];
+  results = rs;
+}
+
 abbrev pub LARGE : List Case
 LARGE =
     -- 1: 16,777,216 bytes, and 16,777,220
@@ -376,6 +387,11 @@ LARGE =
     ∷ (SkillRefusal main (chain 513) (flown (asks 0 1) []) 0 [], Number 9)
     ∷ (SkillRefusal main (chain 512) (flown (asks 0 1) []) 0 (replicate 12287 7), Number 10)
     ∷ (SkillRefusal main (chain 512) (flown (asks 0 1) []) 0 (replicate 12288 7), Number 0)
+    -- 9 of a trim: a chain of 512, wanted by all; one of 513, by the ship, by the character, by a result that no item has
+    ∷ (TrimRefusal (chain 512) (crewed (asks 0 1) (asks 0 1) (asks 0 1 ∷ [])), Number 0)
+    ∷ (TrimRefusal (chain 513) (crewed (asks 0 1) (result 0 []) []), Number 9)
+    ∷ (TrimRefusal (chain 513) (crewed (result 0 []) (asks 0 1) []), Number 9)
+    ∷ (TrimRefusal (chain 513) (crewed (result 0 []) (result 0 []) (asks 0 1 ∷ [])), Number 9)
     ∷ []
 
 -- ---- zeros

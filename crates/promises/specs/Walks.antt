@@ -1,6 +1,6 @@
 -- Document 01, "Skill walk": what the list of wanted skills is, said without a walk, and which entries are made of it.
 use Rattle.std.specs.Prelude.{ℕ, ◌≤◌, ◌<◌, ◌≡◌, cond, ◌↔◌, length}
-use mathlib.Core.List.{List, [], ◌∷◌, ◌++◌, foldl, map, Memᴰ}
+use mathlib.Core.List.{List, [], ◌∷◌, ◌++◌, foldl, Memᴰ}
 use Rattle.std.specs.Prelude.{Some}
 use Rattle.words.specs.Words.{each, contains}
 use Rattle.catalogue.specs.Catalogue.{Id, Catalogue}
@@ -9,16 +9,12 @@ use Rattle.fit.specs.Lookups.{trained}
 use Rattle.entry.specs.declared.Rule.TheVariants.{Skill}
 use Rattle.entry.specs.declared.Entry.{Entry}
 use Rattle.skill.specs.Skill.{Demand, of_result, of_skill, wanted_skills, target_of, skill_list}
-use Rattle.skill.specs.Wanted.{Wanted, Counts, Once, Walked}
+use Rattle.skill.specs.Wanted.{ids_of, Wanted, Counts, Once, Walked}
 
 -- the highest level that the result or a wanted skill demands of a skill
 pub record Highest (c : Catalogue) (r : Result) (s : Id) (l : ℕ) : Type 0 where
   pub demanded : Counts c r s l
   pub most : (m : ℕ) → Counts c r s m → m ≤ l
-
--- the skills of some demands
-abbrev pub ids_of : List Demand → List Id
-ids_of ds = map (λ d. d.0) ds
 
 -- each id once, in the order in which they are first met
 unfoldable pub firsts : List Id → List Id

@@ -1,2 +1,3 @@
 -- What contracts leave is what the promises speak of.
 pub mod Left
+pub mod Trims
