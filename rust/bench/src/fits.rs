@@ -319,6 +319,42 @@ pub fn at_chain() -> Fit {
     }
 }
 
+/// The same, whose character demands another skill: together they want more than one
+/// walk holds.
+pub fn beside_chain() -> Fit {
+    let character = Outcome {
+        attributes: rows(vec![(REQUIRED, 1.0), (REQUIRED + 1, 5.0)]),
+        ..at_chain().ship
+    };
+    Fit {
+        character,
+        ..at_chain()
+    }
+}
+
+/// A fit of as many results as there may be, each of which demands the skill of
+/// `world::heavy`, and so many others that no other result demands.
+pub fn all_at_one_skill(others: usize) -> Fit {
+    let demanding = |number: usize| {
+        let own = (0..others).map(|row| (1_000_000 + others * number + row) as f64);
+        let skills = [3_300.0].into_iter().chain(own).enumerate();
+        let demands = skills.flat_map(|(row, skill)| {
+            let name = REQUIRED + 2 * row;
+            [(name, skill), (name + 1, 5.0)]
+        });
+        Outcome {
+            attributes: rows(demands.collect()),
+            ..at_chain().ship
+        }
+    };
+    Fit {
+        ship: demanding(0),
+        character: demanding(1),
+        results: (2..258).map(demanding).collect(),
+        ..at_chain()
+    }
+}
+
 /// A fit whose ship demands the first skill of `world::falling_chain(512, _)`, and
 /// that lists as many skills with higher ids: whatever is put in stands before all.
 pub fn at_falling_chain() -> Fit {

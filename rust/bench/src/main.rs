@@ -18,10 +18,11 @@ const USAGE: &str = "\
 bench              all tables
 bench --svg FILE   and both curves of growth as a picture
 bench --lists      the tables of list calls and halls alone
+bench --trims      the table of trims alone
 bench --call CASE TIMES
                    the library's call of case 1 (one pair), a, b, c, C (full-size),
-                   w (worst pairs), d, D (small fits), h, H (halls of clear fits), e, f, g
-                   or l alone, for a profiler
+                   w (worst pairs), d, D (small fits), h, H (halls of clear fits), e, f, g, l
+                   or m alone, for a profiler
 ";
 
 /// How many fits of one shape take turns.
@@ -46,6 +47,10 @@ fn main() -> ExitCode {
             let [small, .., full] = PARTS.map(|part| Catalogue::new(&world::catalogue(part)));
             lists(&small, &full);
             hall(&small, &full);
+        }
+        ["--trims"] => {
+            let [small, .., full] = PARTS.map(|part| Catalogue::new(&world::catalogue(part)));
+            trims(&small, &full);
         }
         ["--call", case, times] => match times.parse() {
             Ok(times) if call(case, times) => {}
@@ -97,6 +102,7 @@ fn everything(picture: Option<&str>) {
     hall(small, full);
     widen();
     trainings(small, full);
+    trims(small, full);
     let by_pairs = grown_pairs(small);
     let by_part = grown_catalogue(&catalogues);
     if let Some(file) = picture {
@@ -307,6 +313,49 @@ fn trainings(small: &Catalogue, full: &Catalogue) {
     println!();
 }
 
+/// A phone page's catalogue: one walk for all results, or R + 2 where they want over
+/// 512 skills together, for each window of marks, once more where there are two; and
+/// two passes over what is marked.
+fn trims(small: &Catalogue, full: &Catalogue) {
+    println!("## (m) Trimmed catalogues, µs\n");
+    report::trim_head();
+    let realistic = of_shape(fits::REALISTIC, FITS);
+    let largest = of_shape(fits::LARGEST, FITS);
+    for (title, catalogue, fits, has_target) in [
+        ("realistic fit, small catalogue", small, &realistic, false),
+        ("realistic fit, full-size catalogue", full, &realistic, true),
+        ("256 pairs, full-size catalogue", full, &largest, false),
+    ] {
+        let row = subject::trim(catalogue, fits);
+        report::trim_row(title, fits.len(), &row, has_target);
+    }
+    println!();
+    let [together, apart] = [0, 2].map(|others| Fit::new(&fits::all_at_one_skill(others)));
+    let [heavy, heaviest] = [world::heavy(), world::heaviest()];
+    let [heavy, heaviest] = [heavy, heaviest].map(|catalogue| Catalogue::new(&catalogue));
+    for (title, catalogue, fit) in [
+        (
+            "One skill of 1,000,000 base values, wanted by 258 results",
+            &heavy,
+            &together,
+        ),
+        (
+            "The same, of results that want 517 skills together",
+            &heavy,
+            &apart,
+        ),
+        (
+            "One of 838,000, of such results, over two windows of marks",
+            &heaviest,
+            &apart,
+        ),
+    ] {
+        let row = subject::worst_trim(catalogue, fit);
+        report::worst_trim_row(title, 258, &row);
+    }
+    println!();
+}
+
 fn grown_pairs(small: &Catalogue) -> Vec<List> {
     println!("## Growth with the pairs, small catalogue, µs\n");
     report::growth_head("pairs");
@@ -440,6 +489,15 @@ fn call(case: &str, times: usize) -> bool {
             for _ in 0..times {
                 let catalogue = black_box(&catalogue);
                 black_box(library.train(catalogue, &fit, MODULE, u32::MAX, &mut new));
+            }
+            return true;
+        }
+        "m" => {
+            let catalogue = world::catalogue(FULL).image();
+            let fit = fits::fit(fits::REALISTIC, 0).image();
+            let mut new = vec![0; catalogue.len()];
+            for _ in 0..times {
+                black_box(library.trim(black_box(&catalogue), &fit, &mut new));
             }
             return true;
         }

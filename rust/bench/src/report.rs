@@ -1,6 +1,6 @@
 //! The figures as Markdown tables.
 
-use crate::subject::{Hall, List, Skill, Train, Widen};
+use crate::subject::{Hall, List, Skill, Train, Trim, Widen, WorstTrim};
 
 /// Nanoseconds in microseconds.
 pub fn micros(nanos: f64) -> String {
@@ -232,6 +232,45 @@ pub fn train_row(title: &str, fits: usize, row: &Train) {
         f64::from(row.missing) / fits as f64,
         micros(row.skill),
         micros(row.copy),
+    );
+}
+
+/// What a trim may cost beside the list call of the same fit.
+const TRIMMING: f64 = 2.0;
+
+pub fn trim_head() {
+    println!(
+        "| | bytes before | after | trim | trimmed again | list \
+         | trim ÷ list, target {TRIMMING} at full size |"
+    );
+    println!("|---|---|---|---|---|---|---|");
+}
+
+pub fn trim_row(title: &str, fits: usize, row: &Trim, has_target: bool) {
+    let ratio = row.trim / row.list;
+    let shown = match (has_target, ratio <= TRIMMING) {
+        (false, _) => "",
+        (true, true) => " met",
+        (true, false) => " missed",
+    };
+    println!(
+        "| {title} | {} | {} | {} | {} | {} | {ratio:.2}{shown} |",
+        row.whole,
+        row.small / fits,
+        micros(row.trim),
+        micros(row.again),
+        micros(row.list),
+    );
+}
+
+pub fn worst_trim_row(title: &str, results: usize, row: &WorstTrim) {
+    println!(
+        "{title}: {} bytes, {} after; {} ms, {:.2} times {results} skill calls of {} ms each.",
+        row.whole,
+        row.small,
+        micros(row.trim / 1e3),
+        row.trim / (results as f64 * row.skill),
+        micros(row.skill / 1e3),
     );
 }
 

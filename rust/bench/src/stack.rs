@@ -29,16 +29,18 @@ pub enum Call {
     Hall,
     Widen,
     Train,
+    Trim,
 }
 
 impl Call {
-    pub const ALL: [Call; 6] = [
+    pub const ALL: [Call; 7] = [
         Call::Nothing,
         Call::List,
         Call::Skill,
         Call::Hall,
         Call::Widen,
         Call::Train,
+        Call::Trim,
     ];
 
     pub fn name(self) -> &'static str {
@@ -49,12 +51,13 @@ impl Call {
             Call::Hall => "hall",
             Call::Widen => "widen",
             Call::Train => "train",
+            Call::Trim => "trim",
         }
     }
 }
 
-/// A call with its input: the largest fit, and for the skills and the training a
-/// chain of 512.
+/// A call with its input: the largest fit, and for the skills, the training and the
+/// trim a chain of 512; the trim has one skill more, so that it walks twice.
 pub struct Prepared {
     call: Call,
     catalogue: Vec<u8>,
@@ -94,6 +97,11 @@ impl Prepared {
                 let room = fit.image.len() + subject::TRAINED;
                 (world::chain(512, 2), fit.image, room)
             }
+            Call::Trim => {
+                let catalogue = world::far_chain(512);
+                let room = catalogue.image().len();
+                (catalogue, Fit::new(&fits::beside_chain()).image, room)
+            }
             Call::Nothing => (Default::default(), Vec::new(), 0),
         };
         Prepared {
@@ -114,6 +122,7 @@ impl Prepared {
             Call::Hall => library.hall(catalogue, input),
             Call::Widen => library.widen(input, &mut self.buffer),
             Call::Train => library.train(catalogue, input, 0, u32::MAX, &mut self.buffer),
+            Call::Trim => library.trim(catalogue, input, &mut self.buffer),
             Call::Nothing => 0,
         };
         assert_eq!(word >> 32, 0, "the call is answered");

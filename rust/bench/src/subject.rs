@@ -13,7 +13,7 @@ use original::{Info, ItemResult, Rule, Run, Target, Violation};
 
 use crate::scan;
 use crate::tables::{HashedTables, SortedTables};
-use crate::timing::medians;
+use crate::timing::{medians, once};
 
 /// A buffer for any list, and one for the skills of any result: the calls
 /// write into these in one pass, and count before they write into shorter ones.
@@ -159,6 +159,27 @@ pub struct Train {
     pub skill: f64,
     /// A copy of the fit.
     pub copy: f64,
+}
+
+/// What trimming a catalogue takes, and what it is held against.
+pub struct Trim {
+    /// Bytes of the catalogue, and of those that are left for each fit, together.
+    pub whole: usize,
+    pub small: usize,
+    pub trim: f64,
+    /// The same of a catalogue that is trimmed already.
+    pub again: f64,
+    /// The list call of the same fit.
+    pub list: f64,
+}
+
+/// The same once, where it takes seconds, beside one of the skill calls whose walks
+/// it makes.
+pub struct WorstTrim {
+    pub whole: usize,
+    pub small: usize,
+    pub trim: f64,
+    pub skill: f64,
 }
 
 /// Goes through the fits in turn, so that no branch of either side learns one
@@ -706,6 +727,72 @@ pub fn agreed_trained(
     );
     trained.truncate(word as usize);
     trained
+}
+
+/// Times the trim to each of the fits in turn.
+pub fn trim(catalogue: &Catalogue, fits: &[Fit]) -> Trim {
+    let library = library();
+    let image = &catalogue.image;
+    let trimmed = fits.iter().map(|fit| agreed_trimmed(&*library, image, fit));
+    let trimmed: Vec<Vec<u8>> = trimmed.collect();
+    let [mut new, mut newer] = std::array::from_fn(|_| vec![0; image.len()]);
+    let mut listed = vec![0; ANY_LIST];
+    let [mut t0, mut t1, mut t2] = std::array::from_fn(|_| Turns::new(fits));
+    let [trim, again, list] = medians(
+        ROUNDS,
+        [
+            &mut || {
+                let fit = &t0.next().1.image;
+                black_box(library.trim(black_box(image), fit, &mut new));
+            },
+            &mut || {
+                let (number, fit) = t1.next();
+                let small = black_box(&trimmed[number]);
+                black_box(library.trim(small, &fit.image, &mut newer));
+            },
+            &mut || {
+                let fit = &t2.next().1.image;
+                black_box(library.list(black_box(image), fit, NO_LEAGUE, &mut listed));
+            },
+        ],
+    );
+    Trim {
+        whole: image.len(),
+        small: trimmed.iter().map(Vec::len).sum(),
+        trim,
+        again,
+        list,
+    }
+}
+
+/// Times one trim, and the skill call of the ship.
+pub fn worst_trim(catalogue: &Catalogue, fit: &Fit) -> WorstTrim {
+    let library = library();
+    let image = &catalogue.image;
+    let small = agreed_trimmed(&*library, image, fit);
+    let (mut new, mut listed) = (vec![0; image.len()], vec![0; ANY_SKILLS]);
+    WorstTrim {
+        whole: image.len(),
+        small: small.len(),
+        trim: once(|| {
+            black_box(library.trim(black_box(image), &fit.image, &mut new));
+        }),
+        skill: once(|| {
+            black_box(library.skill(black_box(image), &fit.image, 0, NO_LEAGUE, &mut listed));
+        }),
+    }
+}
+
+/// The trimmed catalogue, byte by byte the same from the library and from
+/// document 02 in plain code.
+pub fn agreed_trimmed(library: &dyn Checker, catalogue: &[u8], fit: &Fit) -> Vec<u8> {
+    let expected = reference::trim(catalogue, &fit.image).expect("the trim is answered");
+    let mut new = vec![0; catalogue.len()];
+    let word = library.trim(catalogue, &fit.image, &mut new);
+    assert_eq!(word, expected.len() as u64, "its length");
+    new.truncate(expected.len());
+    assert!(new == expected, "bytes of the library and of document 02");
+    new
 }
 
 /// A hall input: the number of fits, their lengths, the fits end to end.

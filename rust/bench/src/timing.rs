@@ -22,6 +22,13 @@ pub fn medians<const N: usize>(rounds: usize, mut tasks: [&mut dyn FnMut(); N]) 
     samples.map(median)
 }
 
+/// Nanoseconds of one call that takes seconds, made once.
+pub fn once(mut task: impl FnMut()) -> f64 {
+    let start = clock::now();
+    task();
+    (clock::now() - start).as_nanos() as f64
+}
+
 fn sample(task: &mut dyn FnMut(), calls: u32) -> Duration {
     // As many calls before the clock starts, and no fewer than two: the caches hold
     // this task's data, as they would in a run of such calls, and none of the task

@@ -289,6 +289,47 @@ fn linked(length: usize, width: usize, skill: impl Fn(usize) -> i32) -> Catalogu
     }
 }
 
+/// A catalogue of one hull and one skill that has a million base values and demands
+/// nothing, so that a walk looks at all of them.
+pub fn heavy() -> Catalogue {
+    let mut catalogue = chain(1, 2);
+    let row = catalogue.bases[0];
+    let others = (0..1_000_000).map(|number| Base {
+        attribute: 10_000 + number,
+        ..row
+    });
+    catalogue.bases = others.collect();
+    catalogue
+}
+
+/// The same over two windows of marks: links stand before the skill's base values,
+/// others behind them, and so what is wanted is walked four times, twice for counting
+/// and twice for copying. As long as a catalogue may be.
+pub fn heaviest() -> Catalogue {
+    let mut catalogue = heavy();
+    let row = catalogue.bases[0];
+    catalogue.bases.truncate(838_000);
+    let behind = (1..=102_000).map(|number| Base {
+        type_id: row.type_id + number,
+        ..row
+    });
+    catalogue.bases.extend(behind);
+    catalogue.links = (0..210_000).map(unmarked).collect();
+    catalogue
+}
+
+/// A chain of so many skills in the second window of marks.
+pub fn far_chain(length: usize) -> Catalogue {
+    let mut catalogue = chain(length, 2);
+    catalogue.links = (0..1_048_577).map(unmarked).collect();
+    catalogue
+}
+
+/// A link of an effect that marks nothing.
+fn unmarked(type_id: i32) -> Link {
+    Link { type_id, effect: 0 }
+}
+
 #[cfg(test)]
 mod tests {
     use super::*;

@@ -2,7 +2,8 @@
 
 use bench::fits::{self, LARGEST, REALISTIC};
 use bench::subject::{
-    self, Catalogue, Fit, agreed_hall, agreed_list, agreed_skills, agreed_trained, agreed_widened,
+    self, Catalogue, Fit, agreed_hall, agreed_list, agreed_skills, agreed_trained, agreed_trimmed,
+    agreed_widened,
 };
 use bench::world::{self, SMALL};
 use compare::checker::{Checker, Terms};
@@ -62,8 +63,22 @@ fn trained_fits_agree_byte_by_byte() {
     agreed_trained(&*library, &small, &realistic, 2, 3);
 }
 
-/// A library whose second entry names another pair, or whose widened catalogue
-/// or trained fit has another byte.
+#[test]
+fn trimmed_catalogues_agree_byte_by_byte() {
+    let library = subject::library();
+    let chain = world::chain(512, 2).image();
+    let demanding = Fit::new(&fits::at_chain());
+    assert!(agreed_trimmed(&*library, &chain, &demanding) == chain);
+
+    let small = world::catalogue(SMALL).image();
+    let realistic = Fit::new(&fits::fit(REALISTIC, 0));
+    let left = agreed_trimmed(&*library, &small, &realistic);
+    assert!(left.len() < small.len());
+    assert!(agreed_trimmed(&*library, &left, &realistic) == left);
+}
+
+/// A library whose second entry names another pair, or whose widened catalogue,
+/// trained fit or trimmed catalogue has another byte.
 struct OneByteOff;
 
 impl Checker for OneByteOff {
@@ -92,6 +107,12 @@ impl Checker for OneByteOff {
         out[28] ^= 1;
         word
     }
+
+    fn trim(&self, catalogue: &[u8], fit: &[u8], out: &mut [u8]) -> u64 {
+        let word = subject::library().trim(catalogue, fit, out);
+        out[28] ^= 1;
+        word
+    }
 }
 
 #[test]
@@ -114,4 +135,12 @@ fn one_byte_of_a_trained_fit_that_differs_stops_it_as_well() {
     let catalogue = Catalogue::new(&world::catalogue(SMALL));
     let fit = Fit::new(&fits::fit(REALISTIC, 0));
     agreed_trained(&OneByteOff, &catalogue, &fit, 2, 1);
+}
+
+#[test]
+#[should_panic(expected = "bytes of the library and of document 02")]
+fn one_byte_of_a_trimmed_catalogue_that_differs_stops_it_again() {
+    let catalogue = world::catalogue(SMALL).image();
+    let fit = Fit::new(&fits::fit(REALISTIC, 0));
+    agreed_trimmed(&OneByteOff, &catalogue, &fit);
 }

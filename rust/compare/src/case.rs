@@ -12,7 +12,7 @@ pub struct Case {
     /// Where it comes from, in a few words.
     pub title: String,
     pub catalogue: Catalogue,
-    /// The list, skill and training calls take the first; the hall call takes all.
+    /// The hall call takes all; the others take the first.
     pub fits: Vec<Fit>,
     /// What is done to the hall input's own bytes.
     pub frame: Damage,
@@ -74,6 +74,11 @@ pub enum Ask {
     /// The skills of the result after so many steps and after one more: what is
     /// promised of them.
     Trained(u32, Steps),
+    /// The catalogue trimmed to what the first fit touches.
+    Trim(Room),
+    /// The lists and skills of the first fit under the trimmed catalogue beside
+    /// those under the whole one, and the trimmed one trimmed again.
+    Trimmed,
 }
 
 /// How many steps a training makes.

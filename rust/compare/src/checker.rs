@@ -25,6 +25,10 @@ pub trait Checker: Sync {
     /// The fit that so many steps of training for one result lead to, written
     /// from byte 0 of `out`; its bytes are counted.
     fn train(&self, catalogue: &[u8], fit: &[u8], result: u32, steps: u32, out: &mut [u8]) -> u64;
+
+    /// The catalogue that a fit touches, written from byte 0 of `out`; its bytes
+    /// are counted.
+    fn trim(&self, catalogue: &[u8], fit: &[u8], out: &mut [u8]) -> u64;
 }
 
 /// What a list or skill call brings beside its images and its buffer.

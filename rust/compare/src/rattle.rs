@@ -85,5 +85,9 @@ mod linked {
         ) -> u64 {
             exported::train(catalogue, fit, result, steps, out)
         }
+
+        fn trim(&self, catalogue: &[u8], fit: &[u8], out: &mut [u8]) -> u64 {
+            exported::trim(catalogue, fit, out)
+        }
     }
 }

@@ -70,6 +70,7 @@ impl Record {
             Ask::RetrainedList(_) | Ask::RetrainedSkill(..) => return None,
             // A record has one number beside its images, and no place for steps.
             Ask::Train(..) | Ask::Trained(..) => return None,
+            Ask::Trim(_) | Ask::Trimmed => return None,
         };
         let catalogue = match ask {
             Ask::Widen(_) => case.catalogue.old_image(),

@@ -36,6 +36,11 @@ const SMALL_PROJECTILE_TURRET: i32 = 3302;
 const MINMATAR_FRIGATE: i32 = 3329;
 const HULL_UPGRADES: i32 = 3394;
 
+// What none of the fits names: another ship, and a module with its skill.
+const SLASHER: i32 = 585;
+const SHIELD_EXTENDER: i32 = 377;
+const SHIELD_UPGRADES: i32 = 3425;
+
 // Attribute ids of the type data.
 const POWER_OUTPUT: i32 = 11;
 const LOW_SLOTS: i32 = 12;
@@ -82,6 +87,8 @@ fn catalogue() -> Result<Vec<u8>, BuildError> {
     // Type, group, category, volume.
     catalogue
         .type_info(RIFTER, 25, 6, Some(27_289.0))
+        .type_info(SLASHER, 25, 6, Some(17_400.0))
+        .type_info(SHIELD_EXTENDER, 38, 7, Some(5.0))
         .type_info(AUTOCANNON, 55, 7, Some(5.0))
         .type_info(DAMAGE_CONTROL, 60, 7, Some(5.0));
     for skill in [
@@ -96,6 +103,9 @@ fn catalogue() -> Result<Vec<u8>, BuildError> {
         .link(AUTOCANNON, 12)
         .link(AUTOCANNON, 42)
         .link(DAMAGE_CONTROL, 11)
+        .link(SHIELD_EXTENDER, 13)
+        .base(SHIELD_EXTENDER, REQUIRED_SKILL, SHIELD_UPGRADES.into())
+        .base(SHIELD_EXTENDER, REQUIRED_LEVEL, 1.0)
         // One skill asks for another.
         .base(SMALL_PROJECTILE_TURRET, REQUIRED_SKILL, GUNNERY.into())
         .base(SMALL_PROJECTILE_TURRET, REQUIRED_LEVEL, 1.0);

@@ -111,9 +111,21 @@ uint64_t fit_train(const uint8_t *catalogue, size_t catalogue_length,
                    uint32_t result, uint32_t steps,
                    uint8_t *out, size_t out_length);
 
+/* The catalogue that one fit touches, for a page that fetches no more: all names and
+ * effects, the types of the ship, the mode, the listed skills and the items, every
+ * skill that a result wants, and all links and bases under those ids in their old
+ * order. Its bytes stand from the beginning of `out`, and the count is how many they
+ * are, never more than the catalogue's own. fit_list and fit_skill of this fit give
+ * the same under it as under the whole one; of another fit they may not. Refused by
+ * 1 to 6, by 9 where any result wants more than FITCHECK_MOST_SKILLS skills, and by
+ * 10. It names no reader. */
+uint64_t fit_trim(const uint8_t *catalogue, size_t catalogue_length,
+                  const uint8_t *fit, size_t fit_length,
+                  uint8_t *out, size_t out_length);
+
 /* The number of this set of calls, images and rules, which its name has too: a
  * library of another set does not link with a program that asks for this. */
-uint64_t fit_interface_7(void);
+uint64_t fit_interface_8(void);
 
 #ifdef __cplusplus
 }

@@ -12,7 +12,7 @@ unsafe extern "C" {
     // It is raised here, in include/fitcheck.h for C, and in the Rattle sources,
     // crates/fitcheck_c/src/lib.rt and crates/fitcheck/src/lib.rt, at the same
     // time.
-    #[link_name = "fit_interface_7"]
+    #[link_name = "fit_interface_8"]
     fn fit_interface() -> u64;
 
     fn fit_list(
@@ -59,6 +59,15 @@ unsafe extern "C" {
         fit_length: usize,
         result: u32,
         steps: u32,
+        out: *mut u8,
+        out_length: usize,
+    ) -> u64;
+
+    fn fit_trim(
+        catalogue: *const u8,
+        catalogue_length: usize,
+        fit: *const u8,
+        fit_length: usize,
         out: *mut u8,
         out_length: usize,
     ) -> u64;
@@ -175,6 +184,22 @@ pub fn train(catalogue: &[u8], fit: &[u8], result: u32, steps: u32, out: &mut [u
             fit.len(),
             result,
             steps,
+            out.as_mut_ptr(),
+            out.len(),
+        )
+    }
+}
+
+/// The trim of a catalogue to what a fit touches; returns its word.
+pub fn trim(catalogue: &[u8], fit: &[u8], out: &mut [u8]) -> u64 {
+    linked();
+    // SAFETY: as in `list`.
+    unsafe {
+        fit_trim(
+            catalogue.as_ptr(),
+            catalogue.len(),
+            fit.as_ptr(),
+            fit.len(),
             out.as_mut_ptr(),
             out.len(),
         )

@@ -22,6 +22,9 @@ use crate::{Attribute, CATALOGUE_BYTES, FitItem, FitPart, Mark, Slot, SlotType, 
 pub struct CatalogueImage<'a> {
     names: &'a [[u8; 4]],
     marks: &'a [[u8; 4]],
+    types: usize,
+    links: usize,
+    bases: usize,
 }
 
 impl<'a> CatalogueImage<'a> {
@@ -42,7 +45,25 @@ impl<'a> CatalogueImage<'a> {
         Some(CatalogueImage {
             names: words.get(5..5 + names)?,
             marks: words.get(5 + 2 * names + effects..5 + 2 * names + 2 * effects)?,
+            types: word(image, 8)? as usize,
+            links: word(image, 12)? as usize,
+            bases: word(image, 16)? as usize,
         })
+    }
+
+    /// How many types there are.
+    pub fn types(&self) -> usize {
+        self.types
+    }
+
+    /// How many links there are, of types to their effects.
+    pub fn links(&self) -> usize {
+        self.links
+    }
+
+    /// How many base values there are.
+    pub fn bases(&self) -> usize {
+        self.bases
     }
 
     /// What the catalogue leaves unchecked: see [`Missing`].

@@ -19,6 +19,8 @@
 //! - [`Reader`], whom a list is for: skills are private, and guests are not told;
 //! - [`TrainingPlan`], what a result lacks and the fit that training for it leads
 //!   to;
+//! - [`TrimmedCatalogue`], the part of a catalogue that one fit touches, for a page
+//!   that fetches no more;
 //! - [`widen`], which makes a catalogue of today's form of an old one.
 //!
 //! ```
@@ -111,6 +113,8 @@ pub mod text;
 #[forbid(unsafe_code)]
 mod training;
 #[forbid(unsafe_code)]
+mod trimmed;
+#[forbid(unsafe_code)]
 mod type_data;
 #[forbid(unsafe_code)]
 mod unpaired;
@@ -135,6 +139,7 @@ pub use report::Report;
 pub use rule::{GroupLimit, Resource, Rule, SlotKind, Target};
 pub use slot::{Slot, SlotType, State};
 pub use training::{PlannedSkill, Trained, TrainingPlan};
+pub use trimmed::{Kept, TrimmedCatalogue};
 pub use type_data::{TypeData, TypeInfo, type_ids_of};
 pub use unpaired::Unpaired;
 

@@ -171,7 +171,7 @@ impl fmt::Display for Refusal {
                 "the fit has a slot kind, slot index, state, mode or zero byte outside its range"
             }
             Refusal::NoSuchResult => "the fit has no result of that number",
-            Refusal::WantedSkills => "the result wants more than 512 skills",
+            Refusal::WantedSkills => "a result wants more than 512 skills",
             Refusal::BufferLength => "the buffer is shorter than what is to be written",
             Refusal::ProfileLength => {
                 "the league profile has over 4,096 groups, or its length is not what its size \

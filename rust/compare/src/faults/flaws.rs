@@ -106,6 +106,36 @@ const SHORT: &[(Rows, &[usize], &str)] = &[
         &[256, 4_096, 65_536, 262_144, 369_251],
         "bytes of a trained fit are written",
     ),
+    (
+        Rows::TrimNamed,
+        &[64, 512, 1_024, 1_280],
+        "ids that a fit names are kept by a trim",
+    ),
+    (
+        Rows::TrimResults,
+        &[64, 128, 257],
+        "results of a trim want skills",
+    ),
+    (
+        Rows::TrimWanted,
+        &[64, 256, 511],
+        "skills that a result wants are kept by a trim",
+    ),
+    (
+        Rows::TrimTogether,
+        &[64, 256, 511, 512],
+        "skills that all results together want are kept by a trim",
+    ),
+    (
+        Rows::TrimmedRun,
+        &[64, 1_000, 65_536, 1_048_568],
+        "records of an id are kept by a trim",
+    ),
+    (
+        Rows::TrimmedBytes,
+        &[256, 65_536, 1_048_576, 16_777_215],
+        "bytes of a trimmed catalogue are written",
+    ),
 ];
 
 /// Where numbers may be too narrow, in bits.
@@ -175,6 +205,16 @@ const NARROW: &[(Number, &[u32], &str)] = &[
         &[8, 16, 18],
         "the count of a trained fit's bytes",
     ),
+    (
+        Number::TrimCount,
+        &[8, 16, 24],
+        "the count of a trimmed catalogue's bytes",
+    ),
+    (
+        Number::TrimPlace,
+        &[16, 20],
+        "the number of a record that a trim marks",
+    ),
 ];
 
 /// What may be refused too early.
@@ -214,6 +254,16 @@ const REFUSED: &[(Measure, &[usize], &str)] = &[
         Measure::ProfileBytes,
         &[4_096, 16_384, 32_771],
         "bytes of a profile",
+    ),
+    (
+        Measure::TrimmedBytes,
+        &[65_536, 1_048_576, 16_777_215],
+        "bytes of a trimmed catalogue",
+    ),
+    (
+        Measure::TrimTogether,
+        &[256, 511],
+        "skills that all results together want",
     ),
 ];
 

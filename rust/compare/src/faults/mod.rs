@@ -52,7 +52,11 @@ fn told_apart(flaws: &[Flaw], cases: &[Which], seed: u64) -> Vec<Option<Told>> {
         }
         let case = cases[place].case(seed).expect("the case is there");
         let stage = Stage::new(&case);
-        for number in left {
+        let can_show = |number: &usize| {
+            let mut asks = case.asks.iter();
+            asks.any(|ask| flaws[*number].can_show_in(ask))
+        };
+        for number in left.into_iter().filter(can_show) {
             let Some(shown) = shown(&stage, flaws[number]) else {
                 continue;
             };

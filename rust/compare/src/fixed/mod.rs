@@ -13,12 +13,13 @@ mod resources;
 mod slots;
 mod tables;
 mod train;
+mod trim;
 mod unknown;
 mod widen;
 
 use std::ops::Range;
 
-use crate::case::Case;
+use crate::case::{Case, Cause};
 use crate::generate::plant::Calls;
 use crate::generate::{hall, limits, plant, skills};
 use crate::rng::Rng;
@@ -37,11 +38,23 @@ const TABLES: [&[Make]; 8] = [
     chains::CASES,
 ];
 
+/// NaN of every kind, -0, an infinity and the least number: bytes that a value made
+/// anew would not all have.
+const ODD_VALUES: [u64; 7] = [
+    0x7FF8_0000_0000_0000,
+    0xFFF8_0000_0000_0000,
+    0x7FF0_0000_0000_0001,
+    0xFFFF_FFFF_FFFF_FFFF,
+    0x8000_0000_0000_0000,
+    0x7FF0_0000_0000_0000,
+    0x0000_0000_0000_0001,
+];
+
 /// The cases that a generator makes with numbers of its own: how many there
 /// are, and how each is made.
 type Row = (fn() -> usize, fn(usize) -> Case);
 
-const MADE: [Row; 19] = [
+const MADE: [Row; 23] = [
     (plant::others, alone),
     (plant::other_pairs, together),
     (|| hall::CORNERS, hall::corner),
@@ -89,20 +102,21 @@ const MADE: [Row; 19] = [
     (|| train::CASES.len(), |number| train::CASES[number]()),
     (
         || plant::training().len(),
-        |number| {
-            let rng = &mut Rng::new(number as u64);
-            let ground = plant::Ground::small();
-            plant::alone(rng, ground, plant::training()[number], Calls::Trainings)
-        },
+        |number| planted(plant::training(), number, Calls::Trainings),
     ),
     (
         || plant::training_pairs().len(),
-        |number| {
-            let rng = &mut Rng::new(number as u64);
-            let ground = plant::Ground::small();
-            let pair = plant::training_pairs()[number];
-            plant::together(rng, ground, pair, Calls::Trainings)
-        },
+        |number| planted_two(plant::training_pairs(), number, Calls::Trainings),
+    ),
+    (|| trim::CASES.len(), |number| trim::CASES[number]()),
+    (|| trim::STANDING, trim::standing),
+    (
+        || plant::trimming().len(),
+        |number| planted(plant::trimming(), number, Calls::Trims),
+    ),
+    (
+        || plant::trimming_pairs().len(),
+        |number| planted_two(plant::trimming_pairs(), number, Calls::Trims),
     ),
     (|| limits::LENGTHS, limits::lengths),
 ];
@@ -118,6 +132,18 @@ fn together(number: usize) -> Case {
     let rng = &mut Rng::new(number as u64);
     let pair = plant::pairs()[number];
     plant::together(rng, plant::Ground::small(), pair, Calls::Lists)
+}
+
+/// One of some plants, on the least that it can stand on.
+fn planted(plants: Vec<usize>, number: usize, calls: Calls) -> Case {
+    let rng = &mut Rng::new(number as u64);
+    plant::alone(rng, plant::Ground::small(), plants[number], calls)
+}
+
+/// One of some pairs.
+fn planted_two(pairs: Vec<(Cause, Cause)>, number: usize, calls: Calls) -> Case {
+    let rng = &mut Rng::new(number as u64);
+    plant::together(rng, plant::Ground::small(), pairs[number], calls)
 }
 
 /// The numbers of the cases written by hand, of those about skills among

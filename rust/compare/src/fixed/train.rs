@@ -1,8 +1,8 @@
 //! Training at its corners: where a skill is added, which level it comes to, how
 //! many steps there are, and 16 on either side of 1,024 skills.
 
-use super::Make;
 use super::chains::chain;
+use super::{Make, ODD_VALUES};
 use crate::case::{Ask, Case, Room, Steps};
 use crate::model::Skill;
 use crate::names::*;
@@ -221,15 +221,6 @@ fn everyone(result: u32) -> Case {
 
 /// NaN of every kind, -0 and infinities among the values, items without results.
 fn bytes_of_every_kind() -> Case {
-    let bits = [
-        0x7FF8_0000_0000_0000,
-        0xFFF8_0000_0000_0000,
-        0x7FF0_0000_0000_0001,
-        0xFFFF_FFFF_FFFF_FFFF,
-        0x8000_0000_0000_0000,
-        0x7FF0_0000_0000_0000,
-        0x0000_0000_0000_0001,
-    ];
     let mut sketch = wanting(7, 2.0)
         .mode(1_000)
         .item(5, BOOSTER, 65_535)
@@ -237,7 +228,7 @@ fn bytes_of_every_kind() -> Case {
         .state(OVERLOAD)
         .unpaired(-6, CARGO, 0)
         .unpaired(7, RIG, 255);
-    let values = (-3..).zip(bits);
+    let values = (-3..).zip(ODD_VALUES);
     sketch.fit.results[0].attributes.extend(values.clone());
     sketch.fit.ship.attributes.extend(values);
     trained("bytes of every kind behind the skills", sketch)

@@ -13,6 +13,7 @@ mod raw;
 mod reader;
 pub mod skills;
 mod train;
+mod trim;
 pub mod world;
 
 use crate::case::{Ask, Case, Room};
@@ -33,6 +34,9 @@ const HAUL: u64 = 0x4841_554C;
 /// The same of how it is trained.
 const TRAIN: u64 = 0x0054_5241_494E;
 
+/// And of how its catalogue is trimmed.
+const TRIM: u64 = 0x5452_494D;
+
 /// The generated case of a number. What a patch takes away and what its calls
 /// bring beside the images is drawn by itself, so that the rest is the same with
 /// and without.
@@ -44,15 +48,17 @@ pub fn case(seed: u64, number: u64) -> Case {
     reader::bring(&mut Rng::for_case(seed ^ READER, number), &mut case);
     haul::bring(&mut Rng::for_case(seed ^ HAUL, number), &mut case);
     train::bring(&mut Rng::for_case(seed ^ TRAIN, number), &mut case);
+    trim::bring(&mut Rng::for_case(seed ^ TRIM, number), &mut case);
     case
 }
 
 fn images(rng: &mut Rng) -> Case {
     match rng.below(1000) {
-        0..=279 => {
+        0..=259 => {
             let style = Style::realistic(rng);
             single(rng, style, 24, "a realistic fit")
         }
+        260..=279 => trim::planted(rng),
         280..=299 => train::planted(rng),
         300..=549 => {
             let style = Style::adversarial(rng);

@@ -3,7 +3,7 @@
 
 use std::collections::BTreeSet;
 
-use super::plant::{self, Calls, Ground};
+use super::plant::{self, Calls};
 use super::{a_room, plant::steps};
 use crate::case::{Ask, Case, Room, Steps};
 use crate::model::{Damage, Skill};
@@ -15,17 +15,8 @@ const MOST: usize = 1_024;
 
 /// A training that is refused, for one cause or for two.
 pub fn planted(rng: &mut Rng) -> Case {
-    let ground = Ground::realistic(rng);
-    match rng.chance(400) {
-        true => {
-            let way = rng.pick(&plant::training());
-            plant::alone(rng, ground, way, Calls::Trainings)
-        }
-        false => {
-            let pair = rng.pick(&plant::training_pairs());
-            plant::together(rng, ground, pair, Calls::Trainings)
-        }
-    }
+    let (plants, pairs) = (plant::training(), plant::training_pairs());
+    plant::either(rng, &plants, &pairs, Calls::Trainings)
 }
 
 /// Has the first fit of a case trained. Cases with a planted refusal stay as they

@@ -14,6 +14,7 @@ mod limits;
 mod places;
 mod skills;
 mod train;
+mod trim;
 mod unknown;
 mod widen;
 
@@ -26,7 +27,7 @@ use crate::tally::size::LIST_BUFFERS;
 /// longest come last: a fault that another case shows need not wait for them.
 type Row = (usize, fn(usize) -> Case);
 
-const ROWS: [Row; 12] = [
+const ROWS: [Row; 13] = [
     (limits::COUNT, limits::case),
     (places::COUNT, places::case),
     (2, |number| match number {
@@ -47,6 +48,7 @@ const ROWS: [Row; 12] = [
     (halls::COUNT, halls::case),
     (widen::COUNT, widen::case),
     (train::COUNT, train::case),
+    (trim::COUNT, trim::case),
 ];
 
 /// How many large cases there are.

@@ -13,7 +13,7 @@ use crate::tally::size::{RESULTS, SKILL_BUFFERS};
 /// very many base values, the last skill, and 513 skills.
 const ENDS: u32 = 1;
 const LONG: u32 = 2;
-const TOO_MANY: u32 = 102;
+pub const TOO_MANY: u32 = 102;
 const LAST: u32 = 257;
 
 /// The whole chain of 512 is listed, with every buffer.

@@ -2,6 +2,7 @@
 
 use std::cell::RefCell;
 use std::collections::BTreeMap;
+use std::ops::Range;
 
 use super::bytes::{f32_at, f64_at, i32_at, u32_at};
 use super::fault::Fault;
@@ -51,6 +52,9 @@ impl Block {
         self.value(self.rows)
     }
 }
+
+/// A record of a block: its key, and the bytes of its value.
+pub type Record<'a> = (i32, &'a [u8]);
 
 /// A type's row.
 #[derive(Clone, Copy)]
@@ -310,6 +314,29 @@ impl<'a> Catalogue<'a> {
             () if self.flaw.has(Fault::BaseOneStepOff) => value.next_up(),
             () => value,
         })
+    }
+
+    /// The five sizes.
+    pub fn sizes(&self) -> &'a [u8] {
+        &self.image[..20]
+    }
+
+    /// The records of a block, 0 the names and 4 the bases.
+    pub fn records(&self, number: usize) -> Vec<Record<'a>> {
+        let block = [self.names, self.effects, self.types, self.links, self.bases][number];
+        let record = |row: usize| {
+            let value = block.value(row);
+            let key = i32_at(self.image, block.key(row));
+            (key, &self.image[value..value + block.width])
+        };
+        (0..block.rows).map(record).collect()
+    }
+
+    /// The rows under a type's id, in block 2, the types, 3 or 4.
+    pub fn run_of(&self, number: usize, type_id: i32) -> Range<usize> {
+        let table = [TYPES, LINKS, BASES][number - 2];
+        let first = self.first(table, type_id);
+        first..first + self.rows_of(table, type_id).count()
     }
 
     /// Whether links stand under a type's id.

@@ -679,12 +679,120 @@ faults! {
     TrainUnpairedLost: "items and results without a pair are left out of a trained fit",
     TrainTailUnmoved: "what stands behind the skills is written at its old place",
     TrainTailCleared: "the buffer is cleared behind a trained fit",
+    // trim: the types that a fit names.
+    TrimShipLost: "a trim does not keep the ship's type",
+    TrimModeLost: "a trim does not keep the mode's type",
+    TrimModeUnderFlag0: "a trim keeps type 0 for the mode under flag 0",
+    TrimSkillsLost: "a trim does not keep listed skills that nothing wants",
+    TrimSkillsOfCategory: "a trim does not keep a listed id whose type is no skill",
+    TrimItemsOfPairs: "a trim keeps the types of items that have a result alone",
+    TrimCargoLost: "a trim does not keep the types of cargo",
+    TrimQuantity0Lost: "a trim does not keep the type of an item without a result whose quantity is 0",
+    TrimUntypedItemLost: "a trim keeps nothing under the id of an item without a result that has no type",
+    TrimItemsOffHull: "on a ship that is no hull a trim keeps the types of items that have a result alone",
+    TrimNegativeLost: "a trim keeps nothing under a negative id",
+    TrimOffHull: "on a ship that is no hull a trim keeps neither mode, listed skills nor items",
+    // The skills that its results want.
+    TrimWantedByShip: "a trim keeps what the ship's result wants alone",
+    TrimWantedByItems: "a trim does not keep what ship and character want",
+    TrimWantedByPairs: "a trim does not keep what a result without an item wants",
+    TrimWantedByShipType: "a trim keeps what the ship's type demands, and no result wants",
+    TrimWantedByModeType: "a trim keeps what the mode's type demands, and no result wants",
+    TrimWantedByListed: "a trim keeps what a listed skill demands, and no result wants",
+    TrimWantedByItemTypes: "a trim keeps what the type of an item with a result demands, and no result wants",
+    TrimWantedByLoneTypes: "a trim keeps what the type of an item without a result demands, and no result wants",
+    TrimDirect: "a trim keeps the skills that results demand themselves alone",
+    TrimLevel0Lost: "a trim does not keep a skill that is wanted at level 0",
+    // What is kept under an id.
+    TrimUntypedLost: "a trim keeps nothing under an id that has no type",
+    TrimUntypedLinksLost: "a trim keeps no links under an id that has no type",
+    TrimUntypedBasesLost: "a trim keeps no base values under an id that has no type",
+    TrimTypeInvented: "a trim writes a type of group 0 for an id that has none",
+    TrimTypesAll: "a trim keeps every type",
+    TrimLinksAll: "a trim keeps every link",
+    TrimBasesAll: "a trim keeps every base value",
+    TrimBasesOfSkills: "a trim keeps base values that demand skills alone",
+    TrimShipTypeAlone: "of the ship a trim keeps the type alone",
+    TrimNamedTwice: "a record under an id that is named twice is kept twice",
+    TrimNamesLost: "a trim drops the names",
+    TrimNamesOfBases: "a trim drops names that no kept base value has",
+    TrimEffectsLost: "a trim drops the effects",
+    TrimEffectsOfLinks: "a trim drops effects that no kept link names",
+    // In which order, and as which bytes.
+    TrimTypesAsNamed: "types are written in the order in which the fit names them",
+    TrimLinksReversed: "links of a type are written from the last to the first",
+    TrimLinksSorted: "links of a type are written by ascending effect",
+    TrimLinksOnce: "links that are alike are written once",
+    TrimBasesReversed: "base values of a type are written from the last to the first",
+    TrimBasesSorted: "base values of a type are written by ascending attribute",
+    TrimBasesOnce: "of base values of one attribute the first alone is written",
+    TrimKeysMixed: "each key of a trimmed catalogue stands beside its value",
+    TrimSizesOld: "a trimmed catalogue has the sizes of the old one",
+    TrimValuesFirst: "the first values of a block are written, whichever are kept",
+    TrimValuesNext: "the value behind each kept one is written",
+    TrimBaseValuesOfLinks: "base values are written by the places of the kept links",
+    TrimVolumeFlagless: "volume bits under flag 0 are cleared by a trim",
+    TrimVolumeNan: "a volume's NaN is written as another one by a trim",
+    TrimBaseNan: "every NaN of a trimmed catalogue's base values is written as one",
+    TrimBaseZero: "-0 in a trimmed catalogue's base values is written as +0",
+    TrimBaseNarrowed: "a trimmed catalogue's base values are rounded to an f32",
+    // Windows of places.
+    TrimOneWindow: "places behind the first 1,048,576 are not kept",
+    TrimWindowTwice: "the first place of a window is marked in the one before as well",
+    TrimWindowLast: "the last place of a window is not marked",
+    TrimWindowRun: "what goes on in the next window is not kept there",
+    TrimMarksStay: "the marks of one window stand in the next",
+    // Refusal 9 of a trim.
+    TrimWalkUnasked: "refusal 9 is never given by a trim",
+    TrimWalkCut: "of over 512 wanted skills a trim keeps the first 512",
+    TrimWalkSkipped: "a result that wants over 512 skills is passed over by a trim",
+    TrimWalk511: "refusal 9 is given by a trim for 512 wanted skills",
+    TrimWalk513: "refusal 9 is not given by a trim for 513 wanted skills",
+    TrimWalkTogether: "refusal 9 is given where all results together want over 512 skills",
+    TrimManyByShip: "where results together want over 512 skills a trim keeps the ship's alone",
+    TrimManyLast: "where results together want over 512 skills a trim keeps the last one's alone",
+    TrimManyShort: "where results together want over 512 skills a trim passes the last two over",
+    TrimManyDirect: "where results together want over 512 skills a trim keeps what they demand themselves alone",
+    TrimManyLongest: "where results together want over 512 skills a trim gives 9 for a result that wants 512",
+    TrimWalkOfShip: "refusal 9 is given by a trim for the ship's result alone",
+    TrimWalkOfItems: "refusal 9 is not given by a trim for ship and character",
+    TrimWalkOfPairs: "refusal 9 is not given by a trim for a result without an item",
+    TrimWalkAs13: "refusal 13 is given by a trim in the place of 9",
+    TrimWalkBeforeIds: "refusal 9 of a trim is given before 5 and 6",
+    TrimWalkAfterRoom: "refusal 9 of a trim is given after 10",
+    TrimWalkCounts: "refusal 9 of a trim carries a count",
+    TrimRefusalCopies: "a refused trim leaves the old catalogue in the buffer",
+    // Refusal 10 of a trim.
+    TrimRoomOld: "refusal 10 of a trim is judged by the old catalogue's length",
+    TrimRoomFirst: "refusal 10 of a trim is given before 1, for under 20 bytes",
+    TrimRoomBeforeFit: "refusal 10 of a trim is given before 4, for under 20 bytes",
+    TrimRoomFilled: "refusal 10 of a trim leaves the bytes that had room",
+    TrimRoomCounts: "refusal 10 of a trim carries the count",
+    // What a trim counts and writes.
+    TrimCountsOld: "a trim counts the old catalogue's bytes",
+    TrimCountsSaved: "a trim counts the bytes that it saves",
+    TrimCountsRecords: "a trim counts records",
+    TrimWholeUnwritten: "where nothing falls away no byte is written, and 0 counted",
+    TrimTailCleared: "the buffer is cleared behind a trimmed catalogue",
 }
 
 impl Fault {
     /// Whether it is about who a call is for.
     pub fn is_about_readers(self) -> bool {
-        let (first, last) = (Fault::Reader3Taken, Fault::HallForGuests);
+        self.is_from(Fault::Reader3Taken, Fault::HallForGuests)
+    }
+
+    /// Whether it is about trainings, and no other call goes wrong.
+    pub fn is_about_trainings(self) -> bool {
+        self.is_from(Fault::TrainLast, Fault::TrainTailCleared)
+    }
+
+    /// The same of trims.
+    pub fn is_about_trims(self) -> bool {
+        self.is_from(Fault::TrimShipLost, Fault::TrimTailCleared)
+    }
+
+    fn is_from(self, first: Fault, last: Fault) -> bool {
         (first as usize..=last as usize).contains(&(self as usize))
     }
 }

@@ -2,6 +2,7 @@
 //! exchanged, or a size that it does not reach.
 
 use super::fault::Fault;
+use crate::case::Ask;
 
 /// What is wrong, if anything.
 #[derive(Clone, Copy, Debug, Default, PartialEq, Eq)]
@@ -55,6 +56,18 @@ pub enum Rows {
     Plan,
     /// The bytes of a trained fit.
     TrainedBytes,
+    /// The ids that the fit of a trim names.
+    TrimNamed,
+    /// The results of a trim that want skills.
+    TrimResults,
+    /// The skills that one result of a trim wants.
+    TrimWanted,
+    /// The skills that all results of a trim want.
+    TrimTogether,
+    /// The records of one id that a trim keeps.
+    TrimmedRun,
+    /// The bytes of a trimmed catalogue.
+    TrimmedBytes,
 }
 
 /// Numbers that may be too narrow.
@@ -116,6 +129,10 @@ pub enum Number {
     Steps,
     /// The count of a trained fit's bytes.
     TrainCount,
+    /// The count of a trimmed catalogue's bytes.
+    TrimCount,
+    /// The number of a place among types, links and bases.
+    TrimPlace,
 }
 
 /// Sizes that may be refused too early.
@@ -130,6 +147,10 @@ pub enum Measure {
     /// Of a catalogue that is widened.
     OldBytes,
     ProfileBytes,
+    /// Of a catalogue that is trimmed, when it is.
+    TrimmedBytes,
+    /// The skills that all results of a trim want.
+    TrimTogether,
 }
 
 impl Flaw {
@@ -143,6 +164,39 @@ impl Flaw {
             Flaw::Fault(fault) => fault.is_about_readers(),
             Flaw::Narrow(Number::Reader, _) => true,
             _ => false,
+        }
+    }
+
+    /// Whether a call can show it: those about trainings or trims show in no other.
+    pub fn can_show_in(self, ask: &Ask) -> bool {
+        let (is_training, is_trim) = match self {
+            Flaw::Fault(fault) => (fault.is_about_trainings(), fault.is_about_trims()),
+            Flaw::Short(rows, _) => (
+                matches!(rows, Rows::Plan | Rows::TrainedBytes),
+                matches!(
+                    rows,
+                    Rows::TrimNamed
+                        | Rows::TrimResults
+                        | Rows::TrimWanted
+                        | Rows::TrimTogether
+                        | Rows::TrimmedRun
+                        | Rows::TrimmedBytes
+                ),
+            ),
+            Flaw::Narrow(number, _) => (
+                matches!(number, Number::Steps | Number::TrainCount),
+                matches!(number, Number::TrimCount | Number::TrimPlace),
+            ),
+            Flaw::Refused(measure, _) => (
+                false,
+                matches!(measure, Measure::TrimmedBytes | Measure::TrimTogether),
+            ),
+            _ => (false, false),
+        };
+        match ask {
+            Ask::Train(..) | Ask::Trained(..) => !is_trim,
+            Ask::Trim(_) | Ask::Trimmed => !is_training,
+            _ => !is_training && !is_trim,
         }
     }
 

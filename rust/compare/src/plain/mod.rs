@@ -18,6 +18,7 @@ mod resource;
 mod skill;
 mod slot;
 mod train;
+mod trim;
 mod unknown;
 mod widen;
 
@@ -78,6 +79,10 @@ impl Checker for Plain {
 
     fn train(&self, catalogue: &[u8], fit: &[u8], result: u32, steps: u32, out: &mut [u8]) -> u64 {
         train::train((catalogue, fit), result, steps, out, self.flaw)
+    }
+
+    fn trim(&self, catalogue: &[u8], fit: &[u8], out: &mut [u8]) -> u64 {
+        trim::trim((catalogue, fit), out, self.flaw)
     }
 }
 

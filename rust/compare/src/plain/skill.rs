@@ -10,11 +10,11 @@ use super::page::{Met, Page};
 const REQUIRED: usize = 76;
 
 /// The skills noted, in the order met.
-struct Walk {
-    ids: Vec<i32>,
-    levels: Vec<u8>,
+pub struct Walk {
+    pub ids: Vec<i32>,
+    pub levels: Vec<u8>,
     /// How many of them the result itself demands.
-    direct: usize,
+    pub direct: usize,
 }
 
 impl Walk {
@@ -85,7 +85,18 @@ pub fn report(
     page.walked(context.fit, result, &met)
 }
 
-fn wanted_skills(context: &Context, result: usize) -> Walk {
+/// What a result wants, however much it is.
+pub fn wanted_skills(context: &Context, result: usize) -> Walk {
+    walked(context, |id| context.value(result, id))
+}
+
+/// What a type demands by its base values, and what that leads to.
+pub fn demanded_skills(context: &Context, type_id: i32) -> Walk {
+    walked(context, |id| context.catalogue.base(type_id, id))
+}
+
+/// The skills that some values demand, and those that these lead to.
+fn walked(context: &Context, value: impl Fn(i32) -> Option<f64>) -> Walk {
     let flaw = context.flaw;
     let rows = if flaw.has(Fault::SkillSixth) { 5 } else { 6 };
     let pairs: Vec<(i32, Option<i32>)> = (0..rows)
@@ -103,7 +114,7 @@ fn wanted_skills(context: &Context, result: usize) -> Walk {
         levels: Vec::new(),
         direct: 0,
     };
-    demands(context, &pairs, &mut walk, |id| context.value(result, id));
+    demands(context, &pairs, &mut walk, value);
     walk.direct = walk.ids.len();
     let mut next = 0;
     while next < walk.ids.len() {

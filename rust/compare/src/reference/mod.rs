@@ -6,7 +6,7 @@
 //! in `drones`, base values finer than an f32 in `walk`, the widening of old
 //! catalogues in `widen`, the league's rules in `league`, rule 26 in `unknown`,
 //! a page's limits in `page`, who may read what in `reader`, what a step of
-//! training changes in `train`.
+//! training changes in `train`, what a trimmed catalogue keeps in `trim`.
 
 mod catalogue;
 mod drones;
@@ -16,6 +16,7 @@ pub mod league;
 pub mod page;
 pub mod reader;
 mod train;
+mod trim;
 mod unknown;
 mod walk;
 mod widen;
@@ -33,6 +34,7 @@ pub use encode::entry;
 pub use fit::Fit;
 pub use league::League;
 pub use train::{Missing, Plan, Skills, first_list, would_list};
+pub use trim::{named, touched, trim, trimmed};
 pub use widen::widen;
 
 /// A refusal's number.
@@ -91,6 +93,10 @@ impl Checker for Original {
             Ok(plan.image(steps))
         };
         written_bytes(trained(), out)
+    }
+
+    fn trim(&self, catalogue: &[u8], fit: &[u8], out: &mut [u8]) -> u64 {
+        written_bytes(trim(catalogue, fit), out)
     }
 }
 

@@ -5,6 +5,7 @@ mod page;
 mod reader;
 mod shown;
 mod train;
+mod trim;
 
 use std::cell::{Cell, OnceCell, RefCell};
 use std::collections::BTreeMap;
@@ -134,6 +135,7 @@ pub struct Stage<'a> {
     hall: OnceCell<Hall>,
     old: OnceCell<Old>,
     widened: OnceCell<Option<(Source, Subject)>>,
+    trimmed: OnceCell<Result<trim::Trimmed, Refusal>>,
 }
 
 /// Runs every call of a case; the first difference, if there is one.
@@ -159,6 +161,7 @@ impl<'a> Stage<'a> {
             hall: OnceCell::new(),
             old: OnceCell::new(),
             widened: OnceCell::new(),
+            trimmed: OnceCell::new(),
         }
     }
 
@@ -234,13 +237,9 @@ impl<'a> Stage<'a> {
 
     /// What widening must give, and the length of the buffer that it is lent.
     fn expected_wide(&self, room: Room) -> (u64, &[u8], usize) {
-        match &self.old().widened {
-            Ok(new) => match room.length(new.len()) {
-                length if length < new.len() => (refused(10), &[], length),
-                length => (new.len() as u64, new, length),
-            },
-            Err(refusal) => (refused(*refusal), &[], room.length(40)),
-        }
+        let widened = self.old().widened.as_ref();
+        let new = widened.map(Vec::as_slice).map_err(|refusal| *refusal);
+        expected_image(new, room, 40)
     }
 
     /// The list and skill calls of an ask, with the catalogue and fit of each:
@@ -296,6 +295,7 @@ impl<'a> Stage<'a> {
             Ask::Hall | Ask::Widen(_) => Vec::new(),
             Ask::RetrainedList(_) | Ask::RetrainedSkill(..) => Vec::new(),
             Ask::Train(..) | Ask::Trained(..) => Vec::new(),
+            Ask::Trim(_) | Ask::Trimmed => Vec::new(),
         }
     }
 
@@ -323,6 +323,8 @@ impl<'a> Stage<'a> {
                     self.count_train((result, steps), room, tally);
                 }
                 Ask::Trained(result, steps) => self.count_trained((result, steps), tally),
+                Ask::Trim(room) => self.count_trim(room, tally),
+                Ask::Trimmed => self.count_trimmed(tally),
                 Ask::List(_) | Ask::Skill(..) => {}
             }
         }
@@ -551,6 +553,8 @@ impl<'a> Stage<'a> {
             Ask::Widen(room) => self.hold_widen(room, checker),
             Ask::Train(result, steps, room) => self.hold_train((result, steps), room, checker),
             Ask::Trained(result, steps) => self.hold_trained((result, steps), checker),
+            Ask::Trim(room) => self.hold_trim(room, checker),
+            Ask::Trimmed => self.hold_trimmed(readers, checker),
             Ask::RetrainedList(_) | Ask::RetrainedSkill(..) => self.same_for_a_guest(ask, checker),
             Ask::List(_) | Ask::Skill(..) => Ok(()),
             Ask::HauledList | Ask::HauledSkill(_) => Ok(()),
@@ -719,6 +723,22 @@ impl<'a> Stage<'a> {
             )),
             _ => Ok(()),
         }
+    }
+}
+
+/// What a call that writes an image must give, and the length of the buffer that it
+/// is lent; a refusal has so much to leave untouched.
+fn expected_image(
+    new: Result<&[u8], Refusal>,
+    room: Room,
+    untouched: usize,
+) -> (u64, &[u8], usize) {
+    match new {
+        Ok(new) => match room.length(new.len()) {
+            length if length < new.len() => (refused(10), &[], length),
+            length => (new.len() as u64, new, length),
+        },
+        Err(refusal) => (refused(refusal), &[], room.length(untouched)),
     }
 }
 

@@ -25,6 +25,10 @@ pub enum Shown {
     Trained,
     /// What is promised of the skill lists along a training.
     Training,
+    /// The bytes of a trimmed catalogue, or how many they are.
+    Trimmed,
+    /// What is promised of the lists under a trimmed catalogue, and of a second trim.
+    UnderTrimmed,
     /// Bytes of the buffer that are not the entries', or the count alone.
     Buffer,
     Panic,
@@ -51,6 +55,8 @@ impl fmt::Display for Shown {
             Shown::Widened => out.write_str("the widened catalogue"),
             Shown::Trained => out.write_str("the trained fit"),
             Shown::Training => out.write_str("the skills after a step"),
+            Shown::Trimmed => out.write_str("the trimmed catalogue"),
+            Shown::UnderTrimmed => out.write_str("the lists under a trimmed catalogue"),
             Shown::Buffer => out.write_str("the buffer"),
             Shown::Panic => out.write_str("a panic"),
         }
@@ -70,6 +76,8 @@ impl Stage<'_> {
                 return self.shown_in_train((result, steps), room, checker);
             }
             Ask::Trained(..) => return Shown::Training,
+            Ask::Trim(room) => return self.shown_in_trim(room, checker),
+            Ask::Trimmed => return Shown::UnderTrimmed,
             _ => {}
         }
         let calls = self.lists(ask, readers).into_iter();
@@ -98,11 +106,7 @@ impl Stage<'_> {
         let Ok(word) = caught(|| checker.widen(old, &mut out)) else {
             return Shown::Panic;
         };
-        match ((expected >> 32) as u8, (word >> 32) as u8) {
-            (0, 0) if word != expected || out[..new.len()] != *new => Shown::Widened,
-            (deserved, given) if deserved == given => Shown::Buffer,
-            (deserved, given) => Shown::Refusals(deserved, given),
-        }
+        image_shown(Shown::Widened, (expected, new), (word, &out))
     }
 
     /// With a buffer for any list first: what differs there is no matter of
@@ -151,6 +155,16 @@ impl Stage<'_> {
             rules if rules.is_empty() => Shown::Buffer,
             rules => Shown::Rules(rules),
         }
+    }
+}
+
+/// What is about the image that a call writes: it, the refusals, or the buffer.
+pub(super) fn image_shown(image: Shown, expected: (u64, &[u8]), given: (u64, &[u8])) -> Shown {
+    let ((word, new), (given, out)) = (expected, given);
+    match ((word >> 32) as u8, (given >> 32) as u8) {
+        (0, 0) if given != word || out[..new.len()] != *new => image,
+        (deserved, given) if deserved == given => Shown::Buffer,
+        (deserved, given) => Shown::Refusals(deserved, given),
     }
 }
 

@@ -5,6 +5,7 @@
 
 use std::rc::Rc;
 
+use super::shown::image_shown;
 use super::{Shown, Stage, caught};
 use crate::case::{Room, Steps};
 use crate::checker::{Checker, ENTRY, Entry, Terms, in_words, refused};
@@ -106,12 +107,7 @@ impl Stage<'_> {
         let Ok(word) = self.train_called(checker, Fill::First, fit, steps, &mut out) else {
             return Shown::Panic;
         };
-        match ((expected.word >> 32) as u8, (word >> 32) as u8) {
-            (0, 0) if word != expected.word => Shown::Trained,
-            (0, 0) if out[..expected.fit.len()] != expected.fit => Shown::Trained,
-            (deserved, given) if deserved == given => Shown::Buffer,
-            (deserved, given) => Shown::Refusals(deserved, given),
-        }
+        image_shown(Shown::Trained, (expected.word, &expected.fit), (word, &out))
     }
 
     /// What is promised, of the reference and of the checker's own calls.

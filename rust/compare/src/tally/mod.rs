@@ -9,6 +9,7 @@ mod point;
 mod reader;
 pub mod size;
 mod train;
+mod trim;
 mod unknown;
 mod wide;
 mod widened;
@@ -29,6 +30,7 @@ pub use page::{PageEdge, pairs_beside, skills_beside};
 pub use point::{Beside, Call, Point, RoomKind};
 pub use reader::{ReaderEdge, Retrained};
 pub use train::{TrainEdge, Training};
+pub use trim::{TrimEdge, Trimming};
 pub use unknown::UnknownEdge;
 pub use widened::{Class, Fine, WidenRoom};
 
@@ -291,6 +293,11 @@ impl Tally {
         self.writes(Call::Train, room, length, word);
     }
 
+    /// The same of a trim.
+    pub fn trim(&mut self, room: Room, length: usize, word: u64) {
+        self.writes(Call::Trim, room, length, word);
+    }
+
     /// A call that writes an image.
     fn writes(&mut self, call: Call, room: Room, length: usize, word: u64) {
         self.calls += 1;
@@ -315,6 +322,25 @@ impl Tally {
     /// missing.
     pub fn promised(&mut self, steps: u32, missing: u32) {
         train::promised(self, steps, missing);
+    }
+
+    /// A trim whose images are not refused.
+    pub fn trimming(&mut self, trimming: &Trimming) {
+        trim::called(self, trimming);
+    }
+
+    /// A call under the whole catalogue and under the trimmed one, and the word that
+    /// both must give.
+    pub fn under_trimmed(&mut self, lists: Lists, word: u64) {
+        self.calls += 2;
+        trim::under(self, lists, word);
+    }
+
+    /// The refusals that a trim deserves, the one that it must give first.
+    pub fn trim_pair(&mut self, case: &Case) {
+        if let [second, first] = case.planted[..] {
+            self.meet(Point::TrimPair(first.cause, second.cause));
+        }
     }
 
     /// The refusals that a training deserves, the one that it must give first.
@@ -422,4 +448,10 @@ impl Tally {
             }
         }
     }
+}
+
+/// Those of the edges that hold.
+fn held<T, const N: usize>(edges: [(bool, T); N]) -> Vec<T> {
+    let held = edges.into_iter().filter(|edge| edge.0);
+    held.map(|edge| edge.1).collect()
 }

@@ -12,6 +12,7 @@ use super::size::{
     Place, RESULTS, Region, SKILL_BUFFERS, UNREAD,
 };
 use super::train::TrainEdge;
+use super::trim::TrimEdge;
 use super::unknown::UnknownEdge;
 use super::widened::{Class, Fine, WidenRoom};
 use crate::case::{Cause, Lists, Plant, Room};
@@ -103,6 +104,10 @@ pub enum Point {
     TrainPair(Cause, Cause),
     /// What a training meets.
     Train(TrainEdge),
+    /// A refusal by the trim where another is deserved too.
+    TrimPair(Cause, Cause),
+    /// What a trim meets.
+    Trim(TrimEdge),
 }
 
 #[derive(Clone, Copy, Debug, PartialEq, Eq, PartialOrd, Ord)]
@@ -112,6 +117,7 @@ pub enum Call {
     Hall,
     Widen,
     Train,
+    Trim,
 }
 
 impl Call {
@@ -204,10 +210,19 @@ pub fn required() -> Vec<Point> {
     points.extend([1, 2, 3, 10].map(|refusal| Point::Refusal(Call::Widen, refusal)));
     let of_training = [1, 2, 3, 4, 5, 6, 8, 9, 16, 10];
     points.extend(of_training.map(|refusal| Point::Refusal(Call::Train, refusal)));
+    let of_trims = [1, 2, 3, 4, 5, 6, 9, 10];
+    points.extend(of_trims.map(|refusal| Point::Refusal(Call::Trim, refusal)));
     let plants = plant::plants().into_iter();
     points.extend(plants.map(|(cause, how, _)| Point::Planted(Plant { cause, how })));
     points.extend(plant::pairs().into_iter().map(|(a, b)| Point::Pair(a, b)));
-    for call in [Call::List, Call::Skill, Call::Widen, Call::Train] {
+    let lent = [
+        Call::List,
+        Call::Skill,
+        Call::Widen,
+        Call::Train,
+        Call::Trim,
+    ];
+    for call in lent {
         let rooms = [
             RoomKind::Empty,
             RoomKind::OneShort,
@@ -259,6 +274,9 @@ pub fn required() -> Vec<Point> {
     let pairs = plant::training_pairs().into_iter();
     points.extend(pairs.map(|(first, second)| Point::TrainPair(first, second)));
     points.extend(TrainEdge::all().into_iter().map(Point::Train));
+    let pairs = plant::trimming_pairs().into_iter();
+    points.extend(pairs.map(|(first, second)| Point::TrimPair(first, second)));
+    points.extend(TrimEdge::all().into_iter().map(Point::Trim));
     points
 }
 
@@ -272,6 +290,7 @@ fn sizes() -> Vec<Point> {
         Call::Hall,
         Call::Widen,
         Call::Train,
+        Call::Trim,
     ];
     points.extend(calls.map(Point::FullSize));
     points.extend(Block::ALL.map(Point::Most));
@@ -314,6 +333,7 @@ impl fmt::Display for Call {
             Call::Hall => "hall call",
             Call::Widen => "widening",
             Call::Train => "training",
+            Call::Trim => "trim",
         })
     }
 }
@@ -333,7 +353,7 @@ impl fmt::Display for Point {
             Point::Refusal(call, refusal) => write!(out, "refusal {refusal} by the {call}"),
             Point::Planted(plant) => write!(out, "refusal {}: {}", plant.cause, plant.how),
             Point::Pair(a, b) => write!(out, "refusal {a} where {b} is deserved too"),
-            Point::Room(call @ (Call::Widen | Call::Train), room) => {
+            Point::Room(call @ (Call::Widen | Call::Train | Call::Trim), room) => {
                 write!(out, "{call}, {}", room.words())
             }
             Point::Room(call, room) => write!(out, "{call} with entries, {}", room.words()),
@@ -381,6 +401,8 @@ impl fmt::Display for Point {
                 write!(out, "training: refusal {a} where {b} is deserved too")
             }
             Point::Train(edge) => out.write_str(&edge.words()),
+            Point::TrimPair(a, b) => write!(out, "trim: refusal {a} where {b} is deserved too"),
+            Point::Trim(edge) => out.write_str(&edge.words()),
             Point::Fine(fine) => write!(out, "base value finer than an f32: {}", fine.words()),
             size => size.fmt_size(out),
         }

@@ -4,8 +4,10 @@
 
 use std::rc::Rc;
 
-use super::Tally;
+use original::ItemResult;
+
 use super::point::Point;
+use super::{Tally, held};
 use crate::case::Case;
 use crate::names::REQUIRED;
 use crate::reference::{self, Catalogue, Fit, League, Missing, Plan, Skills};
@@ -155,9 +157,9 @@ impl StepsEdge {
 }
 
 impl Whose {
-    const ALL: [Whose; 4] = [Whose::Ship, Whose::Character, Whose::Item, Whose::Alone];
+    pub const ALL: [Whose; 4] = [Whose::Ship, Whose::Character, Whose::Item, Whose::Alone];
 
-    fn of(result: u32, items: usize) -> Whose {
+    pub fn of(result: u32, items: usize) -> Whose {
         match result {
             0 => Whose::Ship,
             1 => Whose::Character,
@@ -166,7 +168,7 @@ impl Whose {
         }
     }
 
-    fn words(self) -> &'static str {
+    pub fn words(self) -> &'static str {
         match self {
             Whose::Ship => "the ship",
             Whose::Character => "the character",
@@ -285,12 +287,6 @@ fn meet(tally: &mut Tally, edges: impl IntoIterator<Item = TrainEdge>) {
     }
 }
 
-/// Those of the edges that hold.
-fn held<const N: usize>(edges: [(bool, TrainEdge); N]) -> Vec<TrainEdge> {
-    let held = edges.into_iter().filter(|edge| edge.0);
-    held.map(|edge| edge.1).collect()
-}
-
 /// What 16 is given for.
 fn full(training: &Training) -> Vec<TrainEdge> {
     let Training { fit, steps, .. } = training;
@@ -357,7 +353,11 @@ fn raises(training: &Training, plan: &Plan) -> Vec<TrainEdge> {
     let (before, after) = (plan.after(0), plan.after(training.steps));
     let is_changed = |entry: &&Missing| before.get(&entry.skill) != after.get(&entry.skill);
     let changed: Vec<&Missing> = plan.first.iter().filter(is_changed).collect();
-    let direct = demands(training);
+    let outcome = training
+        .fit
+        .result(training.result)
+        .expect("8 is not given");
+    let direct = demands(training.catalogue, outcome);
     let mut edges = Vec::new();
     for entry in &changed {
         let id = entry.skill;
@@ -403,16 +403,14 @@ fn raises(training: &Training, plan: &Plan) -> Vec<TrainEdge> {
     edges
 }
 
-/// The skills that the result itself demands, in the order of its rows.
-fn demands(training: &Training) -> Vec<i32> {
-    let outcome = training.fit.result(training.result);
+/// The skills that a result itself demands, in the order of its rows.
+pub fn demands(catalogue: &Catalogue, outcome: &ItemResult) -> Vec<i32> {
     let value = |name: usize| {
-        let attributes = &outcome?.attributes;
-        let id = training.catalogue.name(name)?;
-        attributes.get(&id).map(|held| held.value as i32)
+        let id = catalogue.name(name)?;
+        outcome.attributes.get(&id).map(|held| held.value as i32)
     };
     let rows = (0..6).map(|row| REQUIRED + 2 * row);
-    let counts = rows.filter(|row| training.catalogue.name(row + 1).is_some());
+    let counts = rows.filter(|row| catalogue.name(row + 1).is_some());
     counts.filter_map(value).collect()
 }
 
@@ -428,7 +426,7 @@ fn surroundings(training: &Training, plan: &Plan) -> Vec<TrainEdge> {
     let at_0 = wanted
         .iter()
         .any(|(id, level)| *level == 0 && !before.contains_key(id));
-    let mut direct = demands(training);
+    let mut direct = demands(catalogue, outcome);
     let count = direct.len();
     direct.sort_unstable();
     direct.dedup();

@@ -149,6 +149,11 @@ pub fn answers(case: &Case) -> String {
                 continue;
             }
             Ask::Trained(..) => continue,
+            Ask::Trim(_) => {
+                text += &trim(&catalogue, &case.fits[0]);
+                continue;
+            }
+            Ask::Trimmed => continue,
         };
         if asked.contains(&(terms.reader, result)) {
             continue;
@@ -204,6 +209,10 @@ pub fn ask(ask: Ask) -> String {
             let (holder, steps) = (holder(result), self::steps(steps));
             format!("training for {holder}, {steps} and one more, with the skills after both")
         }
+        Ask::Trim(room) => format!("trim, {}", self::room(room)),
+        Ask::Trimmed => {
+            "list and skills under both catalogues, and the trimmed one trimmed again".to_string()
+        }
     }
 }
 
@@ -249,6 +258,24 @@ fn training(catalogue: &[u8], fit: &Fit, result: u32, steps: Steps) -> String {
         None => format!("skill {id} added at {level}"),
     });
     text
+}
+
+/// What document 02 makes of a trim: the sizes that are left.
+fn trim(catalogue: &[u8], fit: &Fit) -> String {
+    let small = match reference::trim(catalogue, &fit.image()) {
+        Ok(small) => small,
+        Err(refusal) => return format!("trim: document 02 makes it refusal {refusal}\n"),
+    };
+    let sizes = small[..20].chunks_exact(4);
+    let sizes = sizes.map(|size| u32::from_le_bytes([size[0], size[1], size[2], size[3]]));
+    let [names, effects, types, links, bases] =
+        <[u32; 5]>::try_from(sizes.collect::<Vec<_>>()).expect("five sizes");
+    format!(
+        "trim: of {} bytes {} are left, {names} names, {effects} effects, {types} types, {links} \
+         links, {bases} bases\n",
+        catalogue.len(),
+        small.len()
+    )
 }
 
 fn room(room: Room) -> String {

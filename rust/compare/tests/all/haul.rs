@@ -472,6 +472,10 @@ impl Checker for Spoiler {
     fn train(&self, catalogue: &[u8], fit: &[u8], result: u32, steps: u32, out: &mut [u8]) -> u64 {
         Original.train(catalogue, fit, result, steps, out)
     }
+
+    fn trim(&self, catalogue: &[u8], fit: &[u8], out: &mut [u8]) -> u64 {
+        Original.trim(catalogue, fit, out)
+    }
 }
 
 /// Asserts that nothing is reported of a spoiler's calls one by one, and of both

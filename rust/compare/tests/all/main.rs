@@ -14,5 +14,6 @@ mod reader;
 mod recorded;
 mod refusals;
 mod train;
+mod trim;
 mod unknown;
 mod widen;

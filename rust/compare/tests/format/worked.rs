@@ -80,8 +80,8 @@ fn read(call: &str) -> (&str, Reader) {
 }
 
 /// A call as the page names it, `list`, `league 90` with the profile and this
-/// allowance, `skill 2`, `train 2 by 3` with so many steps, `hall` or `widen`, on
-/// a buffer.
+/// allowance, `skill 2`, `train 2 by 3` with so many steps, `trim`, `hall` or
+/// `widen`, on a buffer.
 fn called(checker: &dyn Checker, call: &str, images: &Images, out: &mut [u8]) -> u64 {
     let (call, limits) = limited(call);
     let (call, reader) = read(call);
@@ -94,6 +94,7 @@ fn called(checker: &dyn Checker, call: &str, images: &Images, out: &mut [u8]) ->
         None if call == "list" => checker.list(&images.catalogue, &images.fit, terms, out),
         None if call == "hall" => checker.hall(&images.catalogue, &images.hall),
         None if call == "widen" => checker.widen(&images.old, out),
+        None if call == "trim" => checker.trim(&images.catalogue, &images.fit, out),
         Some(("league", allowance)) => {
             let terms = Terms {
                 profile: &images.profile,
@@ -185,7 +186,7 @@ fn the_words_are_the_pages() {
         let word = u64::from_str_radix(word.strip_prefix("0x").unwrap(), 16).unwrap();
         let written = match call {
             "hall" => 0,
-            "widen" => word as u32 as usize,
+            "widen" | "trim" => word as u32 as usize,
             call if call.starts_with("train") => word as u32 as usize,
             _ => ENTRY * (word as u32 as usize),
         };
@@ -218,6 +219,27 @@ fn the_trained_fit_is_the_pages() {
             assert_eq!(word, expected.len() as u64, "{name}, {call}");
             let (trained, behind) = out.split_at(expected.len());
             assert_eq!(trained, expected, "{name}, {call}");
+            assert!(behind.iter().all(|byte| *byte == UNTOUCHED), "{name}");
+        }
+    }
+}
+
+/// What is left where nothing wants Mechanics is the page's.
+#[test]
+fn the_trimmed_catalogue_is_the_pages() {
+    let mut images = Images::of_the_page();
+    for (change, is_whole) in [(None, true), (Some("catalogue[188] = B7"), false)] {
+        change.into_iter().for_each(|change| images.change(change));
+        let catalogue = &images.catalogue;
+        let front = [bytes("trimmed"), catalogue[20..84].to_vec()].concat();
+        let trimmed = [behind(front, "trimmed types"), catalogue[164..].to_vec()].concat();
+        let expected = if is_whole { catalogue } else { &trimmed };
+        for (name, checker) in checkers() {
+            let mut out = vec![UNTOUCHED; 220];
+            let word = called(&*checker, "trim", &images, &mut out);
+            assert_eq!(word, expected.len() as u64, "{name}");
+            let (written, behind) = out.split_at(expected.len());
+            assert_eq!(written, expected, "{name}");
             assert!(behind.iter().all(|byte| *byte == UNTOUCHED), "{name}");
         }
     }

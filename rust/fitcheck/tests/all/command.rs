@@ -440,7 +440,7 @@ fn a_refused_walk_is_said_beside_the_list() {
     assert_eq!(
         ran.out,
         "clear: no rule is broken\nskills: lacking for 0 of 2 results, 1 refused\n  \
-         the character: refused by 9: the result wants more than 512 skills\n"
+         the character: refused by 9: a result wants more than 512 skills\n"
     );
     assert_eq!(ran.status, 0);
     let ran = officer(&["explain", &catalogue, &fit, "--json"]);
@@ -1197,6 +1197,141 @@ fn names_that_a_plan_would_need_are_said_to_be_missing() {
              these are not checked: required skills (second, third, fourth, fifth, sixth)\n"
         )
     );
+}
+
+/// A catalogue with two hulls, a module and a skill that it asks for, and a fit with
+/// the first hull and the module.
+fn trimmable(folder: &Path) -> (String, String) {
+    let names = [
+        (Attribute::RequiredSkill1, 182),
+        (Attribute::RequiredSkill1Level, 277),
+    ];
+    let catalogue = whole(&names)
+        .type_info(587, 25, 6, None)
+        .type_info(588, 25, 6, None)
+        .type_info(2048, 60, 7, Some(5.0))
+        .type_info(3394, 255, 16, None)
+        .link(588, 12)
+        .link(2048, 11)
+        .base(588, 182, 3301.0)
+        .base(2048, 182, 3394.0)
+        .base(3301, 182, 3300.0)
+        .base(3394, 277, 1.0)
+        .build()
+        .unwrap();
+    let asking = ItemResult::new(State::Online)
+        .with(182, 3394.0)
+        .with(277, 2.0);
+    let fit = FitBuilder::new(587)
+        .item(FitItem::new(2048, Slot::Low(0)), asking)
+        .build()
+        .unwrap();
+    (
+        put(folder, "types.bin", &catalogue),
+        put(folder, "fit.bin", &fit),
+    )
+}
+
+#[test]
+fn a_trim_says_what_it_saves_and_is_written() {
+    let folder = folder("trim");
+    let (catalogue, fit) = trimmable(&folder);
+    let new = folder.join("phone.bin").to_str().unwrap().to_string();
+    // A type of 20 bytes, a link of 8 and two base values of 16 go.
+    let before = fs::read(&catalogue).unwrap().len();
+    let (saved, now) = (20 + 8 + 2 * 16, before - (20 + 8 + 2 * 16));
+    let said = format!(
+        "{now} bytes of {before}: {saved} are saved, {} %\n  \
+         all names and effects, 3 of 4 types, 1 of 2 links, 2 of 4 base values\n",
+        100 * saved / before
+    );
+    let ran = fitcheck(&["trim", &catalogue, &fit]);
+    assert_eq!((ran.status, ran.out, &*ran.err), (0, said.clone(), ""));
+
+    let ran = fitcheck(&["trim", &catalogue, &fit, "-o", &new]);
+    let written = format!("{said}{new}: {now} bytes\n");
+    assert_eq!((ran.status, ran.out, &*ran.err), (0, written, ""));
+    assert_eq!(fs::read(&new).unwrap().len(), now);
+
+    // The fit is explained in the same words under both.
+    let explained = |catalogue: &str| officer(&["explain", catalogue, &fit]);
+    let (whole, small) = (explained(&catalogue), explained(&new));
+    assert_eq!((whole.status, whole.out), (small.status, small.out));
+
+    let again = folder.join("again.bin").to_str().unwrap().to_string();
+    let bytes = fs::read(&new).unwrap();
+    let ran = piped(&["trim", "-", &fit, "-o", &again], &bytes);
+    let nothing = format!("{now} bytes of {now}: nothing is saved: the fit touches all of it\n");
+    assert!(ran.out.starts_with(&nothing), "{}", ran.out);
+    assert_eq!(fs::read(&again).unwrap(), bytes);
+}
+
+#[test]
+fn a_trim_in_json() {
+    let folder = folder("trim_json");
+    let (catalogue, fit) = trimmable(&folder);
+    let ran = fitcheck(&["trim", &catalogue, &fit, "--json"]);
+    assert_eq!((ran.status, &*ran.err), (0, ""));
+    let value = Value::parse(&ran.out);
+    assert_eq!(value.get("status").text(), "trimmed");
+    assert_eq!(value.get("bytes_saved").number(), 60.0);
+    assert_eq!(value.get("types").get("now").number(), 3.0);
+    assert_eq!(value.get("types").get("before").number(), 4.0);
+}
+
+#[test]
+fn a_refused_trim_writes_nothing_and_no_file_that_is_read_is_overwritten() {
+    let folder = folder("trim_refused");
+    let (catalogue, fit) = trimmable(&folder);
+    let new = folder.join("phone.bin").to_str().unwrap().to_string();
+    // The second item asks for a chain of 513 skills.
+    let mut long = CatalogueBuilder::new();
+    long.name(Attribute::RequiredSkill1, 182)
+        .name(Attribute::RequiredSkill1Level, 277);
+    for skill in 1..513 {
+        long.base(skill, 182, f64::from(skill) + 1.0);
+    }
+    let long = put(&folder, "long.bin", &long.build().unwrap());
+    let mut asking = FitBuilder::new(587);
+    for skill in [513.0, 1.0] {
+        let result = ItemResult::new(State::Online).with(182, skill);
+        asking.item(FitItem::new(2048, Slot::Low(0)), result);
+    }
+    let asking = put(&folder, "asking.bin", &asking.build().unwrap());
+    for (types, image, blamed, number) in [
+        (&fit, &fit, &fit, 1),
+        (&catalogue, &catalogue, &catalogue, 4),
+        (&long, &asking, &asking, 9),
+    ] {
+        let ran = fitcheck(&["trim", types, image, "-o", &new, "--json"]);
+        assert_eq!(ran.status, 1);
+        let said = format!("fitcheck: {blamed}: refused by {number}: ");
+        assert!(ran.err.starts_with(&said), "{}", ran.err);
+        let refusal = Value::parse(&ran.out).get("refusal").get("number").number();
+        assert_eq!(refusal, f64::from(number));
+        assert!(!Path::new(&new).exists());
+    }
+    // A second name of the same file is no other file.
+    let second = folder.join("second.bin").to_str().unwrap().to_string();
+    fs::hard_link(&catalogue, &second).unwrap();
+    for read in [&catalogue, &fit, &second] {
+        let before = fs::read(read).unwrap();
+        let ran = fitcheck(&["trim", &catalogue, &fit, "-o", read]);
+        assert_eq!((ran.status, ran.out.as_str()), (1, ""));
+        assert!(ran.err.contains("it is read, so it is not written"));
+        assert_eq!(fs::read(read).unwrap(), before);
+    }
+    // Nor is what standard input is read from.
+    let before = fs::read(&catalogue).unwrap();
+    let ran = Command::new(env!("CARGO_BIN_EXE_fitcheck"))
+        .args(["trim", "-", &fit, "-o", &catalogue])
+        .stdin(fs::File::open(&catalogue).unwrap())
+        .output()
+        .unwrap();
+    assert_eq!(ran.status.code(), Some(1));
+    let said = String::from_utf8(ran.stderr).unwrap();
+    assert!(said.contains("it is read, so it is not written"), "{said}");
+    assert_eq!(fs::read(&catalogue).unwrap(), before);
 }
 
 /// A catalogue with a hull and a module of group 464, and a fit with one.

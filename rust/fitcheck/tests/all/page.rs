@@ -90,7 +90,7 @@ fn the_command_prints_what_the_page_shows() {
         assert_eq!(String::from_utf8(both).unwrap(), printed, "{command}");
         run += 1;
     }
-    assert!(run >= 26, "the page has {run} runs of the command");
+    assert!(run >= 31, "the page has {run} runs of the command");
 }
 
 #[test]
@@ -256,6 +256,12 @@ fn the_objects_in_json_have_the_fields_that_the_page_lists() {
         }
         let status = trained.get("status").text();
         assert_eq!(status, if steps == "9" { "trained" } else { "lacking" });
+    }
+    let trimmed = shown(&["trim", "types.bin", "fits/one.fit"]);
+    assert_eq!(trimmed.names(), row("`trim`"));
+    for kept in ["bytes", "types", "links", "bases"] {
+        let row = row("`bytes`, `types`, `links`, `bases` of `trim`");
+        assert_eq!(trimmed.get(kept).names(), row, "{kept}");
     }
     let refused = shown(&["explain", "types.bin", "fits/cut.fit"]);
     assert_eq!(refused.names(), row("a refused image"));

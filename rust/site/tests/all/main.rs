@@ -15,4 +15,5 @@ mod page;
 mod reader;
 mod threads;
 mod train;
+mod trim;
 mod widen;

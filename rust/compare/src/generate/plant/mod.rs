@@ -90,27 +90,52 @@ fn can_train(cause: Cause) -> bool {
     matches!(cause, Cause::Number(1..=6 | 8 | 9 | 16 | 10))
 }
 
+/// The plants that a call can meet which is refused for such causes.
+fn met(can_refuse: fn(Cause) -> bool) -> Vec<usize> {
+    let plants = plants().into_iter().enumerate();
+    let plants = plants.filter(|(_, plant)| can_refuse(plant.0));
+    plants.map(|(number, _)| number).collect()
+}
+
+/// Every two of such causes, the first to be given.
+fn met_together(can_refuse: fn(Cause) -> bool) -> Vec<(Cause, Cause)> {
+    let causes = CAUSES.into_iter().filter(|cause| can_refuse(*cause));
+    let causes: Vec<Cause> = causes.collect();
+    let mut found = Vec::new();
+    for (place, first) in causes.iter().enumerate() {
+        found.extend(causes[place + 1..].iter().map(|second| (*first, *second)));
+    }
+    found
+}
+
 /// The plants that a training can meet.
 pub fn training() -> Vec<usize> {
-    let plants = plants().into_iter().enumerate();
-    let plants = plants.filter(|(_, plant)| can_train(plant.0));
-    plants.map(|(number, _)| number).collect()
+    met(can_train)
 }
 
 /// The pairs of refusals that can meet in one training. A result that is not
 /// there wants no skills; beside 8, 16 is planted for the ship's result, and a
 /// buffer is too short for whatever fit there would be.
 pub fn training_pairs() -> Vec<(Cause, Cause)> {
-    let mut found = Vec::new();
-    let causes: Vec<Cause> = CAUSES
-        .into_iter()
-        .filter(|cause| can_train(*cause))
-        .collect();
-    for (place, first) in causes.iter().enumerate() {
-        found.extend(causes[place + 1..].iter().map(|second| (*first, *second)));
-    }
+    let mut found = met_together(can_train);
     found.retain(|pair| *pair != (Cause::Number(8), Cause::Number(9)));
     found
+}
+
+/// Whether a trim can be refused for a cause.
+fn can_trim(cause: Cause) -> bool {
+    matches!(cause, Cause::Number(1..=6 | 9 | 10))
+}
+
+/// The plants that a trim can meet.
+pub fn trimming() -> Vec<usize> {
+    met(can_trim)
+}
+
+/// The pairs of refusals that can meet in one trim: a buffer is too short for
+/// whatever catalogue there would be.
+pub fn trimming_pairs() -> Vec<(Cause, Cause)> {
+    met_together(can_trim)
 }
 
 /// Whether a widening can be refused for a cause.
@@ -120,9 +145,7 @@ pub fn can_widen(cause: Cause) -> bool {
 
 /// The plants that a widening can meet.
 pub fn widening() -> Vec<usize> {
-    let plants = plants().into_iter().enumerate();
-    let plants = plants.filter(|(_, plant)| can_widen(plant.0));
-    plants.map(|(number, _)| number).collect()
+    met(can_widen)
 }
 
 /// The pairs of refusals that can meet in one widening.
@@ -147,6 +170,7 @@ pub fn widened(mut case: Case) -> Case {
 pub enum Calls {
     Lists,
     Trainings,
+    Trims,
 }
 
 /// One plant alone.
@@ -165,6 +189,21 @@ pub fn together(rng: &mut Rng, ground: Ground, pair: (Cause, Cause), calls: Call
     planted(rng, ground, &both, calls)
 }
 
+/// One of some plants alone, or of each of two refusals one, which is more often.
+pub fn either(rng: &mut Rng, plants: &[usize], pairs: &[(Cause, Cause)], calls: Calls) -> Case {
+    let ground = Ground::realistic(rng);
+    match rng.chance(400) {
+        true => {
+            let way = rng.pick(plants);
+            alone(rng, ground, way, calls)
+        }
+        false => {
+            let pair = rng.pick(pairs);
+            together(rng, ground, pair, calls)
+        }
+    }
+}
+
 /// The later refusal is planted first, so that the earlier one surely stands.
 fn planted(rng: &mut Rng, mut ground: Ground, plants: &[Row], calls: Calls) -> Case {
     for (_, _, dig) in plants {
@@ -175,6 +214,8 @@ fn planted(rng: &mut Rng, mut ground: Ground, plants: &[Row], calls: Calls) -> C
     let takes_a_result = [8, 9, 20].map(Cause::Number).into_iter().any(has) || has(Cause::Skills);
     let ask = if calls == Calls::Trainings {
         Ask::Train(ground.result, steps(rng), ground.room)
+    } else if calls == Calls::Trims {
+        Ask::Trim(ground.room)
     } else if takes_a_result || (!takes_a_profile && rng.chance(400)) {
         Ask::Skill(ground.result, ground.room)
     } else {
@@ -222,6 +263,7 @@ mod tests {
         assert_eq!(pairs().len(), 93);
         assert_eq!(other_pairs(), 69);
         assert_eq!(training_pairs().len(), 44);
+        assert_eq!(trimming_pairs().len(), 28);
     }
 
     #[test]

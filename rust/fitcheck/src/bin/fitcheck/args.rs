@@ -14,6 +14,7 @@ Usage: fitcheck explain CATALOGUE FIT --as READER [--names FILE]
        fitcheck pack FIT.txt [--types FILE] [--out FOLDER]
        fitcheck profile WORDS NEW [--names FILE]
        fitcheck train CATALOGUE FIT --result N [--steps N] [-o FILE] [--names FILE] [--json]
+       fitcheck trim CATALOGUE FIT [-o FILE] [--json]
        fitcheck widen OLD NEW
        fitcheck --help | --version";
 
@@ -26,6 +27,7 @@ Usage: fitcheck explain CATALOGUE FIT --as READER [--names FILE]
        fitcheck pack FIT.txt [--types FILE] [--out FOLDER]
        fitcheck profile WORDS NEW [--names FILE]
        fitcheck train CATALOGUE FIT --result N [--steps N] [-o FILE] [--names FILE] [--json]
+       fitcheck trim CATALOGUE FIT [-o FILE] [--json]
        fitcheck widen OLD NEW
        fitcheck --help | --version
 
@@ -48,6 +50,10 @@ train    A plan, tried before it is trained: which levels the ship, the characte
          or an item lacks, skill by skill, each before those that it demands, and
          with -o the fit that training leads to. What it says is the pilot's and the
          officers' business, and not for guests.
+trim     The part of a catalogue that one fit touches, for a page that fetches no
+         more: how many bytes it takes and how many are saved, and with -o the
+         catalogue itself. Under it that fit is judged as under the whole one;
+         another fit may not be.
 widen    An old catalogue, whose base values are f32, made into the file NEW in
          the form that the other commands read.
 
@@ -72,7 +78,8 @@ the FILE of -o are written, and are no file that is read, nor -.
 --result N    What is trained for: 0 is the ship, 1 the character, 2 the first
               item, and so on. It has to be named.
 --steps N     So many levels, from the first on; else all that are missing.
--o FILE       Where the trained fit goes; else it is not written.
+-o FILE       Where the trained fit or the trimmed catalogue goes; else it is not
+              written.
 --types FILE  The catalogue in words; else types.txt beside FIT.txt or one
               folder above it.
 --out FOLDER  Where the images go; else beside FIT.txt.
@@ -85,7 +92,7 @@ Status: 0  explain: the fit is clear, which is that no rule is broken and all
            of it was checked (skills may be lacking); for a guest, that nothing
            is listed and all of it was checked;
            hall: all files counted, whatever the numbers;
-           pack, profile, widen: written; train: said, and written with -o
+           pack, profile, widen: written; train, trim: said, and written with -o
         1  refused, or a file cannot be read or written
         2  wrong usage
         3  explain: the fit is faulted
@@ -100,6 +107,7 @@ pub enum Command {
     Pack(Pack),
     Profile(Profile),
     Train(Train),
+    Trim(Trim),
     Widen(Widen),
 }
 
@@ -146,6 +154,14 @@ pub struct Train {
     pub steps: Option<u32>,
     pub new: Option<PathBuf>,
     pub names: Option<PathBuf>,
+    pub json: bool,
+}
+
+#[derive(Debug, PartialEq)]
+pub struct Trim {
+    pub catalogue: Source,
+    pub fit: Source,
+    pub new: Option<PathBuf>,
     pub json: bool,
 }
 
@@ -270,6 +286,15 @@ pub fn parse(line: impl IntoIterator<Item = OsString>) -> Result<Command, String
             names: words.value("--names"),
         }),
         Some("train") => train(&mut words, &mut next)?,
+        Some("trim") => {
+            let (catalogue, fit) = images(&mut next)?;
+            Command::Trim(Trim {
+                catalogue,
+                fit,
+                new: new_file(&mut words)?,
+                json: std::mem::take(&mut words.json),
+            })
+        }
         Some("widen") => Command::Widen(Widen {
             old: source(next("OLD")?),
             new: written(next("NEW")?)?,
@@ -310,14 +335,13 @@ fn train(
                 .to_string(),
         );
     };
-    let new = words.value("-o");
-    let new = new.map(|new| written((new.into_os_string(), false)));
+    let new = new_file(words)?;
     Ok(Command::Train(Train {
         catalogue,
         fit,
         result,
         steps: named_number(words, "--steps")?,
-        new: new.transpose()?,
+        new,
         names: words.value("--names"),
         json: std::mem::take(&mut words.json),
     }))
@@ -408,6 +432,13 @@ fn written((word, is_path): (OsString, bool)) -> Result<PathBuf, String> {
         true => Err("- is no file to write: standard output has what is said".to_string()),
         false => Ok(word.into()),
     }
+}
+
+/// The file that `-o` names, where it stands.
+fn new_file(words: &mut Words) -> Result<Option<PathBuf>, String> {
+    let new = words.value("-o");
+    new.map(|new| written((new.into_os_string(), false)))
+        .transpose()
 }
 
 #[cfg(test)]
@@ -512,6 +543,25 @@ mod tests {
     }
 
     #[test]
+    fn a_trim_is_written_where_a_file_is_named() {
+        let trimmed = |new: Option<&str>, json: bool| {
+            Command::Trim(Trim {
+                catalogue: file("c"),
+                fit: Source::StandardInput,
+                new: new.map(PathBuf::from),
+                json,
+            })
+        };
+        for (line, expected) in [
+            ("trim c -", trimmed(None, false)),
+            ("trim c - -o n", trimmed(Some("n"), false)),
+            ("trim --json -o=n c -", trimmed(Some("n"), true)),
+        ] {
+            assert_eq!(parsed(line), Ok(expected), "{line}");
+        }
+    }
+
+    #[test]
     fn a_limit_that_is_not_named_is_the_main_pages() {
         let under = |limits: Limits| {
             Command::Explain(Explain {
@@ -592,6 +642,7 @@ mod tests {
             ("widen o -", NO_FILE),
             ("profile w -", NO_FILE),
             ("train c f --result 0 -o -", NO_FILE),
+            ("trim c f -o -", NO_FILE),
             ("train c f --result 0 -o=-", NO_FILE),
             ("widen o n --json", "widen takes no --json"),
             ("train c", "train wants a FIT"),
@@ -615,6 +666,10 @@ mod tests {
                 "train - - --result 0",
                 "standard input is one image, not both",
             ),
+            ("trim c", "trim wants a FIT"),
+            ("trim c f --names n", "trim takes no --names"),
+            ("trim c f g", "g is one word too many"),
+            ("trim - -", "standard input is one image, not both"),
             (
                 "explain c f --as pilot --steps 1",
                 "explain takes no --steps",

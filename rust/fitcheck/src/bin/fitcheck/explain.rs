@@ -2,11 +2,11 @@
 
 use std::io::Write;
 
-use fitcheck::{Explainer, ListOptions, Refusal, Report};
+use fitcheck::{Explainer, ListOptions, Report};
 
 use crate::args::Explain;
 use crate::files::{self, Source};
-use crate::{DONE, FAULTED, Trouble, refused, warn};
+use crate::{DONE, FAULTED, Trouble, blamed, refused, warn};
 
 pub fn run(asked: &Explain, out: &mut impl Write) -> Result<u8, Trouble> {
     let names = files::names(asked.names.as_deref())?;
@@ -22,7 +22,15 @@ pub fn run(asked: &Explain, out: &mut impl Write) -> Result<u8, Trouble> {
 
     let report = match Report::new(&catalogue, &fit, &options) {
         Ok(report) => report,
-        Err(refusal) => return refused(out, &blamed(asked, refusal), refusal, asked.json),
+        Err(refusal) => {
+            let profile = asked.league.as_ref().map(|league| &league.0);
+            let profile = profile.filter(|_| refusal.is_of_profile());
+            let source = match profile {
+                Some(path) => &Source::File(path.clone()),
+                None => blamed(refusal, &asked.catalogue, &asked.fit),
+            };
+            return refused(out, source, refusal, asked.json);
+        }
     };
     warn(&asked.catalogue, &catalogue);
     let explainer = Explainer::new(&fit, &names);
@@ -31,13 +39,4 @@ pub fn run(asked: &Explain, out: &mut impl Write) -> Result<u8, Trouble> {
         false => out.write_all(report.text(&explainer).as_bytes())?,
     }
     Ok(if report.is_faulted() { FAULTED } else { DONE })
-}
-
-/// What is refused.
-fn blamed(asked: &Explain, refusal: Refusal) -> Source {
-    match &asked.league {
-        Some((path, _)) if refusal.is_of_profile() => Source::File(path.clone()),
-        _ if refusal.is_of_catalogue() => asked.catalogue.clone(),
-        _ => asked.fit.clone(),
-    }
 }

@@ -2,8 +2,10 @@
 
 use std::ffi::{OsStr, OsString};
 use std::fmt;
-use std::fs::{self, File};
+use std::fs::{self, File, Metadata};
 use std::io::{self, Read};
+use std::os::fd::AsFd;
+use std::os::unix::fs::MetadataExt;
 use std::path::{Path, PathBuf};
 
 use fitcheck::{CATALOGUE_BYTES, FIT_BYTES, Names, PROFILE_BYTES};
@@ -16,11 +18,14 @@ pub enum Source {
 }
 
 impl Source {
-    /// The file, where it is one.
-    pub fn file(&self) -> Option<&Path> {
+    /// What is behind it, where that can be told.
+    pub fn metadata(&self) -> Option<Metadata> {
         match self {
-            Source::File(path) => Some(path),
-            Source::StandardInput => None,
+            Source::File(path) => metadata(path),
+            Source::StandardInput => {
+                let input = io::stdin().as_fd().try_clone_to_owned().ok()?;
+                File::from(input).metadata().ok()
+            }
         }
     }
 }
@@ -73,26 +78,6 @@ fn at_most(source: &Source, longest: usize) -> io::Result<Vec<u8>> {
     Ok(bytes)
 }
 
-/// Whether a file may be written: not where it is one of those that are read, under
-/// whatever path.
-pub fn not_read<'a>(
-    new: &Path,
-    read: impl IntoIterator<Item = Option<&'a Path>>,
-) -> Result<(), String> {
-    let same = fs::canonicalize(new);
-    let is_new = |path: &Path| {
-        let as_new = |new: &PathBuf| fs::canonicalize(path).is_ok_and(|it| it == *new);
-        path == new || same.as_ref().is_ok_and(as_new)
-    };
-    match read.into_iter().flatten().any(is_new) {
-        true => {
-            let path = shown(new.as_os_str());
-            Err(format!("{path}: it is read, so it is not written"))
-        }
-        false => Ok(()),
-    }
-}
-
 /// The names of a file; none without one.
 pub fn names(path: Option<&Path>) -> Result<Names, String> {
     let Some(path) = path else {
@@ -122,6 +107,23 @@ pub fn fits(folder: &Path) -> Result<Vec<(OsString, PathBuf)>, String> {
     }
     files.sort();
     Ok(files)
+}
+
+/// What is behind a path, where that can be told.
+pub fn metadata(path: &Path) -> Option<Metadata> {
+    fs::metadata(path).ok()
+}
+
+/// Writes a file that is none of those that are read, by whatever path or link: what
+/// is asked about stays as it is.
+pub fn write(new: &Path, bytes: &[u8], read: &[Option<Metadata>]) -> Result<(), String> {
+    let there = fs::metadata(new).ok().map(|new| (new.dev(), new.ino()));
+    let is_new = |read: &Metadata| there == Some((read.dev(), read.ino()));
+    if read.iter().flatten().any(is_new) {
+        let path = shown(new.as_os_str());
+        return Err(format!("{path}: it is read, so it is not written"));
+    }
+    fs::write(new, bytes).map_err(|error| about(new, &error))
 }
 
 /// What is wrong with a file.

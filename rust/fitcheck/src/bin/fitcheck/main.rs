@@ -10,6 +10,7 @@ mod hall;
 mod pack;
 mod profile;
 mod train;
+mod trim;
 mod widen;
 
 use std::io::{self, ErrorKind, Write};
@@ -69,6 +70,14 @@ fn refused(
     Ok(FAILED)
 }
 
+/// The image that a refusal is about, of the two that a call takes.
+fn blamed<'a>(refusal: Refusal, catalogue: &'a Source, fit: &'a Source) -> &'a Source {
+    match refusal.is_of_catalogue() {
+        true => catalogue,
+        false => fit,
+    }
+}
+
 /// Warns of what a catalogue leaves unchecked.
 fn warn(source: &Source, catalogue: &[u8]) {
     let missing = CatalogueImage::new(catalogue).map(|catalogue| catalogue.missing());
@@ -93,6 +102,7 @@ fn run(out: &mut impl Write) -> Result<u8, Trouble> {
         Ok(Command::Pack(asked)) => pack::run(&asked, out),
         Ok(Command::Profile(asked)) => profile::run(&asked, out),
         Ok(Command::Train(asked)) => train::run(&asked, out),
+        Ok(Command::Trim(asked)) => trim::run(&asked, out),
         Ok(Command::Widen(asked)) => widen::run(&asked, out),
         Err(wrong) => {
             complain(&format!("{wrong}\n\n{}", args::USAGE));

@@ -1,6 +1,5 @@
 //! `fitcheck profile`: a league's profile in words made into its image.
 
-use std::fs;
 use std::io::Write;
 
 use fitcheck::text;
@@ -14,12 +13,9 @@ pub fn run(asked: &Profile, out: &mut impl Write) -> Result<u8, Trouble> {
     let words = files::text(&asked.words)?;
     let profile = text::profile(&words, &names).map_err(|error| about(&asked.words, &error))?;
     let path = shown(asked.new.as_os_str());
-    files::not_read(
-        &asked.new,
-        [Some(asked.words.as_path()), asked.names.as_deref()],
-    )?;
     let image = profile.to_bytes();
-    fs::write(&asked.new, &image).map_err(|error| about(&asked.new, &error))?;
+    let names = asked.names.as_deref().and_then(files::metadata);
+    files::write(&asked.new, &image, &[files::metadata(&asked.words), names])?;
     writeln!(out, "{path}: {} bytes", image.len())?;
     Ok(DONE)
 }

@@ -1,14 +1,13 @@
 //! `fitcheck train`: what training for one result comes to, and the fit that it
 //! leads to.
 
-use std::fs;
 use std::io::Write;
 
 use fitcheck::{Attribute, CatalogueImage, Explainer, TrainingPlan};
 
 use crate::args::Train;
-use crate::files::{self, Source, about, shown};
-use crate::{DONE, Trouble, complain, refused};
+use crate::files::{self, Source, shown};
+use crate::{DONE, Trouble, blamed, complain, refused};
 
 pub fn run(asked: &Train, out: &mut impl Write) -> Result<u8, Trouble> {
     let names = files::names(asked.names.as_deref())?;
@@ -20,10 +19,7 @@ pub fn run(asked: &Train, out: &mut impl Write) -> Result<u8, Trouble> {
     let trained = match trained {
         Ok(trained) => trained,
         Err(refusal) => {
-            let source = match refusal.is_of_catalogue() {
-                true => &asked.catalogue,
-                false => &asked.fit,
-            };
+            let source = blamed(refusal, &asked.catalogue, &asked.fit);
             return refused(out, source, refusal, asked.json);
         }
     };
@@ -31,10 +27,9 @@ pub fn run(asked: &Train, out: &mut impl Write) -> Result<u8, Trouble> {
     if let Some(new) = &asked.new {
         // The fit itself is among those that are read: a plan that is tried leaves it
         // as it is.
-        let names = asked.names.as_deref();
-        let read = [asked.catalogue.file(), asked.fit.file(), names];
-        files::not_read(new, read)?;
-        fs::write(new, trained.fit()).map_err(|error| about(new, &error))?;
+        let names = asked.names.as_deref().and_then(files::metadata);
+        let read = [asked.catalogue.metadata(), asked.fit.metadata(), names];
+        files::write(new, trained.fit(), &read)?;
     }
 
     let explainer = Explainer::new(&fit, &names);

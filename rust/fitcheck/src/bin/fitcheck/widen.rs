@@ -1,12 +1,11 @@
 //! `fitcheck widen`: an old catalogue made into one of today's form.
 
-use std::fs;
 use std::io::Write;
 
 use fitcheck::CATALOGUE_BYTES;
 
 use crate::args::Widen;
-use crate::files::{self, about, shown};
+use crate::files::{self, shown};
 use crate::{DONE, Trouble, complain, refused};
 
 pub fn run(asked: &Widen, out: &mut impl Write) -> Result<u8, Trouble> {
@@ -16,8 +15,7 @@ pub fn run(asked: &Widen, out: &mut impl Write) -> Result<u8, Trouble> {
         Err(refusal) => return refused(out, &asked.old, refusal, false),
     };
     let path = shown(asked.new.as_os_str());
-    files::not_read(&asked.new, [asked.old.file()])?;
-    fs::write(&asked.new, &new).map_err(|error| about(&asked.new, &error))?;
+    files::write(&asked.new, &new, &[asked.old.metadata()])?;
     if new.len() > CATALOGUE_BYTES {
         complain(&format!(
             "{path}: warning: it is over {CATALOGUE_BYTES} bytes, and the other calls refuse it"
