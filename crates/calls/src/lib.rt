@@ -28,7 +28,7 @@ use profile::Profile;
 use skill::Walk;
 
 // The bytes of the longest list of any fit.
-const ANY_LIST: usize = sizes::ENTRY_SIZE * lists::MOST_ENTRIES;
+pub const ANY_LIST: usize = sizes::ENTRY_SIZE * lists::MOST_ENTRIES;
 
 // Lists of few pairs need less: setting as many bytes as any list takes to 0 costs time.
 const SMALL_PLACE: usize = 12288;

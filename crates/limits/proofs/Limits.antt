@@ -9,7 +9,10 @@ use mathlib.Core.Bool.{Bool, true, false, cond, ◌&&◌}
 use mathlib.Core.List.{List, [], map}
 use mathlib.Core.Logic.{⊎_elim}
 use Rattle.std.specs.Prelude.{Option, None, Some}
+use Rattle.std.specs.Prelude.{slice_get}
 use Rattle.std.specs.Bool.{then_some}
+use Rattle.std.specs.Option.{option_map}
+use Rattle.std.proofs.lemmas.Option.{slice_get-map}
 use lib.Dec.{ltb, leb, leb-suc-zero, leb-suc-suc}
 use lib.Ieee.{Float}
 use lib.ListN.{length, get_or, get_or-map, set}
@@ -30,7 +33,7 @@ use Rattle.context.proofs.Loops.{said-then}
 use Rattle.numbers.specs.declared.GroupLimit.{GroupLimit}
 use Rattle.numbers.specs.declared.GroupLimit.TheVariants.{Fitted}
 use Rattle.limits.specs.declared.Row.{Row}
-use Rattle.limits.specs.Rows.{row_of}
+use Rattle.limits.specs.Rows.{row_of, row_said, row_numbered}
 use Rattle.limits.specs.Limits.{group_limit_rows, in_group, allowed_at, group_limit_at, group_limit, group_limits, of_type, type_limit_at, type_limit}
 
 -- one element more of an array that is filled
@@ -167,3 +170,11 @@ row g = record { limit = g.0; lowest = g.1; name = g.2 }
 -- row k of the code's table, as the definition has it
 pub row_is : (k : ℕ) → row_of (get_or (map row group_limit_rows) k (row (Fitted, 0, 0))) ≡ get_or group_limit_rows k (Fitted, 0, 0)
 row_is k = ap row_of (get_or-map row group_limit_rows k (Fitted, 0, 0))
+
+-- the row that is found by its number
+pub row_found : (n : ℕ) {o : Option Row} → o ≡ slice_get (map row group_limit_rows) n → row_said o ≡ row_numbered n
+row_found n e = ap (option_map row_of) (e ∙ slice_get-map row group_limit_rows n) ∙ back (slice_get group_limit_rows n)
+  where
+    back : (o : Option (GroupLimit × ℕ × ℕ)) → option_map row_of (option_map row o) ≡ o
+    back None = refl
+    back (Some g) = refl

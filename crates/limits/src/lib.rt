@@ -9,7 +9,7 @@ ghost use Rattle.entry.specs.Emitted.{Emitted};
 ghost use Rattle.context.specs.Context.{said};
 ghost use Rattle.context.specs.Gathered.{pair_count};
 ghost use Rattle.context.specs.Held.{pair_in, pairs_in, context_in};
-ghost use Rattle.limits.specs.Rows.{row_of};
+ghost use Rattle.limits.specs.Rows.{row_of, row_said, row_numbered};
 ghost use Rattle.limits.specs.Groups.{Groups, States, state_of};
 ghost use Rattle.limits.specs.Limits.{in_group, allowed_at, group_limit_at, group_limit, group_limits};
 ghost use Rattle.limits.specs.Limits.{of_type, type_limit_at, type_limit, limit_rules};
@@ -20,10 +20,10 @@ use numbers::{GroupLimit, names, states};
 
 // A group limit, the lowest state that it counts, and its attribute.
 #[derive(Clone, Copy)]
-struct Row {
-    limit: GroupLimit,
-    lowest: u8,
-    name: u32,
+pub struct Row {
+    pub limit: GroupLimit,
+    pub lowest: u8,
+    pub name: u32,
 }
 
 const GROUP_LIMITS: [Row; 3] = [
@@ -44,6 +44,13 @@ const GROUP_LIMITS: [Row; 3] = [
     },
 ];
 
+// The row of a group limit by its number.
+pub fn row_at(number: u8) -> Option<Row>
+    ensures { row_said result ≡ row_numbered number }
+{
+    GROUP_LIMITS.get(number as usize).copied()
+}
+
 // The state of pair i as limits count it: one above its own where it is fitted, else 0.
 fn state_at(context: &Context, i: usize) -> u32
     requires { i < pair_count context.now.fit.now }
@@ -53,6 +60,15 @@ fn state_at(context: &Context, i: usize) -> u32
         return u32::from(context.fit.result_state(i + 2)) + 1;
     }
     0
+}
+
+// Whether pair i is fitted, of the group, and in a state that a limit looks at: of one limit, where `Counted` serves all of them.
+pub fn in_group(context: &Context, group: i32, lowest: u8, i: usize) -> bool
+    requires { i < pair_count context.now.fit.now }
+    ensures { result ≡ in_group group lowest (pair_in context.now i) }
+{
+    let own = context.type_at(i).map_or(0, |info| info.group);
+    context.is_fitted_at(i) & (own == group) & (lowest <= context.fit.result_state(i + 2))
 }
 
 // How many a limit of pair i allows, if the pair has it and is fitted.
@@ -150,7 +166,8 @@ pub fn group_limits(context: &Context, entries: &mut Entries)
     }
 }
 
-fn of_type(context: &Context, id: i32, i: usize) -> bool
+// Whether pair i is fitted and of the type.
+pub fn of_type(context: &Context, id: i32, i: usize) -> bool
     requires { i < pair_count context.now.fit.now }
     ensures { result ≡ of_type id (pair_in context.now i) }
 {

@@ -47,6 +47,14 @@ bad_prices = 12
 abbrev pub over_limit : ℕ
 over_limit = 13
 
+-- a position beyond the list
+abbrev pub no_entry : ℕ
+no_entry = 14
+
+-- the volume of a pair in Cargo
+abbrev pub bad_volume : ℕ
+bad_volume = 15
+
 -- more skills than may be listed, once those that lack were added
 abbrev pub too_many_listed : ℕ
 too_many_listed = 16

@@ -3,7 +3,7 @@ use Rattle.std.specs.Prelude.{ℕ, Result, Ok, Err}
 use Rattle.numbers.specs.Refusals as Refusals
 use Rattle.numbers.specs.declared.refusals.Refusal.{Refusal}
 use Rattle.numbers.specs.declared.refusals.Refusal.TheVariants.{BadLength, BadKeys, BadEntry, BadSize, BadIds, BadField, NoResult, TooManySkills}
-use Rattle.numbers.specs.declared.refusals.Refusal.TheVariants.{TooShort, BadProfile, BadPrices, OverLimit, TooManyListed, NoReader, NotForGuests}
+use Rattle.numbers.specs.declared.refusals.Refusal.TheVariants.{TooShort, BadProfile, BadPrices, OverLimit, NoEntry, BadVolume, TooManyListed, NoReader, NotForGuests}
 
 abbrev pub number : Refusal → ℕ
 number BadLength = Refusals.bad_length
@@ -18,6 +18,8 @@ number TooShort = Refusals.too_short
 number BadProfile = Refusals.bad_profile
 number BadPrices = Refusals.bad_prices
 number OverLimit = Refusals.over_limit
+number NoEntry = Refusals.no_entry
+number BadVolume = Refusals.bad_volume
 number TooManyListed = Refusals.too_many_listed
 number NoReader = Refusals.no_reader
 number NotForGuests = Refusals.not_for_guests

@@ -16,6 +16,8 @@ pub enum Refusal {
     BadProfile = 11,
     BadPrices = 12,
     OverLimit = 13,
+    NoEntry = 14,
+    BadVolume = 15,
     TooManyListed = 16,
     NoReader = 19,
     NotForGuests = 20,

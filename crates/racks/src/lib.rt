@@ -8,7 +8,7 @@ ghost use Rattle.entry.specs.Emitted.{Emitted};
 ghost use Rattle.context.specs.Gathered.{pair_count};
 ghost use Rattle.context.specs.Held.{pair_in, pairs_in, context_in};
 ghost use Rattle.racks.specs.Racks.{takes_hardpoint, racks_and_hardpoints};
-ghost use Rattle.racks.specs.Taking.{takes, taken, row_of};
+ghost use Rattle.racks.specs.Taking.{takes, taken, row_of, row_said, row_numbered};
 
 use context::Context;
 use entry::{Entries, Entry, Rule, Target};
@@ -16,9 +16,9 @@ use numbers::{SlotKind, names};
 
 // A slot, and the name of the ship attribute saying how many of them it has.
 #[derive(Clone, Copy)]
-struct Row {
-    slot: SlotKind,
-    name: u32,
+pub struct Row {
+    pub slot: SlotKind,
+    pub name: u32,
 }
 
 // A ship without the attribute has no such rack at all.
@@ -61,6 +61,17 @@ const HARDPOINTS: [Row; 2] = [
     },
 ];
 
+// The row of a kind of slot by its number, in either table.
+pub fn row_at(number: u8) -> Option<Row>
+    ensures { row_said result ≡ row_numbered number }
+{
+    let i = number as usize;
+    if i < RACKS.len() {
+        return RACKS.get(i).copied();
+    }
+    HARDPOINTS.get(i - RACKS.len()).copied()
+}
+
 // Whether pair i is fitted and takes a hardpoint.
 fn takes_hardpoint(context: &Context, slot: SlotKind, i: usize) -> bool
     requires { i < pair_count context.now.fit.now }
@@ -69,7 +80,18 @@ fn takes_hardpoint(context: &Context, slot: SlotKind, i: usize) -> bool
     context.is_fitted_at(i) & (context.hardpoint(i) == Some(slot as u8))
 }
 
-// How many pairs sit in a rack or take a hardpoint.
+// Whether pair i sits in a rack or takes a hardpoint.
+pub fn takes(context: &Context, slot: SlotKind, i: usize) -> bool
+    requires { i < pair_count context.now.fit.now }
+    ensures { result ≡ takes slot (pair_in context.now i) }
+{
+    match slot {
+        SlotKind::Turret | SlotKind::Launcher => takes_hardpoint(context, slot, i),
+        _ => context.is_in(i, slot as u8),
+    }
+}
+
+// How many pairs sit in a rack or take a hardpoint. Not by `takes`, which would ask of each pair which slot it is.
 fn used(context: &Context, slot: SlotKind) -> u32
     ensures { result ≡ count_of (takes slot) (pairs_in context.now) }
 {

@@ -129,7 +129,7 @@ fn loads(context: &Context, entries: &mut Entries)
 }
 
 // A stack of drones that is in space.
-fn launched_at(context: &Context, i: usize) -> u64
+pub fn launched_at(context: &Context, i: usize) -> u64
     requires { i < pair_count context.now.fit.now }
     ensures { let p = pair_in context.now i in
         (result ≡ (if is_launched p then p.quantity else 0)) × (result < 4294967296) }
@@ -174,7 +174,7 @@ fn launched_drones(context: &Context, entries: &mut Entries)
 }
 
 // The room that pair i takes up in the cargo bay. A type that the catalogue lacks takes up none.
-fn room_at(context: &Context, i: usize) -> f64
+pub fn room_at(context: &Context, i: usize) -> f64
     requires { i < pair_count context.now.fit.now }
     ensures { result ≡ cargo_volume (pair_in context.now i) }
 {

@@ -65,8 +65,19 @@ fn holds_one(context: &Context, i: usize) -> bool
     !((slot == slots::DRONE_BAY) | (slot == slots::FIGHTER_BAY) | (slot == slots::CARGO))
 }
 
+// Whether pair j is another than pair i, in the same slot: of one pair, where `Prepared` serves all of them.
+#[tactic(auto, unfolding(crate::specs::Slot::shares_slot, context::specs::Context::is_other))]
+pub fn in_slot_of(context: &Context, i: usize, j: usize) -> bool
+    requires { (i < pair_count context.now.fit.now) × (j < pair_count context.now.fit.now) }
+    ensures { result ≡ shares_slot (pair_in context.now i) (pair_in context.now j) }
+{
+    let fit = context.fit;
+    let same_slot = fit.item_slot(j) == fit.item_slot(i);
+    (j != i) & (same_slot & (fit.item_index(j) == fit.item_index(i)))
+}
+
 // Whether pair j is a subsystem for the part, and another than pair i. A NaN is no part.
-fn same_part(context: &Context, id: i32, part: f64, i: usize, j: usize) -> bool
+pub fn same_part(context: &Context, id: i32, part: f64, i: usize, j: usize) -> bool
     requires { j < pair_count context.now.fit.now }
     ensures { result ≡ shares_part id part (pair_in context.now i) (pair_in context.now j) }
 {

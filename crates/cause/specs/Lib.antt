@@ -1,0 +1,3 @@
+pub mod Cause
+pub mod Members
+pub mod Decided
