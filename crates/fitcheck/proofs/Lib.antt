@@ -1,6 +1,7 @@
--- Laws of the calls: their readers, the fits of a hall, the widening, the training.
+-- Laws of the calls: their readers, the fits of a hall, the widening, the training, the trimming, the cause.
 pub mod Reading
 pub mod HallLaws
 pub mod Widening
 pub mod Training
 pub mod Trimming
+pub mod Causing

@@ -4,3 +4,4 @@ pub mod Standing
 pub mod Widen
 pub mod Train
 pub mod Trim
+pub mod Cause

@@ -13,6 +13,7 @@ ghost use Rattle.fitcheck.specs.Hall.{hall_call, hall_returned};
 ghost use Rattle.fitcheck.specs.Widen.{widen_call};
 ghost use Rattle.fitcheck.specs.Train.{train_call};
 ghost use Rattle.fitcheck.specs.Trim.{trim_call};
+ghost use Rattle.fitcheck.specs.Cause.{cause_call};
 
 use calls::word;
 use catalogue::Catalogue;
@@ -180,9 +181,31 @@ pub fn fit_trim(catalogue: &[u8], fit: &[u8], out: &mut [u8]) -> u64
     word(answer_trim(catalogue, fit, out))
 }
 
-// The number of this set of calls and images, in the symbol's name: a caller written for another set does not link.
-pub fn fit_interface_8() -> u64
-    ensures { result ≡ 8 }
+fn answer_cause(
+    catalogue: &[u8],
+    fit: &[u8],
+    position: u32,
+    out: &mut [u8],
+) -> Result<usize, Refusal>
+    ensures { GaveBytes out.old out.new (word_of result) (cause_call catalogue.now fit.now position out.old) }
 {
-    8
+    calls::check_images(catalogue, fit)?;
+    let catalogue = Catalogue::new(catalogue);
+    let fit = Fit::new(fit);
+    cause::cause(&catalogue, &fit, position, out)
+}
+
+// The cause: the smallest part of a fit that shows an entry of its list.
+pub fn fit_cause(catalogue: &[u8], fit: &[u8], position: u32, out: &mut [u8]) -> u64
+    ensures { let call = cause_call catalogue.now fit.now position out.old in
+        (result ≡ output_word call) × (out.new ≡ filled out.old call) }
+{
+    word(answer_cause(catalogue, fit, position, out))
+}
+
+// The number of this set of calls and images, in the symbol's name: a caller written for another set does not link.
+pub fn fit_interface_9() -> u64
+    ensures { result ≡ 9 }
+{
+    9
 }

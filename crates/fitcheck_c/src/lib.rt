@@ -10,6 +10,7 @@ ghost use Rattle.fitcheck.specs.Hall.{hall_call, hall_returned};
 ghost use Rattle.fitcheck.specs.Widen.{widen_call};
 ghost use Rattle.fitcheck.specs.Train.{train_call};
 ghost use Rattle.fitcheck.specs.Trim.{trim_call};
+ghost use Rattle.fitcheck.specs.Cause.{cause_call};
 
 // The list call.
 #[unsafe(no_mangle)]
@@ -91,10 +92,19 @@ pub extern "C" fn fit_trim(catalogue: &[u8], fit: &[u8], out: &mut [u8]) -> u64
     fitcheck::fit_trim(catalogue, fit, out)
 }
 
+// The cause.
+#[unsafe(no_mangle)]
+pub extern "C" fn fit_cause(catalogue: &[u8], fit: &[u8], position: u32, out: &mut [u8]) -> u64
+    ensures { let call = cause_call catalogue.now fit.now position out.old in
+        (result ≡ output_word call) × (out.new ≡ filled out.old call) }
+{
+    fitcheck::fit_cause(catalogue, fit, position, out)
+}
+
 // The number of this set of calls and images, in the symbol's name.
 #[unsafe(no_mangle)]
-pub extern "C" fn fit_interface_8() -> u64
-    ensures { result ≡ 8 }
+pub extern "C" fn fit_interface_9() -> u64
+    ensures { result ≡ 9 }
 {
-    fitcheck::fit_interface_8()
+    fitcheck::fit_interface_9()
 }

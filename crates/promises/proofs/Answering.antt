@@ -16,7 +16,7 @@ use Rattle.calls.specs.Answers.{answer_by, answer, buffered, returned}
 use Rattle.calls.proofs.First.{Numbered}
 use Rattle.promises.specs.Answers.{outcome, refusal, Conditions, highest, None, Answers}
 use Rattle.promises.proofs.Conditions.{is_none, word-refused, word-answered, word-numbered}
-use Rattle.promises.proofs.Entries.{entry_at, entries-length}
+use Rattle.cause.proofs.Entries.{entry_at, entries-length}
 
 -- ---- an element by its place
 pub elem_at : {A : Type 0} (l : List A) (i : ℕ) (x : A) → slice_get l i ≡ Some x → (i < length l) × (get_or l i x ≡ x)

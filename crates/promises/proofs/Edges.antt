@@ -13,10 +13,12 @@ use Rattle.promises.specs.PageCases.{PAIRS, PAGES}
 use Rattle.promises.specs.ReaderCases.{TOLD, READERS}
 use Rattle.promises.specs.TrainCases.{TRAINED, FULL}
 use Rattle.promises.specs.TrimCases.{TRIMMED}
+use Rattle.promises.specs.CauseCases.{CAUSED, COUNTED, SHARED, SUMMED, UNCAUSED, ASKED}
 use Rattle.promises.specs.Edges.{STARRED, SKILLS, PARTS, EDGES, Agree}
 use Rattle.words.proofs.All.{All, nil, cons}
 use Rattle.promises.proofs.Opened.{opened}
 use Rattle.promises.proofs.Large.{agree_large, agree_limits}
+use Rattle.promises.proofs.Thronged.{agree_thronged}
 
 -- ---- part by part, so that an outcome that fails is found
 agree_starred : Agree STARRED
@@ -159,6 +161,30 @@ agree_trimmed : Agree TRIMMED
 unfolding opened
 agree_trimmed = refl
 
+agree_caused : Agree CAUSED
+unfolding opened
+agree_caused = refl
+
+agree_counted : Agree COUNTED
+unfolding opened
+agree_counted = refl
+
+agree_shared : Agree SHARED
+unfolding opened
+agree_shared = refl
+
+agree_summed : Agree SUMMED
+unfolding opened
+agree_summed = refl
+
+agree_uncaused : Agree UNCAUSED
+unfolding opened
+agree_uncaused = refl
+
+agree_asked : Agree ASKED
+unfolding opened
+agree_asked = refl
+
 join : (a b : List Case) → Agree a → Agree b → Agree (a ++ b)
 join a b p q = map-append (λ (x : Case). outcome_of x.0) a b ∙ ap₂ ◌++◌ p q ∙ sym (map-append (λ (x : Case). x.1) a b)
 
@@ -178,4 +204,6 @@ edges =
     (cons agree_unknowns (cons agree_carried
     (cons agree_pairs (cons agree_limits (cons agree_pages
     (cons agree_told (cons agree_readers
-    (cons agree_trained (cons agree_full (cons agree_trimmed nil)))))))))))))))))))))))))))))))))))))
+    (cons agree_trained (cons agree_full (cons agree_trimmed
+    (cons agree_caused (cons agree_counted (cons agree_thronged (cons agree_shared (cons agree_summed
+    (cons agree_uncaused (cons agree_asked nil))))))))))))))))))))))))))))))))))))))))))))

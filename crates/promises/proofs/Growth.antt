@@ -135,7 +135,7 @@ module _ {ps qs : List Pair} (s : Into ps qs) where
       placed_join (each-alone _) (above _ _ _ h (record { target = refl; rule = Rises.points h }))
 
 -- ---- resource.rs
-resource-grows : (r : Resource) (u v a : Float) → (T (over u a) → T (le u v)) → Within (resource r u a) (resource r v a)
+pub resource-grows : (r : Resource) (u v a : Float) → (T (over u a) → T (le u v)) → Within (resource r u a) (resource r v a)
 unfolding resource
 resource-grows r u v a h = placed_when _ _ _ _ (λ t. over-mono u v a (h t) t) (λ t. record { target = refl; rule = Rises.resource (h t) })
 
@@ -154,6 +154,45 @@ only-mem t (x ∷ l) p m = go (t x) refl (only-mem t l p) m
     go true e f (Memᴰ.tail n) = ((f n).0, Memᴰ.tail (f n).1)
     go false e f n = ((f n).0, Memᴰ.tail (f n).1)
 
+-- ---- pairs put into others, where the hold does not shrink
+module _ {ps qs : List Pair} (s : Into ps qs) (hold : (x : Context) → Within (cargo x ps) (cargo x qs)) where
+  hull_rules-grow : (x : Context) → Within (hull_rules x ps) (hull_rules x qs)
+  unfolding hull_rules resources
+  hull_rules-grow x =
+      placed_join (placed_join (placed_join (placed_join
+      (placed_join (placed_join (same-list (loads x)) (drones-grow x s)) (hold x))
+      (placed_join (racks-grow s x) (hardpoints-grow s x)))
+      (slot_checks-grow s x))
+      (placed_join (placed_join (placed_join (rig_size-grows s x) (ship_restricted-grows s x)) (capital_item-grows s x)) (standup-grows s x)))
+      (placed_join (group_limits-grow s x) (type_limit-grows s x))
+
+  list_with-grows : (c : Catalogue) (k : Frame) (ids : List Id) → Within (list_with c k ids ps) (list_with c k ids qs)
+  unfolding list_with
+  list_with-grows c k ids = go (is_hull c k.ship)
+    where
+      go : (b : Bool)
+          → Within (cond b (not_a_mode c (mode_of k) ++ not_a_skill c ids ++ hull_rules (context c k) ps) (on_ship NotAHull ∷ []))
+          (cond b (not_a_mode c (mode_of k) ++ not_a_skill c ids ++ hull_rules (context c k) qs) (on_ship NotAHull ∷ []))
+      go true = placed_join (same-list (not_a_mode c (mode_of k) ++ not_a_skill c ids)) (hull_rules-grow (context c k))
+      go false = same-list (on_ship NotAHull ∷ [])
+
+  -- what is put behind the list of a hull
+  pub whole_with-grows : {t t' : Terms} → Alike t t' → (c : Catalogue) (k : Frame) (ids : List Id)
+      → Within (whole_with t c k ids ps) (whole_with t' c k ids qs)
+  unfolding whole_with league_with on_hull unknown_types
+  whole_with-grows {t} {t'} alike c k ids =
+      placed_join (placed_join (list_with-grows c k ids) (go (is_hull c k.ship))) (last (is_hull c k.ship))
+    where
+      go : (b : Bool) → Within (cond b (league_of t ps) []) (cond b (league_of t' qs) [])
+      go true =
+          subst (Within (league_of t ps)) (ap₂ (λ (b : List ℕ) (a : ℕ). league (prices_of b) a qs) alike.profile alike.allowance)
+          (league-grows s (prices_of t.profile) t.allowance)
+      go false = same-list []
+
+      last : (b : Bool) → Within (cond b (unknown_types c ps) []) (cond b (unknown_types c qs) [])
+      last true = placed_into s λ p. same-list _
+      last false = same-list []
+
 -- ---- pairs behind the others, whose cargo has volumes that are not below zero
 module _ (ps added : List Pair) (volumes : (p : Pair) → Memᴰ p added → T (is_in Slots.cargo p) → (p.quantity < 2 ^ 32) × T (is_volume p.volume)) where
   cargo-grows : (x : Context) → Within (cargo x ps) (cargo x (ps ++ added))
@@ -168,43 +207,9 @@ module _ (ps added : List Pair) (volumes : (p : Pair) → Memᴰ p added → T (
       term_plus p.volume p.quantity v.1 v.0)
       o)
 
-  hull_rules-grow : (x : Context) → Within (hull_rules x ps) (hull_rules x (ps ++ added))
-  unfolding hull_rules resources
-  hull_rules-grow x =
-      let s = into_append ps added in
-      placed_join (placed_join (placed_join (placed_join
-      (placed_join (placed_join (same-list (loads x)) (drones-grow x s)) (cargo-grows x))
-      (placed_join (racks-grow s x) (hardpoints-grow s x)))
-      (slot_checks-grow s x))
-      (placed_join (placed_join (placed_join (rig_size-grows s x) (ship_restricted-grows s x)) (capital_item-grows s x)) (standup-grows s x)))
-      (placed_join (group_limits-grow s x) (type_limit-grows s x))
-
-  list_with-grows : (c : Catalogue) (k : Frame) (ids : List Id) → Within (list_with c k ids ps) (list_with c k ids (ps ++ added))
-  unfolding list_with
-  list_with-grows c k ids = go (is_hull c k.ship)
-    where
-      go : (b : Bool)
-          → Within (cond b (not_a_mode c (mode_of k) ++ not_a_skill c ids ++ hull_rules (context c k) ps) (on_ship NotAHull ∷ []))
-          (cond b (not_a_mode c (mode_of k) ++ not_a_skill c ids ++ hull_rules (context c k) (ps ++ added)) (on_ship NotAHull ∷ []))
-      go true = placed_join (same-list (not_a_mode c (mode_of k) ++ not_a_skill c ids)) (hull_rules-grow (context c k))
-      go false = same-list (on_ship NotAHull ∷ [])
-
-  -- what is put behind the list of a hull
-  whole_with-grows : {t t' : Terms} → Alike t t' → (c : Catalogue) (k : Frame) (ids : List Id)
+  behind-grows : {t t' : Terms} → Alike t t' → (c : Catalogue) (k : Frame) (ids : List Id)
       → Within (whole_with t c k ids ps) (whole_with t' c k ids (ps ++ added))
-  unfolding whole_with league_with on_hull unknown_types
-  whole_with-grows {t} {t'} alike c k ids =
-      placed_join (placed_join (list_with-grows c k ids) (go (is_hull c k.ship))) (last (is_hull c k.ship))
-    where
-      go : (b : Bool) → Within (cond b (league_of t ps) []) (cond b (league_of t' (ps ++ added)) [])
-      go true =
-          subst (Within (league_of t ps)) (ap₂ (λ (b : List ℕ) (a : ℕ). league (prices_of b) a (ps ++ added)) alike.profile alike.allowance)
-          (league-grows (into_append ps added) (prices_of t.profile) t.allowance)
-      go false = same-list []
-
-      last : (b : Bool) → Within (cond b (unknown_types c ps) []) (cond b (unknown_types c (ps ++ added)) [])
-      last true = placed_into (into_append ps added) λ p. same-list _
-      last false = same-list []
+  behind-grows alike c k ids = whole_with-grows (into_append ps added) cargo-grows alike c k ids
 
 -- ---- the pairs of a grown fit
 pairs-append : (c : Catalogue) (n : ℕ) (is js : List Fit.Item) (rs ss : List Result) → length is ≡ length rs
@@ -272,7 +277,7 @@ module _ (c : Catalogue) (old new : Fit) (g : Grown old new) (v : AddedVolumes c
       let e : whole_list t' c new ≡ whole_with t' c old.frame old.skills (pairs c old ++ added c old new g) =
       ap (λ (k : Frame). whole_with t' c k new.skills (pairs c new)) g.frame
       ∙ ap₂ (whole_with t' c old.frame) g.skills (new-pairs c old new g) in
-      subst (Within (whole_list t c old)) (sym e) (whole_with-grows (pairs c old) (added c old new g) volumes alike c old.frame old.skills)
+      subst (Within (whole_list t c old)) (sym e) (behind-grows (pairs c old) (added c old new g) volumes alike c old.frame old.skills)
 
   -- a guest is not told of the same ones, old and new
   reader-grows : (reader : ℕ) {es fs : List Entry} → Within es fs → Within (for_reader reader es) (for_reader reader fs)

@@ -1,6 +1,5 @@
 -- What proves the promises, lowest first.
 pub mod Placed
-pub mod Entries
 pub mod Rises
 pub mod Growth
 pub mod Conditions
@@ -35,6 +34,16 @@ pub mod Touched
 pub mod Trims
 pub mod Trimmed
 pub mod Trained
+pub mod Middle
+pub mod Parting
+pub mod Reading
+pub mod Dropping
+pub mod Alone
+pub mod Causes
+pub mod Differing
+pub mod Seen
+pub mod Caused
+pub mod Thronged
 pub mod Edges
 pub mod Deciding
 pub mod Keeping

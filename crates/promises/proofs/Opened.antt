@@ -1,10 +1,10 @@
 -- All that the definitions compute with: whoever unfolds `opened` unfolds them, and can have a table of outcomes computed.
-use lib.Ieee.{of_int, to_unsigned, to_signed, of_bits, lt, add, mul, round, odd, units, size, span, climb, sum, of_fields, eq, ne, to_bits}
+use lib.Ieee.{of_int, to_unsigned, to_signed, of_bits, lt, le, add, mul, round, odd, units, size, span, climb, sum, of_fields, eq, ne, to_bits}
 use lib.Count.{count_trailing_zeros}
 use Rattle.words.specs.Words.{◌>>=◌, each, when, when_any, when_above, unless, only, count_of, sum_of, any_of, find, is_empty, in_order, given}
 use Rattle.words.specs.Words.{table_from, first_of, same, contains}
 use Rattle.image.specs.Bytes.{u16_at, u32_at, u64_at, signed32, bits32, i32_at}
-use Rattle.floats.specs.Floats.{f32_at, f64_at, f64_bits, abs, over}
+use Rattle.floats.specs.Floats.{f32_at, f64_at, f64_bits, abs, over, is_volume}
 use Rattle.catalogue.specs.Catalogue.{catalogue_of}
 use Rattle.catalogue.specs.Refusals as Catalogue
 use Rattle.catalogue.specs.Lookups.{name_id, type_of, is_known, group_of, category_of, volume_of, effect_mark, marks, last_mark, rack_of, hardpoint_of, base_value}
@@ -38,6 +38,9 @@ use Rattle.training.specs.Training.{raised, skill_of, lacking, step_by, step, tr
 use Rattle.fitcheck.specs.Train.{train_call}
 use Rattle.trim.specs.Trim.{touched, any_too_many, trimmed, kept_at, copied, kept_block, trimmed_image}
 use Rattle.fitcheck.specs.Trim.{trim_call}
+use Rattle.parts.specs.Parts.{chosen, size as size_of_set, numbers_of, part_of, down_from, thinned}
+use Rattle.cause.specs.Cause.{id_of, alike, same_target, is_about, is_kept, renumbered, shows, cause_of, bad_volume, cause_bytes}
+use Rattle.fitcheck.specs.Cause.{cause_call}
 use Rattle.promises.specs.Before.{too_many_drones, list_before, rust_call}
 use Rattle.promises.specs.Cases.{known, outcome_of}
 
@@ -121,6 +124,14 @@ open_trimming : Unit {0}
 unfolding touched any_too_many trimmed kept_at copied kept_block trimmed_image trim_call
 open_trimming = tt
 
+open_parts : Unit {0}
+unfolding chosen size_of_set numbers_of part_of down_from thinned
+open_parts = tt
+
+open_causes : Unit {0}
+unfolding open_parts id_of alike same_target is_about is_kept renumbered shows cause_of is_volume le bad_volume cause_bytes cause_call
+open_causes = tt
+
 open_league : Unit {0}
 unfolding Profile.prices_of Profile.bad_profile Profile.bad_prices Profile.profile_refusals Profile.profile_refusal Profile.points_of
 open_league = tt
@@ -134,7 +145,7 @@ unfolding open_lists open_kinds open_resources open_slots open_slot_checks open_
 open_rules = tt
 
 open_outputs : Unit {0}
-unfolding open_widening open_training open_trimming
+unfolding open_widening open_training open_trimming open_causes
 open_outputs = tt
 
 unfoldable pub opened : Unit {0}

@@ -18,7 +18,7 @@ pub data Into {A : Type 0} : List A → List A → Type 0 where
   both : {x : A} {l m : List A} → Into l m → Into (x ∷ l) (x ∷ m)
 
 module _ {A : Type 0} where
-  into_nil : (m : List A) → Into [] m
+  pub into_nil : (m : List A) → Into [] m
   into_nil [] = empty
   into_nil (x ∷ m) = more (into_nil m)
 

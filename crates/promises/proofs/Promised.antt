@@ -1,6 +1,7 @@
 -- The promises, all of them. Each is proved in a file of its own.
 use Prim.Native.Nat.{ℕ, ◌+◌}
 use mathlib.Core.Path.{◌≡◌, refl}
+use mathlib.Core.Bool.{true, false}
 use lib.ListN.{replicate}
 use Rattle.words.specs.Words.{each, table_from}
 use Rattle.catalogue.specs.Catalogue.{catalogue_of}
@@ -12,7 +13,10 @@ use Rattle.promises.specs.Hauls.{outside_hold}
 use Rattle.promises.specs.GrownCase.{CATALOGUE, OLD, NEW, RETRAINED, LOADED, BANNING, PRICING, NARROW, WIDER, ROOM}
 use Rattle.promises.specs.TrainCases.{demanding}
 use Rattle.promises.specs.Trains.{train_outcome, list_after, Onward, Copied, PILOT}
+use Rattle.promises.specs.CallCases.{small}
 use Rattle.promises.specs.TrimCases.{WHOLE, FLOWN, SMALL}
+use Rattle.promises.specs.CauseCases.{THREE}
+use Rattle.promises.specs.Causes.{crowd, Enough}
 use Rattle.promises.specs.Trims.{SameAnswers, Touching, Copy}
 use Rattle.promises.specs.Widens.{written}
 use Rattle.promises.specs.Promises.{list_outcome, skill_outcome, Names, Promises}
@@ -35,6 +39,10 @@ use Rattle.promises.proofs.Trained.{train_example}
 use Rattle.promises.proofs.Trims.{trim_answers, trim_as_list, trim_as_skills, trim_room}
 use Rattle.promises.proofs.Trims.{trim_accepted, trim_decodes, trim_touches, trim_copies, trim_same, trim_twice}
 use Rattle.promises.proofs.Trimmed.{trim_example}
+use Rattle.promises.proofs.Causes.{cause_answers, cause_room, cause_asked, cause_numbers, in_turn, cause_dropped, kept-least, none_kept}
+use Rattle.promises.proofs.Differing.{entries_differ}
+use Rattle.promises.proofs.Seen.{cause_shows}
+use Rattle.promises.proofs.Caused.{cause_example}
 use Rattle.promises.proofs.Edges.{edges}
 
 names : Names
@@ -95,6 +103,17 @@ promised = record {
   trim_same = trim_same;
   trim_twice = trim_twice;
   trim_example = trim_example;
+  cause_answers = cause_answers;
+  cause_room = cause_room;
+  cause_asked = cause_asked;
+  cause_in_turn = λ catalogue fit position buffer e h at.
+      (cause_numbers catalogue fit position buffer h e at, in_turn catalogue fit position buffer h e at);
+  cause_dropped = λ catalogue fit position buffer e h at. cause_dropped catalogue fit position buffer h e at;
+  cause_least = λ catalogue fit position buffer e b h at. kept-least catalogue fit position buffer h e at b;
+  cause_shows = cause_shows;
+  cause_none = λ catalogue fit position buffer e h at own. none_kept catalogue fit position buffer h e at own;
+  entries_differ = entries_differ;
+  cause_example = cause_example;
   names = names;
   edges = edges;
 }
@@ -167,3 +186,8 @@ touches-applies = promised.trim_touches WHOLE FLOWN (replicate 400 7) refl
 kept-applies : Copy SMALL
 unfolding opened
 kept-applies = promised.trim_copies WHOLE FLOWN (replicate 400 7) refl
+
+-- P9 as it is promised, of an image: the first two of three are least for the rack's entry
+cause_applies : Enough crowd true true false
+unfolding opened
+cause_applies = promised.cause_least small THREE 0 (replicate 12 7) crowd cause_example.bytes refl refl

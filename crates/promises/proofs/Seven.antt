@@ -58,10 +58,10 @@ list_as_before t catalogue fit buffer h =
     ap (λ (k : ℕ). outcome buffer (answer_by k es)) (sym e)
 
 -- ---- the total
-abbrev Small : Pair → Type 0
+abbrev pub Small : Pair → Type 0
 Small p = p.quantity < 2 ^ 32
 
-pairs_small : (c : Catalogue) (n : ℕ) {is : List Item} → All (λ (i : Item). i.quantity < 2 ^ 32) is → (rs : List Result) → All Small (pairs_from c n is rs)
+pub pairs_small : (c : Catalogue) (n : ℕ) {is : List Item} → All (λ (i : Item). i.quantity < 2 ^ 32) is → (rs : List Result) → All Small (pairs_from c n is rs)
 unfolding pairs_from
 pairs_small c n nil rs = nil
 pairs_small c n (cons p h) [] = nil

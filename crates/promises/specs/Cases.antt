@@ -25,6 +25,8 @@ use Rattle.training.specs.Training.{train_refusals}
 use Rattle.fitcheck.specs.Train.{train_call}
 use Rattle.trim.specs.Trim.{trim_refusals}
 use Rattle.fitcheck.specs.Trim.{trim_call}
+use Rattle.cause.specs.Cause.{cause_refusals, cause_bytes}
+use Rattle.fitcheck.specs.Cause.{cause_call}
 use Rattle.promises.specs.Before.{list_before}
 
 -- ---- a catalogue: types with their groups and categories in the game
@@ -228,6 +230,10 @@ pub data Input : Type 0 where
   -- 9 of a trim, or 0; the trimming call
   TrimRefusal : Catalogue → Fit → Input
   TrimCall : (catalogue fit buffer : List ℕ) → Input
+  -- the first of 14 and 15 that holds, or 0; the kept pairs' numbers in bytes; the call for an entry's cause
+  CauseRefusal : Catalogue → Fit → (position : ℕ) → Input
+  Causes : Catalogue → Fit → (position : ℕ) → Input
+  CauseCall : (catalogue fit : List ℕ) (position : ℕ) (buffer : List ℕ) → Input
 
 pub data Expected : Type 0 where
   Number : ℕ → Expected
@@ -271,6 +277,10 @@ outcome_of (TrainCall catalogue fit result steps buffer) =
     let o = train_call catalogue fit result steps buffer in Returns (output_word o) (filled buffer o)
 outcome_of (TrimRefusal c f) = Number (first_of (trim_refusals c f))
 outcome_of (TrimCall catalogue fit buffer) = let o = trim_call catalogue fit buffer in Returns (output_word o) (filled buffer o)
+outcome_of (CauseRefusal c f position) = Number (first_of (cause_refusals c f position))
+outcome_of (Causes c f position) = InBytes (cause_bytes c f position)
+outcome_of (CauseCall catalogue fit position buffer) =
+    let o = cause_call catalogue fit position buffer in Returns (output_word o) (filled buffer o)
 
 abbrev pub Case : Type 0
 Case = Input × Expected

@@ -11,6 +11,7 @@ pub mod Widens
 pub mod Hauls
 pub mod Trains
 pub mod Trims
+pub mod Causes
 pub mod Names
 pub mod Edges
 pub mod Cases
@@ -24,3 +25,4 @@ pub mod PageCases
 pub mod ReaderCases
 pub mod TrainCases
 pub mod TrimCases
+pub mod CauseCases

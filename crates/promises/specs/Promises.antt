@@ -1,9 +1,9 @@
 -- Every promise, whole, with no proof in it; `proofs/Promised.antt` has the theorem. The calls are `list_call`, `skill_call`, `hall_call`,
--- `widen_call`, `train_call` and `trim_call` of fitcheck/specs, functions of bytes, and the exported functions are proved equal to them:
--- the word by `returned`, `hall_returned`, `output_word`, the buffer by `buffered`, `filled`. Read `Answers`, `Compare`, `GrownCase`,
--- `KeptCases`, `Walks`, `Halls`, `Widens`, `Trains`, `Trims`, `Edges` beside this file, and lists/specs for the list. `Terms` is what a
--- call brings beside images and buffer.
-use Rattle.std.specs.Prelude.{ℕ, ◌+◌, ◌*◌, ◌/◌, ◌≤◌, ◌<◌, ◌≡◌, false, not, ◌↔◌, T, leb, eqb, length, get_or}
+-- `widen_call`, `train_call`, `trim_call` and `cause_call` of fitcheck/specs, functions of bytes, and the exported functions are proved
+-- equal to them: the word by `returned`, `hall_returned`, `output_word`, the buffer by `buffered`, `filled`. Read `Answers`, `Compare`,
+-- `GrownCase`, `KeptCases`, `Walks`, `Halls`, `Widens`, `Trains`, `Trims`, `Causes`, `Edges` beside this file, and lists/specs for the
+-- list. `Terms` is what a call brings beside images and buffer.
+use Rattle.std.specs.Prelude.{ℕ, ◌+◌, ◌*◌, ◌/◌, ◌≤◌, ◌<◌, ◌≡◌, Bool, false, not, ◌↔◌, T, leb, eqb, length, get_or, slice_get, Some}
 use mathlib.Core.List.{List, [], map, Memᴰ}
 use Rattle.std.specs.Float.Ieee.Exact.{HasValue}
 use Rattle.words.specs.Words.{from, only, is_empty}
@@ -15,6 +15,7 @@ use Rattle.widening.specs.Old.{old_catalogue_of}
 use Rattle.widening.specs.Widen.{widened}
 use Rattle.fit.specs.Fit.{Item, Result, Fit, fit_of}
 use Rattle.fit.specs.Refusals.{bad_size, fit_refusal}
+use Rattle.entry.specs.declared.Entry.{Entry}
 use Rattle.entry.specs.Entries.{number, entry_bytes}
 use Rattle.context.specs.Context.{pairs}
 use Rattle.resource.specs.Resource.{launched}
@@ -24,11 +25,14 @@ use Rattle.validate.specs.Validate.{list_of}
 use Rattle.lists.specs.Lists.{league_list, whole_list, for_reader, list_for}
 use Rattle.training.specs.Training.{step, trained_by}
 use Rattle.trim.specs.Trim.{touched, trimmed}
+use Rattle.parts.specs.Parts.{every, holds, down_from, thinned}
+use Rattle.cause.specs.Cause.{is_about, shows, cause_bytes}
 use Rattle.calls.specs.Output.{Written}
 use Rattle.fitcheck.specs.Calls.{list_call, skill_call}
 use Rattle.fitcheck.specs.Hall.{hall_call, hall_returned}
 use Rattle.fitcheck.specs.Trim.{trim_call}
-use Rattle.promises.specs.Answers.{Outcome, outcome, refusal, count, entries_of, catalogue_conditions, fit_conditions, list_conditions, skill_conditions, None, Answers}
+use Rattle.promises.specs.Answers.{Outcome, outcome, refusal, count, entry_at, entries_of}
+use Rattle.promises.specs.Answers.{catalogue_conditions, fit_conditions, list_conditions, skill_conditions, None, Answers}
 use Rattle.promises.specs.Before.{list_before, rust_call}
 use Rattle.promises.specs.Compare.{Bytes, Grown, AddedVolumes, Alike, Apart, Kept}
 use Rattle.promises.specs.Hauls.{Hauled, outside_hold, in_hold, StaysIn}
@@ -39,6 +43,8 @@ use Rattle.promises.specs.Halls.{HallAnswers, Judged}
 use Rattle.promises.specs.Widens.{widen_outcome, widen_conditions, Fills, written, Stands}
 use Rattle.promises.specs.Trains.{train_outcome, trained_bytes, train_conditions, missing, list_after, Onward, Copied, TrainExample}
 use Rattle.promises.specs.Trims.{trim_outcome, trimmed_bytes, trim_conditions, SameAnswers, TouchedAlone, CopiedUnder, TrimExample}
+use Rattle.promises.specs.Causes.{cause_outcome, listed, cause_conditions, kept_of, Numbers, without, Least, Seen, of_the_ship}
+use Rattle.promises.specs.Causes.{CauseExample}
 use Rattle.promises.specs.Names.{numbered, name_numbers}
 use Rattle.promises.specs.Edges.{EDGES, Agree}
 
@@ -332,6 +338,75 @@ TrimTwice = (catalogue fit buffer : List ℕ) → refusal (trim_outcome catalogu
     → let small = written (trim_outcome catalogue fit buffer) in
     (other : List ℕ) → length small ≤ length other → trim_call small fit other ≡ Written small
 
+-- P9. Of any bytes, the call that asks for an entry's cause gives the first refusal whose condition holds, 15 being the highest, and no
+-- other byte than the kept pairs' numbers changes; where no condition holds, it gives these.
+abbrev pub CauseAnswers : Type 0
+CauseAnswers = (catalogue fit : List ℕ) (position : ℕ) (buffer : List ℕ)
+    → Fills 15 (cause_conditions catalogue fit position buffer) (cause_bytes (catalogue_of catalogue) (fit_of fit) position) buffer
+    (cause_outcome catalogue fit position buffer)
+
+-- No cause has more than 256 pairs: a buffer of 1,024 bytes is never too short.
+abbrev pub CauseRoom : Type 0
+CauseRoom = (catalogue fit : List ℕ) (position : ℕ) (buffer : List ℕ) → 1024 ≤ length buffer
+    → refusal (cause_outcome catalogue fit position buffer) ≡ 10 → ⊥
+
+-- An answered call has an entry at its position: the one that stands there in what the officer's list call without a profile leaves.
+abbrev pub CauseAsked : Type 0
+CauseAsked = (catalogue fit : List ℕ) (position : ℕ) (buffer other : List ℕ) → refusal (cause_outcome catalogue fit position buffer) ≡ 0
+    → refusal (list_outcome main catalogue fit other) ≡ 0
+    → (e : Entry) × (slice_get (listed catalogue fit) position ≡ Some e)
+    × (entry_at (list_outcome main catalogue fit other) position ≡ entry_bytes e)
+
+-- It writes numbers of pairs, ascending, four bytes each: of the pairs that are left when, from the last to the first, each is dropped
+-- where the entry stays without it.
+abbrev pub CauseInTurn : Type 0
+CauseInTurn = (catalogue fit : List ℕ) (position : ℕ) (buffer : List ℕ) (e : Entry)
+    → refusal (cause_outcome catalogue fit position buffer) ≡ 0 → slice_get (listed catalogue fit) position ≡ Some e
+    → let c = catalogue_of catalogue in
+    let f = fit_of fit in
+    let n = length (pairs c f) in
+    let o = cause_outcome catalogue fit position buffer in
+    Numbers n o × (kept_of n o ≡ thinned (shows c f e) (every n) (down_from n))
+
+-- So a pair is kept exactly where the entry does not stay without it, beside all pairs before it and the kept ones behind it.
+abbrev pub CauseDropped : Type 0
+CauseDropped = (catalogue fit : List ℕ) (position : ℕ) (buffer : List ℕ) (e : Entry)
+    → refusal (cause_outcome catalogue fit position buffer) ≡ 0 → slice_get (listed catalogue fit) position ≡ Some e
+    → let c = catalogue_of catalogue in
+    let f = fit_of fit in
+    let n = length (pairs c f) in
+    let kept = kept_of n (cause_outcome catalogue fit position buffer) in
+    (i : ℕ) → i < n → holds kept i ≡ not (shows c f e (without n kept i))
+
+-- The part of the kept pairs still lists the entry, about the same item and with the same rule, sub and id; drop any one or more of them
+-- and it is gone.
+abbrev pub CauseLeast : Type 0
+CauseLeast = (catalogue fit : List ℕ) (position : ℕ) (buffer : List ℕ) (e : Entry) → Bytes fit
+    → refusal (cause_outcome catalogue fit position buffer) ≡ 0
+    → slice_get (listed catalogue fit) position ≡ Some e
+    → let c = catalogue_of catalogue in
+    let f = fit_of fit in
+    Least c f e (kept_of (length (pairs c f)) (cause_outcome catalogue fit position buffer))
+
+-- What it means that a part lists the entry, in the bytes of the two entries: the same target, rule and sub, the same id where the rule
+-- carries one, and about the same item, whose index in the part is how many of its pairs stand before it.
+abbrev pub CauseShows : Type 0
+CauseShows = (catalogue fit : List ℕ) (e : Entry) (s : List Bool) → None (fit_conditions fit) → Memᴰ e (listed catalogue fit)
+    → T (shows (catalogue_of catalogue) (fit_of fit) e s) ↔ Seen (catalogue_of catalogue) (fit_of fit) e s
+
+-- An entry on the ship that looks at no pair, a load such as Cpu, keeps none.
+abbrev pub CauseNone : Type 0
+CauseNone = (catalogue fit : List ℕ) (position : ℕ) (buffer : List ℕ) (e : Entry)
+    → refusal (cause_outcome catalogue fit position buffer) ≡ 0 → slice_get (listed catalogue fit) position ≡ Some e → T (of_the_ship e)
+    → count (cause_outcome catalogue fit position buffer) ≡ 0
+
+-- Entries of one list differ in target, rule, sub or id, so that a position names one of them alone: the skills of a fit that 5 does not
+-- refuse ascend, and no pair's number is another's.
+abbrev pub EntriesDiffer : Type 0
+EntriesDiffer = (catalogue fit : List ℕ) (i j : ℕ) (a b : Entry) → None (fit_conditions fit) → i < j
+    → slice_get (listed catalogue fit) i ≡ Some a → slice_get (listed catalogue fit) j ≡ Some b
+    → T (is_about a.target a.rule b) → ⊥
+
 -- Every name has its number of document 01, and the tables go through them in order: 0 to 87, none twice and none left out.
 abbrev pub Names : Type 0
 Names = (map (λ n. n.0) numbered ≡ map (λ n. n.1) numbered) × (name_numbers ≡ from 0 88)
@@ -399,5 +474,16 @@ pub record Promises : Type 0 where
   -- a catalogue that is trimmed, catalogues under which that fit's calls answer otherwise or that it does not touch alone, and bytes that
   -- are no copies
   pub trim_example : TrimExample
+  pub cause_answers : CauseAnswers
+  pub cause_room : CauseRoom
+  pub cause_asked : CauseAsked
+  pub cause_in_turn : CauseInTurn
+  pub cause_dropped : CauseDropped
+  pub cause_least : CauseLeast
+  pub cause_shows : CauseShows
+  pub cause_none : CauseNone
+  pub entries_differ : EntriesDiffer
+  -- an image, its causes, and parts that are none
+  pub cause_example : CauseExample
   pub names : Names
   pub edges : Edges
