@@ -91,6 +91,33 @@ pub fn vanished(number: u64) -> Fit {
     made
 }
 
+/// A realistic fit with three high slots, whose last high module has a limit of one of
+/// its group, and whose hold and launched drones are too many.
+pub fn crowded(number: u64) -> Fit {
+    let mut made = fit(REALISTIC, number);
+    set(&mut made.ship, RACKS, 3.0);
+    set(&mut made.ship, CAPACITY, 9.0);
+    set(&mut made.character, MAX_ACTIVE_DRONES, 2.0);
+    let last = made.items.iter().rposition(|item| item.kind == HIGH);
+    let last = last.expect("it has high modules");
+    set(&mut made.results[last], GROUP_LIMITS, 0.0);
+    made
+}
+
+/// A hold of as many stacks as there may be, in which half of them have room.
+pub fn laden(number: u64) -> Fit {
+    let shape = Shape {
+        modules: 0,
+        drones: 0,
+        goods: 256,
+        implants: 0,
+        ..SMALL
+    };
+    let mut made = fit(shape, number);
+    set(&mut made.ship, CAPACITY, 128.0 * 5.0 * 5.0);
+    made
+}
+
 /// A fit of a shape that breaks no rule: enough CPU, limits that nothing passes,
 /// and its own ship among those that its items go on.
 pub fn clear(shape: Shape, number: u64) -> Fit {

@@ -19,10 +19,13 @@ bench              all tables
 bench --svg FILE   and both curves of growth as a picture
 bench --lists      the tables of list calls and halls alone
 bench --trims      the table of trims alone
+bench --causes     the table of causes alone
+bench --stacks     the stack of each call alone
 bench --call CASE TIMES
                    the library's call of case 1 (one pair), a, b, c, C (full-size),
-                   w (worst pairs), d, D (small fits), h, H (halls of clear fits), e, f, g, l
-                   or m alone, for a profiler
+                   w (worst pairs), d, D (small fits), h, H (halls of clear fits), e, f, g, l,
+                   m, n, N (worst pairs, a group limit) or V (256 stacks of cargo) alone, for
+                   a profiler
 ";
 
 /// How many fits of one shape take turns.
@@ -52,6 +55,11 @@ fn main() -> ExitCode {
             let [small, .., full] = PARTS.map(|part| Catalogue::new(&world::catalogue(part)));
             trims(&small, &full);
         }
+        ["--causes"] => {
+            let [small, .., full] = PARTS.map(|part| Catalogue::new(&world::catalogue(part)));
+            causes(&small, &full);
+        }
+        ["--stacks"] => stacks(),
         ["--call", case, times] => match times.parse() {
             Ok(times) if call(case, times) => {}
             _ => return usage(),
@@ -103,6 +111,7 @@ fn everything(picture: Option<&str>) {
     widen();
     trainings(small, full);
     trims(small, full);
+    causes(small, full);
     let by_pairs = grown_pairs(small);
     let by_part = grown_catalogue(&catalogues);
     if let Some(file) = picture {
@@ -356,6 +365,69 @@ fn trims(small: &Catalogue, full: &Catalogue) {
     println!();
 }
 
+/// What makes an entry: the list, and then one pass over the pairs; of the hold, a sum
+/// for each.
+fn causes(small: &Catalogue, full: &Catalogue) {
+    println!("## (n) Causes, µs\n");
+    report::cause_head();
+    let made = |make: fn(u64) -> compare::model::Fit| -> Vec<Fit> {
+        (0..FITS).map(|number| Fit::new(&make(number))).collect()
+    };
+    let crowded = made(fits::crowded);
+    let worst = made(fits::worst);
+    let laden = made(fits::laden);
+    let hangars = made(fits::full_hangar);
+    for (title, catalogue, fits, rule) in [
+        ("realistic fit, CPU, full-size", full, &crowded, [1, 0]),
+        ("realistic fit, a rack, full-size", full, &crowded, [2, 0]),
+        (
+            "realistic fit, a group limit, full-size",
+            full,
+            &crowded,
+            [17, 0],
+        ),
+        ("realistic fit, drones, full-size", full, &crowded, [1, 5]),
+        ("realistic fit, cargo, full-size", full, &crowded, [1, 11]),
+        (
+            "256 of the worst pairs, a rack, small",
+            small,
+            &worst,
+            [2, 0],
+        ),
+        (
+            "256 of the worst pairs, a taken slot, small",
+            small,
+            &worst,
+            [8, 0],
+        ),
+        (
+            "256 of the worst pairs, a taken part, small",
+            small,
+            &worst,
+            [10, 0],
+        ),
+        (
+            "256 of the worst pairs, a group limit, small",
+            small,
+            &worst,
+            [17, 2],
+        ),
+        (
+            "256 of the worst pairs, a type limit, small",
+            small,
+            &worst,
+            [18, 0],
+        ),
+        ("256 stacks of drones, small", small, &hangars, [1, 5]),
+        ("256 stacks of cargo, small", small, &laden, [1, 11]),
+        ("256 stacks of cargo, full-size", full, &laden, [1, 11]),
+    ] {
+        let row = subject::cause(catalogue, fits, rule);
+        report::cause_row(&format!("{title} catalogue"), fits.len(), &row);
+    }
+    println!();
+}
+
 fn grown_pairs(small: &Catalogue) -> Vec<List> {
     println!("## Growth with the pairs, small catalogue, µs\n");
     report::growth_head("pairs");
@@ -498,6 +570,20 @@ fn call(case: &str, times: usize) -> bool {
             let mut new = vec![0; catalogue.len()];
             for _ in 0..times {
                 black_box(library.trim(black_box(&catalogue), &fit, &mut new));
+            }
+            return true;
+        }
+        "n" | "N" | "V" => {
+            let (part, fit, rule) = match case {
+                "n" => (FULL, fits::crowded(0), [2, 0]),
+                "N" => (SMALL, fits::worst(0), [17, 2]),
+                _ => (SMALL, fits::laden(0), [1, 11]),
+            };
+            let (catalogue, fit) = (Catalogue::new(&world::catalogue(part)), Fit::new(&fit));
+            let at = subject::position(&catalogue, &fit, rule);
+            for _ in 0..times {
+                let image = black_box(&catalogue.image);
+                black_box(library.cause(image, &fit.image, at, &mut buffer));
             }
             return true;
         }

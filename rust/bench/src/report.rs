@@ -1,6 +1,6 @@
 //! The figures as Markdown tables.
 
-use crate::subject::{Hall, List, Skill, Train, Trim, Widen, WorstTrim};
+use crate::subject::{Cause, Hall, List, Skill, Train, Trim, Widen, WorstTrim};
 
 /// Nanoseconds in microseconds.
 pub fn micros(nanos: f64) -> String {
@@ -271,6 +271,28 @@ pub fn worst_trim_row(title: &str, results: usize, row: &WorstTrim) {
         micros(row.trim / 1e3),
         row.trim / (results as f64 * row.skill),
         micros(row.skill / 1e3),
+    );
+}
+
+/// What a cause may cost beside the list call of the same fit.
+const CAUSING: f64 = 3.0;
+
+pub fn cause_head() {
+    println!("| | pairs kept | cause | list | cause ÷ list, target {CAUSING} |");
+    println!("|---|---|---|---|---|");
+}
+
+pub fn cause_row(title: &str, fits: usize, row: &Cause) {
+    let ratio = row.cause / row.list;
+    let shown = match ratio <= CAUSING {
+        true => "met",
+        false => "missed",
+    };
+    println!(
+        "| {title} | {} | {} | {} | {ratio:.2} {shown} |",
+        row.kept / fits,
+        micros(row.cause),
+        micros(row.list),
     );
 }
 

@@ -30,10 +30,11 @@ pub enum Call {
     Widen,
     Train,
     Trim,
+    Cause,
 }
 
 impl Call {
-    pub const ALL: [Call; 7] = [
+    pub const ALL: [Call; 8] = [
         Call::Nothing,
         Call::List,
         Call::Skill,
@@ -41,6 +42,7 @@ impl Call {
         Call::Widen,
         Call::Train,
         Call::Trim,
+        Call::Cause,
     ];
 
     pub fn name(self) -> &'static str {
@@ -52,12 +54,14 @@ impl Call {
             Call::Widen => "widen",
             Call::Train => "train",
             Call::Trim => "trim",
+            Call::Cause => "cause",
         }
     }
 }
 
 /// A call with its input: the largest fit, and for the skills, the training and the
-/// trim a chain of 512; the trim has one skill more, so that it walks twice.
+/// trim a chain of 512; the trim has one skill more, so that it walks twice. The cause is
+/// one of the longest list.
 pub struct Prepared {
     call: Call,
     catalogue: Vec<u8>,
@@ -102,6 +106,14 @@ impl Prepared {
                 let room = catalogue.image().len();
                 (catalogue, Fit::new(&fits::beside_chain()).image, room)
             }
+            Call::Cause => {
+                let fit = Fit::new(&fits::worst(0));
+                (
+                    world::catalogue(world::SMALL),
+                    fit.image,
+                    subject::ANY_CAUSE,
+                )
+            }
             Call::Nothing => (Default::default(), Vec::new(), 0),
         };
         Prepared {
@@ -123,6 +135,7 @@ impl Prepared {
             Call::Widen => library.widen(input, &mut self.buffer),
             Call::Train => library.train(catalogue, input, 0, u32::MAX, &mut self.buffer),
             Call::Trim => library.trim(catalogue, input, &mut self.buffer),
+            Call::Cause => library.cause(catalogue, input, 0, &mut self.buffer),
             Call::Nothing => 0,
         };
         assert_eq!(word >> 32, 0, "the call is answered");

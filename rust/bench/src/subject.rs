@@ -1,6 +1,7 @@
 //! One input, ready for both sides: images for the library and the scan,
 //! structures for the original.
 
+use std::cell::OnceCell;
 use std::hint::black_box;
 
 use compare::checker::{Checker, ENTRY, Terms};
@@ -18,6 +19,9 @@ use crate::timing::{medians, once};
 /// A buffer for any list, and one for the skills of any result: the calls
 /// write into these in one pass, and count before they write into shorter ones.
 pub const ANY_LIST: usize = 135_696;
+
+/// A buffer for the pairs of any entry.
+pub const ANY_CAUSE: usize = 1_024;
 
 /// A buffer of another length, for as many entries as fit into 64 KiB.
 pub const MIDDLE: usize = 65_520;
@@ -45,6 +49,8 @@ pub struct Catalogue {
     /// Without the names by which a result demands skills.
     hashed_part: HashedTables,
     sorted_part: SortedTables,
+    /// For the reference, where it is asked.
+    decoded: OnceCell<reference::Catalogue>,
 }
 
 impl Catalogue {
@@ -57,7 +63,14 @@ impl Catalogue {
             sorted: SortedTables::new(catalogue, COUNT),
             hashed_part: HashedTables::new(catalogue, REQUIRED),
             sorted_part: SortedTables::new(catalogue, REQUIRED),
+            decoded: OnceCell::new(),
         }
+    }
+
+    fn decoded(&self) -> &reference::Catalogue {
+        let decode = || reference::Catalogue::decode(&self.image);
+        let decode = || decode().expect("the catalogue is accepted");
+        self.decoded.get_or_init(decode)
     }
 }
 
@@ -180,6 +193,15 @@ pub struct WorstTrim {
     pub small: usize,
     pub trim: f64,
     pub skill: f64,
+}
+
+/// What it takes to tell what makes an entry, and what that is held against.
+pub struct Cause {
+    /// Pairs that are kept, of all fits together.
+    pub kept: usize,
+    pub cause: f64,
+    /// The list call of the same fit.
+    pub list: f64,
 }
 
 /// Goes through the fits in turn, so that no branch of either side learns one
@@ -793,6 +815,58 @@ pub fn agreed_trimmed(library: &dyn Checker, catalogue: &[u8], fit: &Fit) -> Vec
     new.truncate(expected.len());
     assert!(new == expected, "bytes of the library and of document 02");
     new
+}
+
+/// Times the cause of the last entry of a rule and a sub of each of the fits, in turn.
+pub fn cause(catalogue: &Catalogue, fits: &[Fit], rule: [u8; 2]) -> Cause {
+    let library = library();
+    let positions = fits.iter().map(|fit| position(catalogue, fit, rule));
+    let positions: Vec<u32> = positions.collect();
+    let asked = fits.iter().zip(&positions);
+    let kept = asked.map(|(fit, at)| agreed_cause(&*library, catalogue, fit, *at).len() / 4);
+    let kept = kept.sum();
+    let (mut pairs, mut listed) = (vec![0; ANY_CAUSE], vec![0; ANY_LIST]);
+    let [mut t0, mut t1] = std::array::from_fn(|_| Turns::new(fits));
+    let image = &catalogue.image;
+    let [cause, list] = medians(
+        ROUNDS,
+        [
+            &mut || {
+                let (number, fit) = t0.next();
+                let (image, at) = (black_box(image), black_box(positions[number]));
+                black_box(library.cause(image, &fit.image, at, &mut pairs));
+            },
+            &mut || {
+                let fit = &t1.next().1.image;
+                black_box(library.list(black_box(image), fit, NO_LEAGUE, &mut listed));
+            },
+        ],
+    );
+    Cause { kept, cause, list }
+}
+
+/// Where the last entry of a rule and a sub stands in an officer's list.
+pub fn position(catalogue: &Catalogue, fit: &Fit, rule: [u8; 2]) -> u32 {
+    let listed = reference::officers_list(catalogue.decoded(), &fit.decoded).entries;
+    let last = listed.iter().rposition(|entry| entry[1..3] == rule);
+    last.unwrap_or_else(|| panic!("no entry of rule {rule:?}")) as u32
+}
+
+/// The kept pairs, the same from the library and from document 02 over the original.
+pub fn agreed_cause(
+    library: &dyn Checker,
+    catalogue: &Catalogue,
+    fit: &Fit,
+    position: u32,
+) -> Vec<u8> {
+    let cause = reference::Cause::of(catalogue.decoded(), &fit.decoded, position);
+    let expected = cause.expect("the cause is answered").image();
+    let mut out = vec![0; ANY_CAUSE];
+    let word = library.cause(&catalogue.image, &fit.image, position, &mut out);
+    assert_eq!(word, expected.len() as u64, "their bytes");
+    out.truncate(expected.len());
+    assert!(out == expected, "pairs of the library and of document 02");
+    out
 }
 
 /// A hall input: the number of fits, their lengths, the fits end to end.

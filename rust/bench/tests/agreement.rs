@@ -2,8 +2,8 @@
 
 use bench::fits::{self, LARGEST, REALISTIC};
 use bench::subject::{
-    self, Catalogue, Fit, agreed_hall, agreed_list, agreed_skills, agreed_trained, agreed_trimmed,
-    agreed_widened,
+    self, Catalogue, Fit, agreed_cause, agreed_hall, agreed_list, agreed_skills, agreed_trained,
+    agreed_trimmed, agreed_widened,
 };
 use bench::world::{self, SMALL};
 use compare::checker::{Checker, Terms};
@@ -77,8 +77,28 @@ fn trimmed_catalogues_agree_byte_by_byte() {
     assert!(agreed_trimmed(&*library, &left, &realistic) == left);
 }
 
+#[test]
+fn causes_agree_byte_by_byte() {
+    let library = subject::library();
+    let small = Catalogue::new(&world::catalogue(SMALL));
+    let crowded = vec![[1, 5], [1, 11], [2, 0], [17, 0]];
+    let worst = vec![[2, 0], [8, 0], [17, 2], [18, 0]];
+    for (fit, rules) in [
+        (fits::crowded(1), crowded),
+        (fits::worst(1), worst),
+        (fits::laden(1), vec![[1, 11]]),
+        (fits::full_hangar(1), vec![[1, 5]]),
+    ] {
+        let fit = Fit::new(&fit);
+        for rule in rules {
+            let position = subject::position(&small, &fit, rule);
+            assert!(!agreed_cause(&*library, &small, &fit, position).is_empty());
+        }
+    }
+}
+
 /// A library whose second entry names another pair, or whose widened catalogue,
-/// trained fit or trimmed catalogue has another byte.
+/// trained fit, trimmed catalogue or list of pairs has another byte.
 struct OneByteOff;
 
 impl Checker for OneByteOff {
@@ -113,6 +133,12 @@ impl Checker for OneByteOff {
         out[28] ^= 1;
         word
     }
+
+    fn cause(&self, catalogue: &[u8], fit: &[u8], position: u32, out: &mut [u8]) -> u64 {
+        let word = subject::library().cause(catalogue, fit, position, out);
+        out[0] ^= 1;
+        word
+    }
 }
 
 #[test]
@@ -143,4 +169,13 @@ fn one_byte_of_a_trimmed_catalogue_that_differs_stops_it_again() {
     let catalogue = world::catalogue(SMALL).image();
     let fit = Fit::new(&fits::fit(REALISTIC, 0));
     agreed_trimmed(&OneByteOff, &catalogue, &fit);
+}
+
+#[test]
+#[should_panic(expected = "pairs of the library and of document 02")]
+fn one_byte_of_a_cause_that_differs_stops_it_too() {
+    let small = Catalogue::new(&world::catalogue(SMALL));
+    let fit = Fit::new(&fits::crowded(0));
+    let position = subject::position(&small, &fit, [2, 0]);
+    agreed_cause(&OneByteOff, &small, &fit, position);
 }

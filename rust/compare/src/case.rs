@@ -79,6 +79,32 @@ pub enum Ask {
     /// The lists and skills of the first fit under the trimmed catalogue beside
     /// those under the whole one, and the trimmed one trimmed again.
     Trimmed,
+    /// The pairs of the first fit that make an entry of its list.
+    Cause(Position, Room),
+    /// What is promised of them: without any one or more of them the entry is gone.
+    Caused(Position),
+}
+
+/// Which entry of a list.
+#[derive(Clone, Copy, Debug, PartialEq, Eq, PartialOrd, Ord)]
+pub enum Position {
+    /// The one at so many, from 0.
+    Of(u32),
+    /// The last one; position 0 where there is none.
+    Last,
+    /// None: directly behind the last one.
+    Behind,
+}
+
+impl Position {
+    /// The number in a list of so many entries.
+    pub fn number(self, entries: usize) -> u32 {
+        match self {
+            Position::Of(number) => number,
+            Position::Last => entries.saturating_sub(1) as u32,
+            Position::Behind => entries as u32,
+        }
+    }
 }
 
 /// How many steps a training makes.
@@ -166,7 +192,7 @@ impl Growth {
 
 /// The refusals that a call may give, in their order. 7 is given by none; 13
 /// stands where its first cause does.
-pub const REFUSALS: [u8; 15] = [19, 20, 1, 2, 3, 4, 5, 6, 13, 11, 12, 8, 9, 16, 10];
+pub const REFUSALS: [u8; 17] = [19, 20, 1, 2, 3, 4, 5, 6, 13, 11, 12, 8, 9, 16, 14, 15, 10];
 
 /// Why a call is refused. 13 has two causes, each in a place of its own.
 #[derive(Clone, Copy, Debug, PartialEq, Eq, PartialOrd, Ord)]
@@ -180,7 +206,7 @@ pub enum Cause {
 }
 
 /// The causes in their order. Over 512 wanted skills are 9, whatever the limit.
-pub const CAUSES: [Cause; 16] = [
+pub const CAUSES: [Cause; 18] = [
     Cause::Number(19),
     Cause::Number(20),
     Cause::Number(1),
@@ -196,6 +222,8 @@ pub const CAUSES: [Cause; 16] = [
     Cause::Number(9),
     Cause::Skills,
     Cause::Number(16),
+    Cause::Number(14),
+    Cause::Number(15),
     Cause::Number(10),
 ];
 
@@ -262,6 +290,14 @@ mod tests {
         assert_eq!(Room::Longer(5).length(48), 53);
         assert_eq!(Room::Of(65_536).length(48), 65_536);
         assert_eq!(Room::OneShort.length(0), 0);
+    }
+
+    #[test]
+    fn positions_follow_the_list() {
+        assert_eq!(Position::Of(9).number(4), 9);
+        assert_eq!(Position::Last.number(4), 3);
+        assert_eq!(Position::Behind.number(4), 4);
+        assert_eq!(Position::Last.number(0), 0);
     }
 
     #[test]

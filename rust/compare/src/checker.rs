@@ -29,6 +29,10 @@ pub trait Checker: Sync {
     /// The catalogue that a fit touches, written from byte 0 of `out`; its bytes
     /// are counted.
     fn trim(&self, catalogue: &[u8], fit: &[u8], out: &mut [u8]) -> u64;
+
+    /// The numbers of the pairs that make the entry at a position, four bytes each,
+    /// written from byte 0 of `out`; the bytes are counted.
+    fn cause(&self, catalogue: &[u8], fit: &[u8], position: u32, out: &mut [u8]) -> u64;
 }
 
 /// What a list or skill call brings beside its images and its buffer.

@@ -89,5 +89,9 @@ mod linked {
         fn trim(&self, catalogue: &[u8], fit: &[u8], out: &mut [u8]) -> u64 {
             exported::trim(catalogue, fit, out)
         }
+
+        fn cause(&self, catalogue: &[u8], fit: &[u8], position: u32, out: &mut [u8]) -> u64 {
+            exported::cause(catalogue, fit, position, out)
+        }
     }
 }

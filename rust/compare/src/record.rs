@@ -71,6 +71,7 @@ impl Record {
             // A record has one number beside its images, and no place for steps.
             Ask::Train(..) | Ask::Trained(..) => return None,
             Ask::Trim(_) | Ask::Trimmed => return None,
+            Ask::Cause(..) | Ask::Caused(_) => return None,
         };
         let catalogue = match ask {
             Ask::Widen(_) => case.catalogue.old_image(),

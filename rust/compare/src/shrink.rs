@@ -108,7 +108,7 @@ impl Small<'_> {
             self.change(|case| match &mut case.asks[0] {
                 Ask::List(held) | Ask::Skill(_, held) | Ask::Widen(held) => *held = room,
                 Ask::RetrainedList(held) | Ask::RetrainedSkill(_, held) => *held = room,
-                Ask::Train(_, _, held) | Ask::Trim(held) => *held = room,
+                Ask::Train(_, _, held) | Ask::Trim(held) | Ask::Cause(_, held) => *held = room,
                 _ => {}
             });
         }

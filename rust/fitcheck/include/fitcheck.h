@@ -25,6 +25,9 @@ extern "C" {
 #define FITCHECK_MOST_SKILLS 512
 #define FITCHECK_FITS_PER_CALL 64
 
+/* What makes an entry is at most so many bytes. */
+#define FITCHECK_CAUSE_BYTES 1024
+
 /* What the main page takes: so many pairs (items that have a result) of a fit,
  * and so many wanted skills of a result. */
 #define FITCHECK_MAIN_PAIRS 256
@@ -44,6 +47,10 @@ extern "C" {
 #define FITCHECK_BANNED 24
 #define FITCHECK_POINTS 25
 #define FITCHECK_UNKNOWN_TYPE 26
+
+/* The refusals that fit_cause alone gives. */
+#define FITCHECK_NO_SUCH_ENTRY 14
+#define FITCHECK_CARGO_VOLUME 15
 
 /* The refusal that training alone gives. */
 #define FITCHECK_LISTED_SKILLS 16
@@ -123,9 +130,24 @@ uint64_t fit_trim(const uint8_t *catalogue, size_t catalogue_length,
                   const uint8_t *fit, size_t fit_length,
                   uint8_t *out, size_t out_length);
 
+/* Which items make an entry of the list: the pairs that are kept when, from the last to
+ * the first, each is dropped without which the entry stays, about the same item and with
+ * the same rule, sub and id. Without any one or more of them it is gone. `position`
+ * counts from 0 in the list that fit_list gives to FITCHECK_OFFICER without a profile;
+ * a guest's list is another one, and so is a league's. The kept pairs' numbers in the
+ * fit stand from the beginning of `out`, a little-endian uint32_t each, ascending, and
+ * the count is how many bytes they are, at most FITCHECK_CAUSE_BYTES. An entry that
+ * looks at no item has none. Refused by 1 to 6, by 14 where the list ends before the
+ * position, by 15 where an item in Cargo that has a result, whatever the entry, has a
+ * volume below zero, infinite or NaN, and by 10. It names no reader. */
+uint64_t fit_cause(const uint8_t *catalogue, size_t catalogue_length,
+                   const uint8_t *fit, size_t fit_length,
+                   uint32_t position,
+                   uint8_t *out, size_t out_length);
+
 /* The number of this set of calls, images and rules, which its name has too: a
  * library of another set does not link with a program that asks for this. */
-uint64_t fit_interface_8(void);
+uint64_t fit_interface_9(void);
 
 #ifdef __cplusplus
 }

@@ -1,7 +1,9 @@
 //! Entries in sentences that a pilot understands.
 
 use crate::training::levels;
-use crate::{Entry, FitImage, GroupLimit, Names, PlannedSkill, Resource, Rule, SlotKind, Target};
+use crate::{
+    Cause, Entry, FitImage, GroupLimit, Names, PlannedSkill, Resource, Rule, SlotKind, Target,
+};
 
 /// How many of the items that share a slot are named.
 const NAMED_ITEMS: usize = 3;
@@ -389,6 +391,54 @@ impl<'a> Explainer<'a> {
                 level,
             } => self.skill_words(&self.result_words(result), type_id, required, level),
             _ => self.explain(entry),
+        }
+    }
+
+    /// Which items make an entry, or why none does.
+    ///
+    /// ```
+    /// use fitcheck::{
+    ///     CatalogueBuilder, Explainer, FitBuilder, FitItem, ItemResult, Names, Slot, State,
+    ///     WholeList,
+    /// };
+    ///
+    /// let catalogue = CatalogueBuilder::new()
+    ///     .type_info(587, 25, 6, None)
+    ///     .type_info(2048, 60, 7, Some(5.0))
+    ///     .build()?;
+    /// let mut fit = FitBuilder::new(587);
+    /// for _ in 0..3 {
+    ///     fit.item(FitItem::new(2048, Slot::Low(0)), ItemResult::new(State::Online));
+    /// }
+    /// let fit = fit.build()?;
+    /// let names = Names::parse("2048 Damage Control II\n")?;
+    /// let list = WholeList::new(&catalogue, &fit)?;
+    /// let last = list.entries().last().unwrap();
+    /// assert_eq!(
+    ///     Explainer::new(&fit, &names).explain_cause(&last.cause()?),
+    ///     "shown by Damage Control II (items 0, 2)",
+    /// );
+    /// # Ok::<(), Box<dyn std::error::Error>>(())
+    /// ```
+    pub fn explain_cause(&self, cause: &Cause<'_>) -> String {
+        if cause.is_of_the_item_alone() {
+            return "shown by the item alone".to_string();
+        }
+        match (cause.items(), cause.entry().rule) {
+            ([], Rule::Resource { resource, .. }) if resource == Resource::CargoBay => {
+                "of no item: there is less than no room, even with nothing in it".to_string()
+            }
+            ([], Rule::Resource { resource, .. }) if resource == Resource::LaunchedDrones => {
+                "of no item: fewer than none may be launched".to_string()
+            }
+            ([], Rule::Resource { .. }) => {
+                "of no single item: it is what the ship comes to as a whole".to_string()
+            }
+            ([], Rule::NotAHull) => "of no item: it is the ship itself".to_string(),
+            ([], Rule::NotAMode) => "of no item: it is the mode".to_string(),
+            ([], Rule::NotASkill { .. }) => "of no item: it is the list of skills".to_string(),
+            ([], _) => "of no item".to_string(),
+            (items, _) => format!("shown by {}", self.several_words(items)),
         }
     }
 

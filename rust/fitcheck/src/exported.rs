@@ -12,7 +12,7 @@ unsafe extern "C" {
     // It is raised here, in include/fitcheck.h for C, and in the Rattle sources,
     // crates/fitcheck_c/src/lib.rt and crates/fitcheck/src/lib.rt, at the same
     // time.
-    #[link_name = "fit_interface_8"]
+    #[link_name = "fit_interface_9"]
     fn fit_interface() -> u64;
 
     fn fit_list(
@@ -68,6 +68,16 @@ unsafe extern "C" {
         catalogue_length: usize,
         fit: *const u8,
         fit_length: usize,
+        out: *mut u8,
+        out_length: usize,
+    ) -> u64;
+
+    fn fit_cause(
+        catalogue: *const u8,
+        catalogue_length: usize,
+        fit: *const u8,
+        fit_length: usize,
+        position: u32,
         out: *mut u8,
         out_length: usize,
     ) -> u64;
@@ -200,6 +210,23 @@ pub fn trim(catalogue: &[u8], fit: &[u8], out: &mut [u8]) -> u64 {
             catalogue.len(),
             fit.as_ptr(),
             fit.len(),
+            out.as_mut_ptr(),
+            out.len(),
+        )
+    }
+}
+
+/// The pairs that make the entry at a position; returns the call's word.
+pub fn cause(catalogue: &[u8], fit: &[u8], position: u32, out: &mut [u8]) -> u64 {
+    linked();
+    // SAFETY: as in `list`; `position` may be any number.
+    unsafe {
+        fit_cause(
+            catalogue.as_ptr(),
+            catalogue.len(),
+            fit.as_ptr(),
+            fit.len(),
+            position,
             out.as_mut_ptr(),
             out.len(),
         )

@@ -22,6 +22,8 @@ use crate::{Attribute, CATALOGUE_BYTES, FitItem, FitPart, Mark, Slot, SlotType, 
 pub struct CatalogueImage<'a> {
     names: &'a [[u8; 4]],
     marks: &'a [[u8; 4]],
+    /// The ids of the types, and behind them four words a type.
+    type_words: &'a [[u8; 4]],
     types: usize,
     links: usize,
     bases: usize,
@@ -45,6 +47,7 @@ impl<'a> CatalogueImage<'a> {
         Some(CatalogueImage {
             names: words.get(5..5 + names)?,
             marks: words.get(5 + 2 * names + effects..5 + 2 * names + 2 * effects)?,
+            type_words: words.get(5 + 2 * names + 2 * effects..)?,
             types: word(image, 8)? as usize,
             links: word(image, 12)? as usize,
             bases: word(image, 16)? as usize,
@@ -54,6 +57,17 @@ impl<'a> CatalogueImage<'a> {
     /// How many types there are.
     pub fn types(&self) -> usize {
         self.types
+    }
+
+    /// The volume of a type, where it is there and has one. Types ascend in a catalogue
+    /// that is not refused.
+    pub(crate) fn volume(&self, type_id: i32) -> Option<f32> {
+        let (ids, values) = self.type_words.split_at_checked(self.types)?;
+        let id = |word: &[u8; 4]| i32::from_le_bytes(*word);
+        let row = ids.binary_search_by_key(&type_id, id).ok()?;
+        let [_, _, flag, volume] = values.get(4 * row..)?.first_chunk()?;
+        let volume = f32::from_bits(u32::from_le_bytes(*volume));
+        (u32::from_le_bytes(*flag) == 1).then_some(volume)
     }
 
     /// How many links there are, of types to their effects.

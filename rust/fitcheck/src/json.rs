@@ -15,7 +15,7 @@
 
 use std::fmt::{self, Display, Formatter, Write};
 
-use crate::{Entry, Passed, Refusal, Rule, Target, Unchecked, Unpaired, Verdict};
+use crate::{Cause, Entry, Passed, Refusal, Rule, Target, Unchecked, Unpaired, Verdict};
 
 /// The version of the shapes. It rises where a field goes away or means
 /// something else; fields, rules and refusals may be added without.
@@ -201,16 +201,41 @@ pub fn refusal(refusal: Refusal) -> Json {
             ("limit", Json::Integer(limit.into())),
         ]);
     }
+    if let Refusal::CargoVolume(Some(bad)) = refusal {
+        fields.extend([
+            ("item", Json::count(bad.item)),
+            ("type_id", Json::Integer(bad.type_id.into())),
+            ("volume", Json::Double(as_written(bad.volume()))),
+        ]);
+    }
+    Json::Object(fields)
+}
+
+/// A number that is written as the f32 is, and not with the digits of its f64.
+fn as_written(value: f32) -> f64 {
+    let written = value.to_string();
+    written.parse().unwrap_or(value.into())
+}
+
+/// An entry with the items that make it.
+pub fn caused(cause: &Cause<'_>, sentence: &str) -> Json {
+    let items = cause.items().iter().map(|item| Json::count(*item));
+    let mut fields = entry_fields(&cause.entry(), sentence);
+    fields.push(("items", Json::List(items.collect())));
     Json::Object(fields)
 }
 
 /// An entry: target and rule as the original writes them, and the sentence.
 pub fn entry(entry: &Entry, sentence: &str) -> Json {
-    Json::Object(vec![
+    Json::Object(entry_fields(entry, sentence))
+}
+
+fn entry_fields(entry: &Entry, sentence: &str) -> Vec<(&'static str, Json)> {
+    vec![
         ("target", target(entry.target)),
         ("rule", rule(&entry.rule)),
         ("sentence", Json::text(sentence)),
-    ])
+    ]
 }
 
 fn target(target: Target) -> Json {

@@ -21,6 +21,8 @@
 //!   to;
 //! - [`TrimmedCatalogue`], the part of a catalogue that one fit touches, for a page
 //!   that fetches no more;
+//! - [`WholeList`], an officer's list of which each entry can be asked which items make
+//!   it;
 //! - [`widen`], which makes a catalogue of today's form of an old one.
 //!
 //! ```
@@ -70,6 +72,8 @@ mod attribute;
 mod call;
 #[forbid(unsafe_code)]
 mod catalogue;
+#[forbid(unsafe_code)]
+mod cause;
 #[forbid(unsafe_code)]
 mod entry;
 #[forbid(unsafe_code)]
@@ -122,6 +126,7 @@ mod unpaired;
 pub use attribute::Attribute;
 pub use call::{Hall, Verdict, hall, list, list_into, skills, skills_into, verdicts, widen};
 pub use catalogue::CatalogueBuilder;
+pub use cause::{BadVolume, CAUSE_BYTES, Cause, CausedReport, ListedEntry, WholeList};
 pub use entry::Entry;
 pub use error::{BuildError, FitPart};
 pub use explain::{Explainer, explain};

@@ -3,7 +3,7 @@
 use std::error::Error;
 use std::fmt;
 
-use crate::Passed;
+use crate::{BadVolume, Passed};
 
 /// Why a call gives no list: document 01's refusals, by their number.
 ///
@@ -51,6 +51,13 @@ pub enum Refusal {
     /// takes. Which, and how many, is said by the calls that are made under
     /// limits; of the number alone it cannot be told.
     PageLimit(Option<Passed>),
+    /// 14: the list has no entry at that position. No call of this crate asks for one:
+    /// a [`ListedEntry`](crate::ListedEntry) is in its list.
+    NoSuchEntry,
+    /// 15: an item in Cargo has a volume that is below zero, infinite or NaN, so that
+    /// which items make an entry is not told. Which item, is said by the calls; of the
+    /// number alone it cannot be told.
+    CargoVolume(Option<BadVolume>),
     /// 16: with the skills that the result lacks, the fit would list more than
     /// 1,024.
     ListedSkills,
@@ -82,12 +89,14 @@ impl Refusal {
         Refusal::ProfileLength,
         Refusal::ProfilePrices,
         Refusal::PageLimit(None),
+        Refusal::NoSuchEntry,
+        Refusal::CargoVolume(None),
         Refusal::ListedSkills,
         Refusal::NoSuchReader,
         Refusal::GuestSkills,
     ];
 
-    /// The documents' number, from 1 to 13 and never 7, or 16, 19 or 20. Of an
+    /// The documents' number, from 1 to 16 and never 7, or 19 or 20. Of an
     /// unexpected word it is the upper half.
     pub fn number(self) -> u32 {
         match self {
@@ -103,6 +112,8 @@ impl Refusal {
             Refusal::ProfileLength => 11,
             Refusal::ProfilePrices => 12,
             Refusal::PageLimit(_) => 13,
+            Refusal::NoSuchEntry => 14,
+            Refusal::CargoVolume(_) => 15,
             Refusal::ListedSkills => 16,
             Refusal::NoSuchReader => 19,
             Refusal::GuestSkills => 20,
@@ -186,6 +197,11 @@ impl fmt::Display for Refusal {
                 "the fit has more items with a result, or the result wants more skills, than this \
                  page takes"
             }
+            Refusal::NoSuchEntry => "the list has no entry at that position",
+            Refusal::CargoVolume(Some(bad)) => return bad.fmt(formatter),
+            Refusal::CargoVolume(None) => {
+                "an item in Cargo has a volume that is below 0, infinite or no number"
+            }
             Refusal::ListedSkills => {
                 "with the skills that the result lacks, the fit would list more than 1,024 skills"
             }
@@ -216,7 +232,7 @@ mod tests {
         assert_eq!(Refusal::or_count(0), Ok(0));
         assert_eq!(Refusal::or_count(5_654), Ok(5_654));
         assert_eq!(Refusal::or_count(4_294_967_295), Ok(u32::MAX));
-        for number in [1, 2, 3, 4, 5, 6, 8, 9, 10, 11, 12, 13, 16, 19, 20] {
+        for number in [1, 2, 3, 4, 5, 6, 8, 9, 10, 11, 12, 13, 14, 15, 16, 19, 20] {
             let word = number * 4_294_967_296;
             let refusal = Refusal::or_count(word).unwrap_err();
             assert_eq!(u64::from(refusal.number()), number);
@@ -228,7 +244,7 @@ mod tests {
                 "a refusal with a count"
             );
         }
-        for number in [7, 14, 15, 17, 18, 21, 272, 275, 0x8000_0000, 0xFFFF_FFFF] {
+        for number in [7, 17, 18, 21, 272, 275, 0x8000_0000, 0xFFFF_FFFF] {
             let word = number * 4_294_967_296;
             assert_eq!(Refusal::or_count(word), Err(Refusal::Unexpected { word }));
         }
@@ -241,7 +257,7 @@ mod tests {
         let mut sentences: Vec<String> = Refusal::ALL.iter().map(Refusal::to_string).collect();
         sentences.sort();
         sentences.dedup();
-        assert_eq!(sentences.len(), 15);
+        assert_eq!(sentences.len(), 17);
         let word = 77 << 32;
         let sentence = Refusal::Unexpected { word }.to_string();
         assert!(sentence.contains("0x0000004D00000000"), "{sentence}");

@@ -85,13 +85,18 @@ impl Report {
     /// The list, what was not checked and the skills in sentences, a line each;
     /// what repeats stands once. What is missing is not said here.
     pub fn text(&self, explainer: &Explainer<'_>) -> String {
+        self.text_with(&explainer.explain_all(&self.entries), explainer)
+    }
+
+    /// The same with other sentences for the entries.
+    pub(crate) fn text_with(&self, sentences: &[String], explainer: &Explainer<'_>) -> String {
         let mut lines = vec![match self.is_faulted() {
             true => format!("faulted: {}", counted_entries(self.entries.len())),
             false if self.is_clear() => "clear: no rule is broken".to_string(),
             false => "nothing listed: no rule is broken that a guest may see".to_string(),
         }];
         let indented = |sentence: String| format!("  {sentence}");
-        let sentences = explainer.explain_all(&self.entries).into_iter();
+        let sentences = sentences.iter().cloned();
         let unpaired = self.unpaired.map(|unpaired| unpaired.to_string());
         lines.extend(sentences.chain(unpaired).map(indented));
         if self.reader == Reader::Guest {
@@ -131,10 +136,17 @@ impl Report {
 
     /// All of it as one object, every entry by itself.
     pub fn json(&self, explainer: &Explainer<'_>) -> Json {
-        let entries = self
-            .entries
-            .iter()
-            .map(|entry| json::entry(entry, &explainer.explain(entry)));
+        let entries = self.entries.iter();
+        let entries = entries.map(|entry| json::entry(entry, &explainer.explain(entry)));
+        Json::Object(self.fields_with(entries.collect(), explainer))
+    }
+
+    /// The fields of that object, with other values for the entries.
+    pub(crate) fn fields_with(
+        &self,
+        entries: Vec<Json>,
+        explainer: &Explainer<'_>,
+    ) -> Vec<(&'static str, Json)> {
         let skills = (0..).zip(&self.skills).map(|(number, skills)| {
             let lacking = match skills {
                 Ok(entries) => {
@@ -152,10 +164,10 @@ impl Report {
         });
         fields.extend([
             ("unchecked", json::unchecked(&self.missing.unchecked())),
-            ("entries", Json::List(entries.collect())),
+            ("entries", Json::List(entries)),
         ]);
         fields.extend(self.unpaired.map(|it| ("unpaired", json::unpaired(it))));
         fields.push(("skills", Json::List(skills.collect())));
-        Json::Object(fields)
+        fields
     }
 }

@@ -136,6 +136,16 @@ const SHORT: &[(Rows, &[usize], &str)] = &[
         &[256, 65_536, 1_048_576, 16_777_215],
         "bytes of a trimmed catalogue are written",
     ),
+    (
+        Rows::CausePairs,
+        &[64, 128, 255],
+        "pairs are looked at by a cause",
+    ),
+    (
+        Rows::CauseBytes,
+        &[64, 512, 1_023],
+        "bytes of a cause are written",
+    ),
 ];
 
 /// Where numbers may be too narrow, in bits.
@@ -215,6 +225,24 @@ const NARROW: &[(Number, &[u32], &str)] = &[
         &[16, 20],
         "the number of a record that a trim marks",
     ),
+    (
+        Number::CausePosition,
+        &[8, 12, 16, 24, 31],
+        "the position that a cause is of",
+    ),
+    (
+        Number::CauseTarget,
+        &[4, 7],
+        "the pair that the entry of a cause is about",
+    ),
+    (Number::CauseLimit, &[4, 7], "the limit of a cause"),
+    (Number::CauseDrones, &[16, 32], "the drones of a cause"),
+    (Number::CauseNumber, &[4, 7], "a number that a cause writes"),
+    (
+        Number::CauseCount,
+        &[4, 8, 10],
+        "the count of a cause's bytes",
+    ),
 ];
 
 /// What may be refused too early.
@@ -265,6 +293,12 @@ const REFUSED: &[(Measure, &[usize], &str)] = &[
         &[256, 511],
         "skills that all results together want",
     ),
+    (
+        Measure::CausePosition,
+        &[255, 1_585, 2_730, 4_095],
+        "for a cause's position",
+    ),
+    (Measure::CauseBytes, &[64, 512, 1_023], "bytes of a cause"),
 ];
 
 /// Every flaw.

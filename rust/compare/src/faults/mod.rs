@@ -161,7 +161,10 @@ pub fn page(rows: &[Row], seed: u64) -> String {
         an amount cast to u16 that stops at the end of its range: no more than 256 pairs are \
         counted, so nothing shows it. An amount that is cut to 16 bits is among them. Nor are \
         refusal 20 before 19, as no reader above 2 is a guest, and a pilot taken for an officer, \
-        as each call gives both the same.\n\n\
+        as each call gives both the same. Nor, of causes, is an id that is not compared: an item \
+        has one entry of a rule and a sub, with one id, in every part that shows it, and NotASkill \
+        stays whatever is dropped. Nor is another level of a trained skill in a part: no entry of \
+        a list looks at one.\n\n\
         | fault | told apart by case | by | generated | what is wrong |\n|---|---|---|---|---|\n",
         rows.len(),
         rows.iter()

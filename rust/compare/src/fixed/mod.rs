@@ -2,6 +2,7 @@
 //! then each rule and each call at its corners. They come before the
 //! generated cases, so their numbers stay.
 
+mod cause;
 mod chains;
 mod document;
 mod haul;
@@ -54,7 +55,7 @@ const ODD_VALUES: [u64; 7] = [
 /// are, and how each is made.
 type Row = (fn() -> usize, fn(usize) -> Case);
 
-const MADE: [Row; 23] = [
+const MADE: [Row; 26] = [
     (plant::others, alone),
     (plant::other_pairs, together),
     (|| hall::CORNERS, hall::corner),
@@ -117,6 +118,15 @@ const MADE: [Row; 23] = [
     (
         || plant::trimming_pairs().len(),
         |number| planted_two(plant::trimming_pairs(), number, Calls::Trims),
+    ),
+    (|| cause::CASES.len(), |number| cause::CASES[number]()),
+    (
+        || plant::causing().len(),
+        |number| planted(plant::causing(), number, Calls::Causes),
+    ),
+    (
+        || plant::causing_pairs().len(),
+        |number| planted_two(plant::causing_pairs(), number, Calls::Causes),
     ),
     (|| limits::LENGTHS, limits::lengths),
 ];

@@ -1,5 +1,6 @@
 //! Makes cases from a seed.
 
+pub mod cause;
 pub mod fit;
 pub mod growth;
 pub mod hall;
@@ -37,6 +38,9 @@ const TRAIN: u64 = 0x0054_5241_494E;
 /// And of how its catalogue is trimmed.
 const TRIM: u64 = 0x5452_494D;
 
+/// And of which entries are asked about.
+const CAUSE: u64 = 0x0043_4155_5345;
+
 /// The generated case of a number. What a patch takes away and what its calls
 /// bring beside the images is drawn by itself, so that the rest is the same with
 /// and without.
@@ -49,15 +53,17 @@ pub fn case(seed: u64, number: u64) -> Case {
     haul::bring(&mut Rng::for_case(seed ^ HAUL, number), &mut case);
     train::bring(&mut Rng::for_case(seed ^ TRAIN, number), &mut case);
     trim::bring(&mut Rng::for_case(seed ^ TRIM, number), &mut case);
+    cause::bring(&mut Rng::for_case(seed ^ CAUSE, number), &mut case);
     case
 }
 
 fn images(rng: &mut Rng) -> Case {
     match rng.below(1000) {
-        0..=259 => {
+        0..=239 => {
             let style = Style::realistic(rng);
             single(rng, style, 24, "a realistic fit")
         }
+        240..=259 => cause::planted(rng),
         260..=279 => trim::planted(rng),
         280..=299 => train::planted(rng),
         300..=549 => {

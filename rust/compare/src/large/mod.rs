@@ -6,6 +6,7 @@
 
 mod blocks;
 mod catalogue;
+mod cause;
 pub mod drawn;
 mod fits;
 mod halls;
@@ -27,7 +28,7 @@ use crate::tally::size::LIST_BUFFERS;
 /// longest come last: a fault that another case shows need not wait for them.
 type Row = (usize, fn(usize) -> Case);
 
-const ROWS: [Row; 13] = [
+const ROWS: [Row; 14] = [
     (limits::COUNT, limits::case),
     (places::COUNT, places::case),
     (2, |number| match number {
@@ -49,6 +50,7 @@ const ROWS: [Row; 13] = [
     (widen::COUNT, widen::case),
     (train::COUNT, train::case),
     (trim::COUNT, trim::case),
+    (cause::COUNT, cause::case),
 ];
 
 /// How many large cases there are.

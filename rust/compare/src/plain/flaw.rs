@@ -68,6 +68,10 @@ pub enum Rows {
     TrimmedRun,
     /// The bytes of a trimmed catalogue.
     TrimmedBytes,
+    /// The pairs that a cause looks at.
+    CausePairs,
+    /// The bytes of a cause.
+    CauseBytes,
 }
 
 /// Numbers that may be too narrow.
@@ -133,6 +137,18 @@ pub enum Number {
     TrimCount,
     /// The number of a place among types, links and bases.
     TrimPlace,
+    /// The position that a cause is of.
+    CausePosition,
+    /// The pair that the entry of a cause is about.
+    CauseTarget,
+    /// How many pairs may count for the entry of a cause.
+    CauseLimit,
+    /// The drones of a cause.
+    CauseDrones,
+    /// A pair that a cause writes.
+    CauseNumber,
+    /// The count of a cause's bytes.
+    CauseCount,
 }
 
 /// Sizes that may be refused too early.
@@ -151,6 +167,18 @@ pub enum Measure {
     TrimmedBytes,
     /// The skills that all results of a trim want.
     TrimTogether,
+    /// The position that a cause is of.
+    CausePosition,
+    /// The bytes of a cause.
+    CauseBytes,
+}
+
+/// The calls that have flaws of their own.
+#[derive(Clone, Copy, PartialEq)]
+enum Own {
+    Trainings,
+    Trims,
+    Causes,
 }
 
 impl Flaw {
@@ -167,36 +195,52 @@ impl Flaw {
         }
     }
 
-    /// Whether a call can show it: those about trainings or trims show in no other.
+    /// Whether a call can show it: those about trainings, trims or causes show in no
+    /// other.
     pub fn can_show_in(self, ask: &Ask) -> bool {
-        let (is_training, is_trim) = match self {
-            Flaw::Fault(fault) => (fault.is_about_trainings(), fault.is_about_trims()),
-            Flaw::Short(rows, _) => (
-                matches!(rows, Rows::Plan | Rows::TrainedBytes),
-                matches!(
-                    rows,
-                    Rows::TrimNamed
-                        | Rows::TrimResults
-                        | Rows::TrimWanted
-                        | Rows::TrimTogether
-                        | Rows::TrimmedRun
-                        | Rows::TrimmedBytes
-                ),
-            ),
-            Flaw::Narrow(number, _) => (
-                matches!(number, Number::Steps | Number::TrainCount),
-                matches!(number, Number::TrimCount | Number::TrimPlace),
-            ),
-            Flaw::Refused(measure, _) => (
-                false,
-                matches!(measure, Measure::TrimmedBytes | Measure::TrimTogether),
-            ),
-            _ => (false, false),
-        };
+        let about = self.about();
         match ask {
-            Ask::Train(..) | Ask::Trained(..) => !is_trim,
-            Ask::Trim(_) | Ask::Trimmed => !is_training,
-            _ => !is_training && !is_trim,
+            Ask::Train(..) | Ask::Trained(..) => about.is_none_or(|own| own == Own::Trainings),
+            Ask::Trim(_) | Ask::Trimmed => about.is_none_or(|own| own == Own::Trims),
+            Ask::Cause(..) | Ask::Caused(_) => about.is_none_or(|own| own == Own::Causes),
+            _ => about.is_none(),
+        }
+    }
+
+    /// The calls that it is about, where it is about such.
+    fn about(self) -> Option<Own> {
+        match self {
+            Flaw::Fault(fault) if fault.is_about_trainings() => Some(Own::Trainings),
+            Flaw::Fault(fault) if fault.is_about_trims() => Some(Own::Trims),
+            Flaw::Fault(fault) if fault.is_about_causes() => Some(Own::Causes),
+            Flaw::Short(rows, _) => match rows {
+                Rows::Plan | Rows::TrainedBytes => Some(Own::Trainings),
+                Rows::TrimNamed
+                | Rows::TrimResults
+                | Rows::TrimWanted
+                | Rows::TrimTogether
+                | Rows::TrimmedRun
+                | Rows::TrimmedBytes => Some(Own::Trims),
+                Rows::CausePairs | Rows::CauseBytes => Some(Own::Causes),
+                _ => None,
+            },
+            Flaw::Narrow(number, _) => match number {
+                Number::Steps | Number::TrainCount => Some(Own::Trainings),
+                Number::TrimCount | Number::TrimPlace => Some(Own::Trims),
+                Number::CausePosition
+                | Number::CauseTarget
+                | Number::CauseLimit
+                | Number::CauseDrones
+                | Number::CauseNumber
+                | Number::CauseCount => Some(Own::Causes),
+                _ => None,
+            },
+            Flaw::Refused(measure, _) => match measure {
+                Measure::TrimmedBytes | Measure::TrimTogether => Some(Own::Trims),
+                Measure::CausePosition | Measure::CauseBytes => Some(Own::Causes),
+                _ => None,
+            },
+            _ => None,
         }
     }
 

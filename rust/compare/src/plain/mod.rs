@@ -4,6 +4,7 @@
 
 mod bytes;
 mod catalogue;
+mod cause;
 mod context;
 mod entry;
 mod fault;
@@ -83,6 +84,10 @@ impl Checker for Plain {
 
     fn trim(&self, catalogue: &[u8], fit: &[u8], out: &mut [u8]) -> u64 {
         trim::trim((catalogue, fit), out, self.flaw)
+    }
+
+    fn cause(&self, catalogue: &[u8], fit: &[u8], position: u32, out: &mut [u8]) -> u64 {
+        cause::cause((catalogue, fit), position, out, self.flaw)
     }
 }
 

@@ -62,7 +62,7 @@ pub fn validate(context: &Context, entries: &mut Entries) {
     }
 }
 
-fn over(used: f64, available: f64, flaw: Flaw) -> bool {
+pub fn over(used: f64, available: f64, flaw: Flaw) -> bool {
     let slack = f64::from_bits(SLACK);
     let limit = match () {
         () if flaw.has(Fault::OverNoSlack) => available,

@@ -59,6 +59,47 @@ impl Fit {
             _ => self.calculation.items.get(number as usize - 2),
         }
     }
+
+    /// The fit with some of its pairs alone, numbered anew; items and results that
+    /// are in no pair fall away.
+    pub fn part(&self, kept: &[bool]) -> Fit {
+        let kept = self.pairs().zip(kept).filter(|(_, is_kept)| **is_kept);
+        let (items, results) = kept
+            .map(|((item, result), _)| (item.clone(), again(result)))
+            .unzip();
+        let of = &self.calculation;
+        Fit {
+            fit: original::Fit {
+                items,
+                ..self.fit.clone()
+            },
+            calculation: Calculation {
+                ship: again(&of.ship),
+                mode: None,
+                items: results,
+                character: again(&of.character),
+                buffs: Vec::new(),
+                outgoing: Projection::default(),
+                violations: None,
+            },
+        }
+    }
+}
+
+/// The same result once more.
+fn again(result: &ItemResult) -> ItemResult {
+    let value = |of: &AttributeValue| AttributeValue {
+        base: of.base,
+        value: of.value,
+        sources: Vec::new(),
+    };
+    let attributes = result.attributes.iter();
+    ItemResult {
+        attributes: attributes.map(|(id, of)| (*id, value(of))).collect(),
+        state: result.state,
+        max_state: result.max_state,
+        charge: None,
+    }
 }
 
 impl Fields {

@@ -6,9 +6,11 @@
 //! in `drones`, base values finer than an f32 in `walk`, the widening of old
 //! catalogues in `widen`, the league's rules in `league`, rule 26 in `unknown`,
 //! a page's limits in `page`, who may read what in `reader`, what a step of
-//! training changes in `train`, what a trimmed catalogue keeps in `trim`.
+//! training changes in `train`, what a trimmed catalogue keeps in `trim`, which pairs
+//! make an entry in `cause`.
 
 mod catalogue;
+mod cause;
 mod drones;
 mod encode;
 mod fit;
@@ -30,6 +32,7 @@ use crate::checker::{Checker, ENTRY, Entry, Terms, refused};
 use crate::page::Limits;
 
 pub use catalogue::{Catalogue, LIMIT};
+pub use cause::{Cause, bad_volume, is_bad, is_still_in, officers_list};
 pub use encode::entry;
 pub use fit::Fit;
 pub use league::League;
@@ -97,6 +100,15 @@ impl Checker for Original {
 
     fn trim(&self, catalogue: &[u8], fit: &[u8], out: &mut [u8]) -> u64 {
         written_bytes(trim(catalogue, fit), out)
+    }
+
+    fn cause(&self, catalogue: &[u8], fit: &[u8], position: u32, out: &mut [u8]) -> u64 {
+        let image = || {
+            let catalogue = Catalogue::decode(catalogue)?;
+            let fit = Fit::decode(fit)?;
+            Ok(Cause::of(&catalogue, &fit, position)?.image())
+        };
+        written_bytes(image(), out)
     }
 }
 

@@ -1,5 +1,6 @@
 //! Runs one case: the original's answer and the checker's, held together.
 
+mod cause;
 mod hauled;
 mod page;
 mod reader;
@@ -136,6 +137,7 @@ pub struct Stage<'a> {
     old: OnceCell<Old>,
     widened: OnceCell<Option<(Source, Subject)>>,
     trimmed: OnceCell<Result<trim::Trimmed, Refusal>>,
+    causes: cause::Causes,
 }
 
 /// Runs every call of a case; the first difference, if there is one.
@@ -162,6 +164,7 @@ impl<'a> Stage<'a> {
             old: OnceCell::new(),
             widened: OnceCell::new(),
             trimmed: OnceCell::new(),
+            causes: cause::Causes::default(),
         }
     }
 
@@ -296,6 +299,7 @@ impl<'a> Stage<'a> {
             Ask::RetrainedList(_) | Ask::RetrainedSkill(..) => Vec::new(),
             Ask::Train(..) | Ask::Trained(..) => Vec::new(),
             Ask::Trim(_) | Ask::Trimmed => Vec::new(),
+            Ask::Cause(..) | Ask::Caused(_) => Vec::new(),
         }
     }
 
@@ -325,6 +329,8 @@ impl<'a> Stage<'a> {
                 Ask::Trained(result, steps) => self.count_trained((result, steps), tally),
                 Ask::Trim(room) => self.count_trim(room, tally),
                 Ask::Trimmed => self.count_trimmed(tally),
+                Ask::Cause(position, room) => self.count_cause(position, room, tally),
+                Ask::Caused(position) => self.count_caused(position, tally),
                 Ask::List(_) | Ask::Skill(..) => {}
             }
         }
@@ -555,6 +561,8 @@ impl<'a> Stage<'a> {
             Ask::Trained(result, steps) => self.hold_trained((result, steps), checker),
             Ask::Trim(room) => self.hold_trim(room, checker),
             Ask::Trimmed => self.hold_trimmed(readers, checker),
+            Ask::Cause(position, room) => self.hold_cause(position, room, checker),
+            Ask::Caused(position) => self.hold_caused(position, checker),
             Ask::RetrainedList(_) | Ask::RetrainedSkill(..) => self.same_for_a_guest(ask, checker),
             Ask::List(_) | Ask::Skill(..) => Ok(()),
             Ask::HauledList | Ask::HauledSkill(_) => Ok(()),

@@ -29,6 +29,10 @@ pub enum Shown {
     Trimmed,
     /// What is promised of the lists under a trimmed catalogue, and of a second trim.
     UnderTrimmed,
+    /// The pairs that make an entry, or how many they are.
+    Cause,
+    /// What is promised of them.
+    Least,
     /// Bytes of the buffer that are not the entries', or the count alone.
     Buffer,
     Panic,
@@ -57,6 +61,8 @@ impl fmt::Display for Shown {
             Shown::Training => out.write_str("the skills after a step"),
             Shown::Trimmed => out.write_str("the trimmed catalogue"),
             Shown::UnderTrimmed => out.write_str("the lists under a trimmed catalogue"),
+            Shown::Cause => out.write_str("the pairs that make an entry"),
+            Shown::Least => out.write_str("the lists of parts"),
             Shown::Buffer => out.write_str("the buffer"),
             Shown::Panic => out.write_str("a panic"),
         }
@@ -78,6 +84,8 @@ impl Stage<'_> {
             Ask::Trained(..) => return Shown::Training,
             Ask::Trim(room) => return self.shown_in_trim(room, checker),
             Ask::Trimmed => return Shown::UnderTrimmed,
+            Ask::Cause(position, room) => return self.shown_in_cause(position, room, checker),
+            Ask::Caused(_) => return Shown::Least,
             _ => {}
         }
         let calls = self.lists(ask, readers).into_iter();

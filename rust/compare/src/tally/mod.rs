@@ -1,5 +1,6 @@
 //! Counts what the cases met, and names what they never met.
 
+mod cause;
 mod edge;
 mod haul;
 mod league;
@@ -23,6 +24,7 @@ use crate::page::Limits;
 use crate::reader::Reader;
 use crate::reference::{self, Catalogue, Fate, Fit, League, Listed, More, Refusal};
 
+pub use cause::{CauseEdge, Causing};
 pub use edge::{Hangar, Shape, Spot};
 pub use haul::{Haul, HaulEdge};
 pub use league::LeagueEdge;
@@ -298,6 +300,11 @@ impl Tally {
         self.writes(Call::Trim, room, length, word);
     }
 
+    /// The same of a cause.
+    pub fn cause(&mut self, room: Room, length: usize, word: u64) {
+        self.writes(Call::Cause, room, length, word);
+    }
+
     /// A call that writes an image.
     fn writes(&mut self, call: Call, room: Room, length: usize, word: u64) {
         self.calls += 1;
@@ -334,6 +341,23 @@ impl Tally {
     pub fn under_trimmed(&mut self, lists: Lists, word: u64) {
         self.calls += 2;
         trim::under(self, lists, word);
+    }
+
+    /// A cause whose images are not refused.
+    pub fn causing(&mut self, causing: &Causing) {
+        cause::called(self, causing);
+    }
+
+    /// Parts of so many kept pairs.
+    pub fn least(&mut self, count: usize) {
+        cause::least(self, count);
+    }
+
+    /// The refusals that a cause deserves, the one that it must give first.
+    pub fn cause_pair(&mut self, case: &Case) {
+        if let [second, first] = case.planted[..] {
+            self.meet(Point::CausePair(first.cause, second.cause));
+        }
     }
 
     /// The refusals that a trim deserves, the one that it must give first.

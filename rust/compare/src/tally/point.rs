@@ -2,6 +2,7 @@
 
 use std::fmt;
 
+use super::cause::CauseEdge;
 use super::edge::{CapitalEdge, Edge, Hangar, Shape, Spot};
 use super::haul::HaulEdge;
 use super::league::LeagueEdge;
@@ -108,6 +109,10 @@ pub enum Point {
     TrimPair(Cause, Cause),
     /// What a trim meets.
     Trim(TrimEdge),
+    /// A refusal by the cause where another is deserved too.
+    CausePair(Cause, Cause),
+    /// What a cause meets.
+    Cause(CauseEdge),
 }
 
 #[derive(Clone, Copy, Debug, PartialEq, Eq, PartialOrd, Ord)]
@@ -118,6 +123,7 @@ pub enum Call {
     Widen,
     Train,
     Trim,
+    Cause,
 }
 
 impl Call {
@@ -212,6 +218,8 @@ pub fn required() -> Vec<Point> {
     points.extend(of_training.map(|refusal| Point::Refusal(Call::Train, refusal)));
     let of_trims = [1, 2, 3, 4, 5, 6, 9, 10];
     points.extend(of_trims.map(|refusal| Point::Refusal(Call::Trim, refusal)));
+    let of_causes = [1, 2, 3, 4, 5, 6, 14, 15, 10];
+    points.extend(of_causes.map(|refusal| Point::Refusal(Call::Cause, refusal)));
     let plants = plant::plants().into_iter();
     points.extend(plants.map(|(cause, how, _)| Point::Planted(Plant { cause, how })));
     points.extend(plant::pairs().into_iter().map(|(a, b)| Point::Pair(a, b)));
@@ -221,6 +229,7 @@ pub fn required() -> Vec<Point> {
         Call::Widen,
         Call::Train,
         Call::Trim,
+        Call::Cause,
     ];
     for call in lent {
         let rooms = [
@@ -277,6 +286,9 @@ pub fn required() -> Vec<Point> {
     let pairs = plant::trimming_pairs().into_iter();
     points.extend(pairs.map(|(first, second)| Point::TrimPair(first, second)));
     points.extend(TrimEdge::all().into_iter().map(Point::Trim));
+    let pairs = plant::causing_pairs().into_iter();
+    points.extend(pairs.map(|(first, second)| Point::CausePair(first, second)));
+    points.extend(CauseEdge::all().into_iter().map(Point::Cause));
     points
 }
 
@@ -291,6 +303,7 @@ fn sizes() -> Vec<Point> {
         Call::Widen,
         Call::Train,
         Call::Trim,
+        Call::Cause,
     ];
     points.extend(calls.map(Point::FullSize));
     points.extend(Block::ALL.map(Point::Most));
@@ -334,6 +347,7 @@ impl fmt::Display for Call {
             Call::Widen => "widening",
             Call::Train => "training",
             Call::Trim => "trim",
+            Call::Cause => "cause",
         })
     }
 }
@@ -353,7 +367,7 @@ impl fmt::Display for Point {
             Point::Refusal(call, refusal) => write!(out, "refusal {refusal} by the {call}"),
             Point::Planted(plant) => write!(out, "refusal {}: {}", plant.cause, plant.how),
             Point::Pair(a, b) => write!(out, "refusal {a} where {b} is deserved too"),
-            Point::Room(call @ (Call::Widen | Call::Train | Call::Trim), room) => {
+            Point::Room(call @ (Call::Widen | Call::Train | Call::Trim | Call::Cause), room) => {
                 write!(out, "{call}, {}", room.words())
             }
             Point::Room(call, room) => write!(out, "{call} with entries, {}", room.words()),
@@ -403,6 +417,8 @@ impl fmt::Display for Point {
             Point::Train(edge) => out.write_str(&edge.words()),
             Point::TrimPair(a, b) => write!(out, "trim: refusal {a} where {b} is deserved too"),
             Point::Trim(edge) => out.write_str(&edge.words()),
+            Point::CausePair(a, b) => write!(out, "cause: refusal {a} where {b} is deserved too"),
+            Point::Cause(edge) => out.write_str(&edge.words()),
             Point::Fine(fine) => write!(out, "base value finer than an f32: {}", fine.words()),
             size => size.fmt_size(out),
         }

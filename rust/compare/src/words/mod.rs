@@ -4,7 +4,7 @@
 mod entry;
 mod tables;
 
-use crate::case::{Ask, Case, Growth, Room, Steps};
+use crate::case::{Ask, Case, Growth, Position, Room, Steps};
 use crate::checker::{Checker, ENTRY, Terms, in_words, refused};
 use crate::model::{Catalogue, Damage, Fit, Name, Outcome, hall_image};
 use crate::names::{MARKS, NAMES};
@@ -154,6 +154,11 @@ pub fn answers(case: &Case) -> String {
                 continue;
             }
             Ask::Trimmed => continue,
+            Ask::Cause(position, _) => {
+                text += &cause(&catalogue, &case.fits[0], *position);
+                continue;
+            }
+            Ask::Caused(_) => continue,
         };
         if asked.contains(&(terms.reader, result)) {
             continue;
@@ -212,6 +217,14 @@ pub fn ask(ask: Ask) -> String {
         Ask::Trim(room) => format!("trim, {}", self::room(room)),
         Ask::Trimmed => {
             "list and skills under both catalogues, and the trimmed one trimmed again".to_string()
+        }
+        Ask::Cause(position, room) => {
+            let (position, room) = (self::position(position), self::room(room));
+            format!("cause of {position}, {room}")
+        }
+        Ask::Caused(position) => {
+            let position = self::position(position);
+            format!("cause of {position}, with the lists of its parts")
         }
     }
 }
@@ -276,6 +289,32 @@ fn trim(catalogue: &[u8], fit: &Fit) -> String {
         catalogue.len(),
         small.len()
     )
+}
+
+fn position(position: Position) -> String {
+    match position {
+        Position::Of(number) => format!("position {number}"),
+        Position::Last => "the last entry".to_string(),
+        Position::Behind => "the position behind the list".to_string(),
+    }
+}
+
+/// What document 02 makes of a cause: the entry, and the pairs that make it.
+fn cause(catalogue: &[u8], fit: &Fit, position: Position) -> String {
+    let what = format!("cause of {}", self::position(position));
+    let made = || {
+        let catalogue = reference::Catalogue::decode(catalogue)?;
+        let fit = reference::Fit::decode(&fit.image())?;
+        let entries = reference::officers_list(&catalogue, &fit).entries.len();
+        let cause = reference::Cause::of(&catalogue, &fit, position.number(entries))?;
+        Ok((entry(&cause.entry), cause.numbers()))
+    };
+    match made() {
+        Ok((entry, numbers)) => format!("{what}: {entry}\n  pairs {numbers:?}\n"),
+        Err::<_, reference::Refusal>(refusal) => {
+            format!("{what}: document 02 makes it refusal {refusal}\n")
+        }
+    }
 }
 
 fn room(room: Room) -> String {

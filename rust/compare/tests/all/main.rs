@@ -1,6 +1,7 @@
 //! The tests of the comparison, and the documents' examples on every checker.
 
 mod agreement;
+mod cause;
 mod common;
 mod document;
 mod entries;

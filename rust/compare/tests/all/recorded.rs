@@ -85,9 +85,9 @@ fn every_rule_refusal_and_call_is_recorded() {
         }
     }
     assert_eq!(rules, (1..=21).chain(24..=26).collect());
-    // The main page gives no 13, an officer gets neither 19 nor 20, and 16 is a
-    // training's.
-    let is_given = |number: &u8| ![13, 16, 19, 20].contains(number);
+    // The main page gives no 13, an officer gets neither 19 nor 20, 16 is a training's,
+    // and 14 and 15 are a cause's.
+    let is_given = |number: &u8| ![13, 14, 15, 16, 19, 20].contains(number);
     let given = REFUSALS.into_iter().filter(is_given);
     let given = given.map(u64::from);
     assert_eq!(refusals, given.chain([0]).collect());

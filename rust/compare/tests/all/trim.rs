@@ -273,6 +273,10 @@ impl Checker for Forgetful {
             false => Original.trim(catalogue, fit, out),
         }
     }
+
+    fn cause(&self, catalogue: &[u8], fit: &[u8], position: u32, out: &mut [u8]) -> u64 {
+        Original.cause(catalogue, fit, position, out)
+    }
 }
 
 /// What is promised of both catalogues is reported where a checker breaks it, though

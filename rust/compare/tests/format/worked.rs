@@ -80,8 +80,8 @@ fn read(call: &str) -> (&str, Reader) {
 }
 
 /// A call as the page names it, `list`, `league 90` with the profile and this
-/// allowance, `skill 2`, `train 2 by 3` with so many steps, `trim`, `hall` or
-/// `widen`, on a buffer.
+/// allowance, `skill 2`, `train 2 by 3` with so many steps, `trim`, `cause 1`, `hall`
+/// or `widen`, on a buffer.
 fn called(checker: &dyn Checker, call: &str, images: &Images, out: &mut [u8]) -> u64 {
     let (call, limits) = limited(call);
     let (call, reader) = read(call);
@@ -106,6 +106,10 @@ fn called(checker: &dyn Checker, call: &str, images: &Images, out: &mut [u8]) ->
         Some(("skill", result)) => {
             let result = result.parse().unwrap();
             checker.skill(&images.catalogue, &images.fit, result, terms, out)
+        }
+        Some(("cause", position)) => {
+            let position = position.parse().unwrap();
+            checker.cause(&images.catalogue, &images.fit, position, out)
         }
         Some(("train", asked)) => {
             let (result, steps) = asked.split_once(" by ").expect("a result and steps");
@@ -188,6 +192,7 @@ fn the_words_are_the_pages() {
             "hall" => 0,
             "widen" | "trim" => word as u32 as usize,
             call if call.starts_with("train") => word as u32 as usize,
+            call if call.starts_with("cause") => word as u32 as usize,
             _ => ENTRY * (word as u32 as usize),
         };
         for (name, checker) in checkers() {
@@ -241,6 +246,24 @@ fn the_trimmed_catalogue_is_the_pages() {
             let (written, behind) = out.split_at(expected.len());
             assert_eq!(written, expected, "{name}");
             assert!(behind.iter().all(|byte| *byte == UNTOUCHED), "{name}");
+        }
+    }
+}
+
+/// The pairs that make an entry are the page's.
+#[test]
+fn the_causes_are_the_pages() {
+    let blocks = [("cause 1", None), ("cause 1 alone", Some("fit[53] = 00"))];
+    for (block, changed) in blocks {
+        let mut images = Images::of_the_page();
+        changed.into_iter().for_each(|change| images.change(change));
+        let expected = bytes(block);
+        for (name, checker) in checkers() {
+            let mut out = vec![UNTOUCHED; expected.len() + 4];
+            let word = called(&*checker, "cause 1", &images, &mut out);
+            assert_eq!(word, expected.len() as u64, "{name}, {block}");
+            assert_eq!(out[..expected.len()], expected, "{name}, {block}");
+            assert_eq!(out[expected.len()..], [UNTOUCHED; 4], "{name}, {block}");
         }
     }
 }

@@ -1334,6 +1334,231 @@ fn a_refused_trim_writes_nothing_and_no_file_that_is_read_is_overwritten() {
     assert_eq!(fs::read(&catalogue).unwrap(), before);
 }
 
+/// A hull with room for three turrets and for a volume of 2, five turrets and a plate
+/// between them, three stacks of cargo whose volume it is, a mode and a listed skill that
+/// are none; CPU is used up.
+fn crowded(folder: &Path, volume: f32) -> (String, String) {
+    let names = [
+        (Attribute::CpuLoad, 49),
+        (Attribute::CpuOutput, 48),
+        (Attribute::Capacity, 38),
+        (Attribute::HiSlots, 14),
+        (Attribute::TurretSlotsLeft, 102),
+    ];
+    let catalogue = whole(&names)
+        .type_info(587, 25, 6, None)
+        .type_info(484, 55, 7, Some(5.0))
+        .type_info(2048, 60, 7, Some(5.0))
+        .type_info(34, 18, 4, Some(volume))
+        .link(484, Mark::TurretFitted.number().into())
+        .build()
+        .unwrap();
+    let online = || ItemResult::new(State::Online);
+    let ship = online()
+        .with(49, 2.0)
+        .with(48, 1.0)
+        .with(38, 2.0)
+        .with(14, 8.0)
+        .with(102, 3.0);
+    let mut fit = FitBuilder::new(587);
+    fit.ship(ship).mode(2048).skill(34, 1);
+    for slot in 0..6 {
+        let type_id = if slot == 2 { 2048 } else { 484 };
+        fit.item(FitItem::new(type_id, Slot::High(slot)), online());
+    }
+    for quantity in [1, 4, 2] {
+        let stack = FitItem::new(34, Slot::Cargo).quantity(quantity);
+        fit.item(stack, online());
+    }
+    (
+        put(folder, "types.bin", &catalogue),
+        put(folder, "fit.bin", &fit.build().unwrap()),
+    )
+}
+
+#[test]
+fn each_entry_names_the_items_that_make_it() {
+    let folder = folder("why");
+    let (catalogue, fit) = crowded(&folder, 1.0);
+    let names = put(
+        &folder,
+        "names.txt",
+        b"587 Rifter\n484 125mm Gatling AutoCannon I\n34 Tritanium\n",
+    );
+    let asked = ["explain", &catalogue, &fit, "--names", &names];
+    let ran = officer(&[&asked[..], &["--why"]].concat());
+    assert_eq!((ran.status, &*ran.err), (3, ""));
+    let skills = "skills: none is lacking\n";
+    assert_eq!(
+        ran.out,
+        format!(
+            "faulted: 5 entries\n  \
+             type 2048 is set as the mode and is not a tactical mode\n    \
+             of no item: it is the mode\n  \
+             Tritanium is listed as a skill and is not one\n    \
+             of no item: it is the list of skills\n  \
+             CPU: 2 of 1 used\n    \
+             of no single item: it is what the ship comes to as a whole\n  \
+             Cargo bay: 7 of 2 used\n    \
+             shown by Tritanium (item 7)\n  \
+             Turret hardpoints: 5 of 3 used\n    \
+             shown by 125mm Gatling AutoCannon I (items 0, 1, 3, 4)\n\
+             {skills}"
+        )
+    );
+    // Without one of these the entry is gone; without the others it stays.
+    let plain = officer(&asked);
+    assert!(plain.out.contains("Turret hardpoints: 5 of 3 used\n"));
+    assert!(!plain.out.contains("shown by"));
+}
+
+#[test]
+fn an_entry_about_an_item_says_so() {
+    let folder = folder("why_item");
+    let (catalogue, fit) = faulted();
+    let (catalogue, fit) = (
+        put(&folder, "types.bin", &catalogue),
+        put(&folder, "fit.bin", &fit),
+    );
+    let ran = officer(&["explain", &catalogue, &fit, "--why"]);
+    let shares = |item: usize, other: usize| {
+        format!(
+            "  item {item} (type 2048) shares Low slot 1 with item {other} (type 2048)\n    \
+             shown by type 2048 (items 0, 1)\n"
+        )
+    };
+    assert!(ran.out.contains(&shares(0, 1)), "{}", ran.out);
+    assert!(ran.out.contains(&shares(1, 0)), "{}", ran.out);
+
+    let alone = CatalogueBuilder::new()
+        .type_info(587, 25, 6, None)
+        .build()
+        .unwrap();
+    let alone = put(&folder, "alone.bin", &alone);
+    let ran = officer(&["explain", &alone, &fit, "--why"]);
+    assert!(
+        ran.out.contains("\n    shown by the item alone\n"),
+        "{}",
+        ran.out
+    );
+}
+
+#[test]
+fn what_nothing_is_too_much_for_has_no_item() {
+    let folder = folder("why_nothing");
+    let names = [(Attribute::Capacity, 38), (Attribute::MaxActiveDrones, 352)];
+    let catalogue = whole(&names).type_info(587, 25, 6, None).build().unwrap();
+    let fit = FitBuilder::new(587)
+        .ship(ItemResult::new(State::Online).with(38, -1.0))
+        .character(ItemResult::new(State::Online).with(352, -2.0))
+        .build()
+        .unwrap();
+    let catalogue = put(&folder, "types.bin", &catalogue);
+    let fit = put(&folder, "fit.bin", &fit);
+    let ran = officer(&["explain", &catalogue, &fit, "--why"]);
+    let drones = "of no item: fewer than none may be launched";
+    let cargo = "of no item: there is less than no room, even with nothing in it";
+    assert_eq!(
+        ran.out,
+        format!(
+            "faulted: 2 entries\n  Launched drones: 0 of -2 used\n    {drones}\n  \
+             Cargo bay: 0 of -1 used\n    {cargo}\nskills: none is lacking\n"
+        )
+    );
+    let bare = CatalogueBuilder::new().build().unwrap();
+    let bare = put(&folder, "bare.bin", &bare);
+    let ran = officer(&["explain", &bare, &fit, "--why"]);
+    let ship = "\n    of no item: it is the ship itself\n";
+    assert!(ran.out.contains(ship), "{}", ran.out);
+}
+
+#[test]
+fn a_bad_volume_says_which_item_it_is_of() {
+    let folder = folder("why_volume");
+    let (catalogue, fit) = crowded(&folder, -1.0);
+    let ran = officer(&["explain", &catalogue, &fit, "--why"]);
+    assert_eq!((ran.status, &*ran.err), (3, ""));
+    let why = "\n  which items make each entry is not told: refused by 15: item 6 (type 34) is in Cargo \
+               and has a volume of -1, and volumes there have to be finite and not below 0\n";
+    assert!(ran.out.contains(why), "{}", ran.out);
+    assert!(ran.out.contains("  Turret hardpoints: 5 of 3 used\n"));
+
+    let ran = officer(&["explain", &catalogue, &fit, "--why", "--json"]);
+    let value = Value::parse(&ran.out);
+    let causes = value.get("causes");
+    assert_eq!(causes.get("number").number(), 15.0);
+    assert_eq!(causes.get("item").number(), 6.0);
+    assert_eq!(causes.get("volume").number(), -1.0);
+    for entry in value.get("entries").list() {
+        assert_eq!(entry.names(), ["target", "rule", "sentence"]);
+    }
+}
+
+/// In JSON a volume is as long as in the sentence, and is the same f32.
+#[test]
+fn a_bad_volume_in_json_is_the_one_of_its_sentence() {
+    let folder = folder("why_volume_json");
+    for volume in [-0.01, -0.1, -1e-30, -1.5e30, f32::MIN, -f32::from_bits(1)] {
+        let (catalogue, fit) = crowded(&folder, volume);
+        let ran = officer(&["explain", &catalogue, &fit, "--why", "--json"]);
+        let value = Value::parse(&ran.out);
+        let number = value.get("causes").get("volume").number();
+        assert_eq!((number as f32).to_bits(), volume.to_bits());
+        assert_eq!(number.to_string(), volume.to_string());
+    }
+    for (volume, word) in [
+        (f32::NAN, "NaN"),
+        (f32::INFINITY, "Infinity"),
+        (f32::NEG_INFINITY, "-Infinity"),
+    ] {
+        let (catalogue, fit) = crowded(&folder, volume);
+        let ran = officer(&["explain", &catalogue, &fit, "--why", "--json"]);
+        let said = format!("\"volume\":\"{word}\"");
+        assert!(ran.out.contains(&said), "{}", ran.out);
+    }
+}
+
+#[test]
+fn what_makes_an_entry_in_json() {
+    let folder = folder("why_json");
+    let (catalogue, fit) = crowded(&folder, 1.0);
+    let ran = officer(&["explain", &catalogue, &fit, "--why", "--json"]);
+    assert_eq!((ran.status, &*ran.err), (3, ""));
+    let value = Value::parse(&ran.out);
+    let items: Vec<Vec<f64>> = value
+        .get("entries")
+        .list()
+        .iter()
+        .map(|entry| {
+            let items = entry.get("items").list().iter();
+            items.map(Value::number).collect()
+        })
+        .collect();
+    let none = Vec::new;
+    assert_eq!(
+        items,
+        [none(), none(), none(), vec![7.0], vec![0.0, 1.0, 3.0, 4.0]]
+    );
+}
+
+#[test]
+fn a_refused_fit_is_refused_with_why_too() {
+    let folder = folder("why_refused");
+    let (catalogue, fit) = crowded(&folder, 1.0);
+    for (types, image, blamed, number) in [
+        (&fit, &fit, &fit, 1),
+        (&catalogue, &catalogue, &catalogue, 4),
+    ] {
+        let ran = officer(&["explain", types, image, "--why", "--json"]);
+        assert_eq!(ran.status, 1);
+        let said = format!("fitcheck: {blamed}: refused by {number}: ");
+        assert!(ran.err.starts_with(&said), "{}", ran.err);
+    }
+    let ran = officer(&["explain", &catalogue, &fit, "--why", "--pairs", "8"]);
+    assert_eq!((ran.status, &*ran.out), (1, ""));
+    assert!(ran.err.contains("refused by 13: "), "{}", ran.err);
+}
+
 /// A catalogue with a hull and a module of group 464, and a fit with one.
 fn miner(folder: &Path) -> (String, String) {
     let catalogue = whole(&[])

@@ -207,8 +207,17 @@ fn the_headers_numbers_are_the_crates() {
     assert_eq!(number("FITCHECK_MOST_ENTRIES"), fitcheck::MOST_ENTRIES);
     assert_eq!(number("FITCHECK_MOST_SKILLS"), fitcheck::MOST_SKILLS);
     assert_eq!(number("FITCHECK_FITS_PER_CALL"), fitcheck::FITS_PER_CALL);
-    let listed = fitcheck::Refusal::ListedSkills.number();
-    assert_eq!(number("FITCHECK_LISTED_SKILLS"), listed as usize);
+    assert_eq!(number("FITCHECK_CAUSE_BYTES"), fitcheck::CAUSE_BYTES);
+    for (name, refusal) in [
+        ("FITCHECK_NO_SUCH_ENTRY", fitcheck::Refusal::NoSuchEntry),
+        (
+            "FITCHECK_CARGO_VOLUME",
+            fitcheck::Refusal::CargoVolume(None),
+        ),
+        ("FITCHECK_LISTED_SKILLS", fitcheck::Refusal::ListedSkills),
+    ] {
+        assert_eq!(number(name), refusal.number() as usize);
+    }
     for (name, reader) in [
         ("FITCHECK_GUEST", fitcheck::Reader::Guest),
         ("FITCHECK_PILOT", fitcheck::Reader::Pilot),

@@ -90,7 +90,7 @@ fn the_command_prints_what_the_page_shows() {
         assert_eq!(String::from_utf8(both).unwrap(), printed, "{command}");
         run += 1;
     }
-    assert!(run >= 31, "the page has {run} runs of the command");
+    assert!(run >= 33, "the page has {run} runs of the command");
 }
 
 #[test]
@@ -224,6 +224,39 @@ fn the_objects_in_json_have_the_fields_that_the_page_lists() {
         .unwrap();
     assert_eq!(explained.get("skills").list()[0].names(), words(one));
     assert_eq!(words(other), ["result", "refusal"]);
+
+    let why = |fit: &str| {
+        let ran = Command::new(env!("CARGO_BIN_EXE_fitcheck"))
+            .args(["explain", "types.bin", fit, "--as", "officer", "--why"])
+            .arg("--json")
+            .current_dir(&at)
+            .output()
+            .unwrap();
+        Value::parse(&String::from_utf8(ran.stdout).unwrap())
+    };
+    let caused = why("fits/two.fit");
+    assert_eq!(caused.names(), row("`explain`"));
+    for entry in caused.get("entries").list() {
+        assert_eq!(entry.names(), row("one of `entries`, with `--why`"));
+    }
+    let weighing = fitcheck::CatalogueBuilder::new()
+        .type_info(34, 18, 4, Some(f32::NAN))
+        .build()
+        .unwrap();
+    let laden = fitcheck::FitBuilder::new(587)
+        .item(
+            fitcheck::FitItem::new(34, fitcheck::Slot::Cargo),
+            fitcheck::ItemResult::new(fitcheck::State::Online),
+        )
+        .build()
+        .unwrap();
+    let types = fs::read(at.join("types.bin")).unwrap();
+    fs::write(at.join("types.bin"), weighing).unwrap();
+    fs::write(at.join("laden.fit"), laden).unwrap();
+    let caused = why("laden.fit");
+    fs::write(at.join("types.bin"), types).unwrap();
+    assert_eq!(caused.names(), row("`explain --why`, where 15 refuses it"));
+    assert_eq!(caused.get("causes").names(), row("`refusal` by 15"));
 
     let half = shown(&["explain", "types.bin", "fits/half.fit"]);
     assert_eq!(half.names(), row("`explain`, not all of it checked"));

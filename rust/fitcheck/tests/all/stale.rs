@@ -155,7 +155,7 @@ fn a_library_of_another_interface_is_not_linked() {
             archive(&format!("{wanted}7")),
             "their parameters, images or rules differ.",
         ),
-        (b"fit_interface_8".to_vec(), "is not a static library."),
+        (b"fit_interface_9".to_vec(), "is not a static library."),
         (Vec::new(), "is not a static library."),
     ] {
         fs::write(&library, content).unwrap();

@@ -5,6 +5,7 @@
 
 mod buffers;
 mod builders;
+mod cause;
 mod common;
 mod entries;
 mod hall;

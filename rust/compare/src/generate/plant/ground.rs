@@ -3,7 +3,7 @@
 use super::super::fit::fit;
 use super::super::world::{Role, Style, World};
 use super::table::an_item;
-use crate::case::Room;
+use crate::case::{Position, Room};
 use crate::model::{Base, Catalogue, Fit, Outcome, Skill};
 use crate::names::{CAPACITY, MAX_ACTIVE_DRONES, REQUIRED, RIG_SIZE};
 use crate::page::Limits;
@@ -20,6 +20,7 @@ pub struct Ground {
     pub limits: Limits,
     pub reader: Reader,
     pub result: u32,
+    pub position: Position,
     pub room: Room,
 }
 
@@ -45,6 +46,7 @@ impl Ground {
             limits: Limits::MAIN,
             reader: Reader::OFFICER,
             result: 0,
+            position: Position::Last,
             room: Room::Longer(48),
         }
     }
@@ -81,6 +83,7 @@ impl Ground {
             limits: Limits::MAIN,
             reader: Reader::OFFICER,
             result: 0,
+            position: Position::Last,
             room: Room::Longer(24 * 700),
         }
     }

@@ -1,6 +1,7 @@
 //! Refusals planted on purpose: each way to deserve each number, alone or
 //! together with another.
 
+mod cause;
 mod ground;
 mod page;
 mod reader;
@@ -15,8 +16,8 @@ pub use ground::Ground;
 use table::{Dig, PLANTS};
 
 /// Every plant: why the call is refused, how that is deserved, and the change
-/// that does it. Those of readers and then of training come last, so that the
-/// numbers of the others stay.
+/// that does it. Those of readers, then of training and then of causes come last, so that
+/// the numbers of the others stay.
 pub fn plants() -> Vec<Row> {
     let numbered = PLANTS.iter();
     let numbered = numbered.map(|(number, how, dig)| (Cause::Number(*number), *how, *dig));
@@ -31,12 +32,17 @@ pub fn plants() -> Vec<Row> {
     let full = train::FULL.iter();
     let full = full.map(|(how, dig)| (Cause::Number(16), *how, *dig));
     let others = numbered.chain(pairs).chain(skills);
-    others.chain(above).chain(guests).chain(full).collect()
+    let beyond = cause::BEYOND.iter();
+    let beyond = beyond.map(|(how, dig)| (Cause::Number(14), *how, *dig));
+    let volumes = cause::VOLUMES.iter();
+    let volumes = volumes.map(|(how, dig)| (Cause::Number(15), *how, *dig));
+    let others = others.chain(above).chain(guests);
+    others.chain(full).chain(beyond).chain(volumes).collect()
 }
 
 /// How many plants a list or skill call can meet.
 pub fn untrained() -> usize {
-    plants().len() - train::FULL.len()
+    plants().len() - train::FULL.len() - cause::BEYOND.len() - cause::VOLUMES.len()
 }
 
 /// How many plants are not of readers.
@@ -71,7 +77,8 @@ pub fn other_pairs() -> usize {
 
 /// A result that is not there wants no skills and lists nothing; the skill
 /// call takes no profile, and the list call asks for no skills. A reader above 2
-/// is no guest, and a guest is refused in the skill call alone. 16 is a training's.
+/// is no guest, and a guest is refused in the skill call alone. 16 is a training's, 14 and
+/// 15 a cause's.
 fn can_meet(first: Cause, second: Cause) -> bool {
     use Cause::{Number, Skills};
     !matches!(
@@ -80,8 +87,8 @@ fn can_meet(first: Cause, second: Cause) -> bool {
             | (Number(11 | 12), Number(8 | 9) | Skills)
             | (Number(19), Number(20))
             | (Number(20), Number(11 | 12))
-            | (Number(16), _)
-            | (_, Number(16))
+            | (Number(14..=16), _)
+            | (_, Number(14..=16))
     )
 }
 
@@ -138,6 +145,22 @@ pub fn trimming_pairs() -> Vec<(Cause, Cause)> {
     met_together(can_trim)
 }
 
+/// Whether a cause can be refused for a cause.
+fn can_cause(cause: Cause) -> bool {
+    matches!(cause, Cause::Number(1..=6 | 14 | 15 | 10))
+}
+
+/// The plants that a cause can meet.
+pub fn causing() -> Vec<usize> {
+    met(can_cause)
+}
+
+/// The pairs of refusals that can meet in one cause: a buffer is too short for
+/// whatever pairs there would be.
+pub fn causing_pairs() -> Vec<(Cause, Cause)> {
+    met_together(can_cause)
+}
+
 /// Whether a widening can be refused for a cause.
 pub fn can_widen(cause: Cause) -> bool {
     matches!(cause, Cause::Number(1..=3 | 10))
@@ -171,6 +194,7 @@ pub enum Calls {
     Lists,
     Trainings,
     Trims,
+    Causes,
 }
 
 /// One plant alone.
@@ -206,6 +230,9 @@ pub fn either(rng: &mut Rng, plants: &[usize], pairs: &[(Cause, Cause)], calls: 
 
 /// The later refusal is planted first, so that the earlier one surely stands.
 fn planted(rng: &mut Rng, mut ground: Ground, plants: &[Row], calls: Calls) -> Case {
+    if calls == Calls::Causes {
+        cause::stranger(&mut ground);
+    }
     for (_, _, dig) in plants {
         dig(&mut ground, rng);
     }
@@ -216,6 +243,8 @@ fn planted(rng: &mut Rng, mut ground: Ground, plants: &[Row], calls: Calls) -> C
         Ask::Train(ground.result, steps(rng), ground.room)
     } else if calls == Calls::Trims {
         Ask::Trim(ground.room)
+    } else if calls == Calls::Causes {
+        Ask::Cause(ground.position, ground.room)
     } else if takes_a_result || (!takes_a_profile && rng.chance(400)) {
         Ask::Skill(ground.result, ground.room)
     } else {
@@ -264,6 +293,7 @@ mod tests {
         assert_eq!(other_pairs(), 69);
         assert_eq!(training_pairs().len(), 44);
         assert_eq!(trimming_pairs().len(), 28);
+        assert_eq!(causing_pairs().len(), 36);
     }
 
     #[test]
@@ -273,8 +303,8 @@ mod tests {
         let is_last =
             |(place, plant): (usize, &Row)| is_of_a_reader(plant.0) == of_readers.contains(&place);
         assert!(plants.iter().enumerate().all(is_last));
-        let full = plants[untrained()..].iter();
-        assert!(full.map(|plant| plant.0).eq([Cause::Number(16); 3]));
+        let own = plants[untrained()..].iter().map(|plant| plant.0.number());
+        assert!(own.is_sorted_by_key(|number| [16, 14, 15].iter().position(|own| *own == number)));
         let pairs = pairs().into_iter().map(|pair| is_of_a_reader(pair.0));
         assert!(pairs.is_sorted());
     }

@@ -8,7 +8,7 @@ use fitcheck::{Limits, Reader};
 use crate::files::Source;
 
 pub const USAGE: &str = "\
-Usage: fitcheck explain CATALOGUE FIT --as READER [--names FILE]
+Usage: fitcheck explain CATALOGUE FIT --as READER [--why] [--names FILE]
                         [--profile FILE --allowance N] [--pairs N] [--skills N] [--json]
        fitcheck hall CATALOGUE FOLDER [--json]
        fitcheck pack FIT.txt [--types FILE] [--out FOLDER]
@@ -21,7 +21,7 @@ Usage: fitcheck explain CATALOGUE FIT --as READER [--names FILE]
 pub const HELP: &str = "\
 Says which fitting rules of EVE Online a fit breaks.
 
-Usage: fitcheck explain CATALOGUE FIT --as READER [--names FILE]
+Usage: fitcheck explain CATALOGUE FIT --as READER [--why] [--names FILE]
                         [--profile FILE --allowance N] [--pairs N] [--skills N] [--json]
        fitcheck hall CATALOGUE FOLDER [--json]
        fitcheck pack FIT.txt [--types FILE] [--out FOLDER]
@@ -65,6 +65,9 @@ the FILE of -o are written, and are no file that is read, nor -.
               private: a guest is told neither which are lacking nor which
               listed ones are none, and so never that a fit is clear. Pilots and
               officers are told everything. It has to be named.
+--why         With --as officer, and without a league: below each entry the items
+              that show it, and of these none that it could do without: leave out
+              one or more, and it is gone. Others may show it too, or fewer.
 --names FILE  What types and groups are called: a line `2048 Damage Control II`
               for a type, `group 60 Damage Control` for a group; empty lines
               and lines that begin with # are passed over.
@@ -121,6 +124,8 @@ pub struct Explain {
     pub league: Option<(PathBuf, u32)>,
     /// How much the page takes.
     pub limits: Limits,
+    /// Whether it says which items make each entry.
+    pub why: bool,
     pub json: bool,
 }
 
@@ -179,6 +184,7 @@ struct Words {
     /// Options that have a value.
     values: Vec<(&'static str, OsString)>,
     json: bool,
+    why: bool,
     help: bool,
     version: bool,
 }
@@ -208,6 +214,7 @@ impl Words {
                 "--help" | "-h" => words.help = true,
                 "--version" | "-V" => words.version = true,
                 "--json" => words.json = true,
+                "--why" => words.why = true,
                 "--" => is_path = true,
                 text if text.len() > 1 && text.starts_with('-') => {
                     let (name, value) = match text.split_once('=') {
@@ -302,7 +309,8 @@ pub fn parse(line: impl IntoIterator<Item = OsString>) -> Result<Command, String
         _ => return Err(format!("there is no command {shown}")),
     };
     let unused = words.values.first().map(|value| value.0);
-    match (unused.or(words.json.then_some("--json")), plain.next()) {
+    let unused = unused.or(words.json.then_some("--json"));
+    match (unused.or(words.why.then_some("--why")), plain.next()) {
         (Some(option), _) => Err(format!("{shown} takes no {option}")),
         (None, Some((more, _))) => Err(format!("{} is one word too many", more.display())),
         (None, None) => Ok(asked),
@@ -353,15 +361,25 @@ fn explain(
     next: &mut impl FnMut(&str) -> Result<(OsString, bool), String>,
 ) -> Result<Command, String> {
     let (catalogue, fit) = images(next)?;
-    Ok(Command::Explain(Explain {
+    let asked = Explain {
         catalogue,
         fit,
         reader: reader(words)?,
         names: words.value("--names"),
         league: league(words)?,
         limits: limits(words)?,
+        why: std::mem::take(&mut words.why),
         json: std::mem::take(&mut words.json),
-    }))
+    };
+    match (asked.why, asked.reader, &asked.league) {
+        (true, Reader::Guest | Reader::Pilot, _) => {
+            Err("--why is an officer's: it wants --as officer".to_string())
+        }
+        (true, _, Some(_)) => {
+            Err("--why is about the list without a league, so it takes no --profile".to_string())
+        }
+        _ => Ok(Command::Explain(asked)),
+    }
 }
 
 /// Who reads it. Nobody is taken for granted: what is right for one reader says
@@ -462,6 +480,7 @@ mod tests {
             names: Some("n".into()),
             league: None,
             limits: Limits::main(),
+            why: false,
             json: true,
         });
         for line in [
@@ -490,6 +509,7 @@ mod tests {
             names: None,
             league: Some(("p".into(), 120)),
             limits: Limits::main(),
+            why: false,
             json: false,
         });
         for line in [
@@ -543,6 +563,21 @@ mod tests {
     }
 
     #[test]
+    fn why_is_asked_by_an_officer() {
+        for line in [
+            "explain c f --as officer --why",
+            "--why explain c --as=officer f --pairs 9",
+        ] {
+            let Ok(Command::Explain(asked)) = parsed(line) else {
+                panic!("{line}");
+            };
+            assert!(asked.why && !asked.json, "{line}");
+        }
+        let path = "explain c --as officer -- --why";
+        assert!(matches!(parsed(path), Ok(Command::Explain(asked)) if !asked.why));
+    }
+
+    #[test]
     fn a_trim_is_written_where_a_file_is_named() {
         let trimmed = |new: Option<&str>, json: bool| {
             Command::Trim(Trim {
@@ -571,6 +606,7 @@ mod tests {
                 names: None,
                 league: None,
                 limits,
+                why: false,
                 json: false,
             })
         };
@@ -610,6 +646,7 @@ mod tests {
             names: None,
             league: None,
             limits: Limits::main(),
+            why: false,
             json: false,
         });
         assert_eq!(parsed("explain c - --as officer"), Ok(piped));
@@ -632,6 +669,25 @@ mod tests {
             ("explain c f --names=", "--names wants a file"),
             ("explain c f --names a --names b", "--names stands twice"),
             ("hall c f --names a", "hall takes no --names"),
+            ("hall c f --why", "hall takes no --why"),
+            ("trim c f --why", "trim takes no --why"),
+            ("explain c f --why=x", "there is no option --why"),
+            (
+                "explain c f --why",
+                "explain wants --as and who reads it: guest, pilot or officer",
+            ),
+            (
+                "explain c f --why --as guest",
+                "--why is an officer's: it wants --as officer",
+            ),
+            (
+                "explain c f --why --as pilot",
+                "--why is an officer's: it wants --as officer",
+            ),
+            (
+                "explain c f --why --as officer --profile p --allowance 1",
+                "--why is about the list without a league, so it takes no --profile",
+            ),
             ("pack f --json", "pack takes no --json"),
             (
                 "explain c f --types t --as pilot",
