@@ -85,7 +85,7 @@ all-any [] = nil
 all-any (x ∷ l) = cons tt (all-any l)
 
 -- a test that some pass is a count above 0
-any_counted : {A : Type 0} (t : A → Bool) (l : List A) → any_of t l ≡ ltb 0 (count_of t l)
+pub any_counted : {A : Type 0} (t : A → Bool) (l : List A) → any_of t l ≡ ltb 0 (count_of t l)
 unfolding any_of count_of only
 any_counted t [] = refl
 any_counted {A} t (x ∷ l) = go (t x) (any_counted t l)

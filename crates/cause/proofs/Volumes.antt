@@ -25,13 +25,3 @@ fair-is (fin s m e) = always (le zero_f (fin s m e))
     always : (b : Bool) → b && true ≡ b
     always true = refl
     always false = refl
-
--- some pass where not none is counted
-pub counted-any : {A : Type 0} (t : A → Bool) (l : List A) → ltb 0 (count_of t l) ≡ any_of t l
-unfolding count_of only any_of
-counted-any t [] = refl
-counted-any {A} t (x ∷ l) = go (t x) (counted-any t l)
-  where
-    go : (b : Bool) → ltb 0 (length (only t l)) ≡ any_of t l → ltb 0 (length (cond b (x ∷ only t l) (only t l))) ≡ b || any_of t l
-    go true h = lt-ltb 0 (suc (length (only t l))) (omega arith)
-    go false h = h

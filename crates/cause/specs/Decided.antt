@@ -8,6 +8,8 @@ use Rattle.std.specs.Float.Ieee.{add}
 use Rattle.words.specs.Words.{given, sum_of}
 use Rattle.numbers.specs.Names as Names
 use Rattle.numbers.specs.Slots as Slots
+use Rattle.numbers.specs.declared.Resource.TheVariants.{LaunchedDrones, CargoBay}
+use Rattle.numbers.specs.Resources as Resources
 use Rattle.image.specs.Bytes.{u8_at, u32_at}
 use Rattle.floats.specs.Floats.{zero_f, of_nat, over}
 use Rattle.entry.specs.declared.Entry.{Entry}
@@ -75,8 +77,9 @@ Members n x s flags = (i : ℕ) → i < n → get_or flags i false ≡ member_in
 -- of drones, of Cargo and of any other resource
 abbrev pub load_broken : Held → ℕ → List Pair → Bool
 load_broken x kind qs =
-    cond (eqb kind 5) (over (of_nat (launched qs)) (amount_of (context_in x) Names.max_active_drones (context_in x).character_result))
-    (cond (eqb kind 11) (over (cargo_used qs) (amount_of (context_in x) Names.capacity (context_in x).ship_result)) true)
+    let c = context_in x in
+    cond (eqb kind (Resources.number LaunchedDrones)) (over (of_nat (launched qs)) (amount_of c Names.max_active_drones c.character_result))
+    (cond (eqb kind (Resources.number CargoBay)) (over (cargo_used qs) (amount_of c Names.capacity c.ship_result)) true)
 
 -- the drones that a pair has in space, and what it takes up in Cargo, if it is there
 unfoldable pub stack_of : Pair → ℕ

@@ -6,6 +6,8 @@ use Rattle.words.specs.Words.{given, count_of, any_of, table, from}
 use Rattle.numbers.specs.Names as Names
 use Rattle.numbers.specs.declared.SlotKind.{SlotKind}
 use Rattle.numbers.specs.declared.GroupLimit.{GroupLimit}
+use Rattle.numbers.specs.declared.Resource.TheVariants.{LaunchedDrones, CargoBay}
+use Rattle.numbers.specs.Resources as Resources
 use Rattle.floats.specs.Floats.{zero_f, of_nat, to_u, over}
 use Rattle.catalogue.specs.Catalogue.{Catalogue}
 use Rattle.catalogue.specs.Lookups.{name_id}
@@ -64,12 +66,11 @@ module _ (x : Context) where
       (cond (eqb rule 18) (allowed_by Names.max_type_fitted p.result) 0)
 
 -- ---- of any entry
--- LaunchedDrones, CargoBay
 abbrev pub sums_drones : (rule sub : ℕ) → Bool
-sums_drones rule sub = eqb rule 1 && eqb sub 5
+sums_drones rule sub = eqb rule 1 && eqb sub (Resources.number LaunchedDrones)
 
 abbrev pub sums_cargo : (rule sub : ℕ) → Bool
-sums_cargo rule sub = eqb rule 1 && eqb sub 11
+sums_cargo rule sub = eqb rule 1 && eqb sub (Resources.number CargoBay)
 
 -- Slots, SlotTaken, SubsystemTaken, MaxGroup, MaxType
 unfoldable pub is_counted : ℕ → Bool

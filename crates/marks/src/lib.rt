@@ -1,7 +1,8 @@
 // A set of places, one bit for each: 64 to a word, so that a stretch without marks is passed over quickly.
 #![tactic(auto)]
 
-ghost use Rattle.std.specs.Prelude.{◌≡◌, true, false, ◌||◌, ℕ, ◌+◌, ◌*◌, ◌%◌, ◌<◌, ◌≤◌, eqb, length, get_or};
+ghost use Rattle.std.specs.Prelude.{◌≡◌, true, false, ◌||◌, ℕ, ◌+◌, ◌*◌, ◌%◌};
+ghost use Rattle.std.specs.Prelude.{◌<◌, ◌≤◌, eqb, length, get_or};
 ghost use Rattle.marks.specs.Marks.{bit_of, is_marked, NextMark};
 
 // A word with bit i set.

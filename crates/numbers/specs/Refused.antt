@@ -2,8 +2,9 @@
 use Rattle.std.specs.Prelude.{ℕ, Result, Ok, Err}
 use Rattle.numbers.specs.Refusals as Refusals
 use Rattle.numbers.specs.declared.refusals.Refusal.{Refusal}
-use Rattle.numbers.specs.declared.refusals.Refusal.TheVariants.{BadLength, BadKeys, BadEntry, BadSize, BadIds, BadField, NoResult, TooManySkills}
-use Rattle.numbers.specs.declared.refusals.Refusal.TheVariants.{TooShort, BadProfile, BadPrices, OverLimit, NoEntry, BadVolume, TooManyListed, NoReader, NotForGuests}
+use Rattle.numbers.specs.declared.refusals.Refusal.TheVariants.{BadLength, BadKeys, BadEntry, BadSize, BadIds, BadField}
+use Rattle.numbers.specs.declared.refusals.Refusal.TheVariants.{NoResult, TooManySkills, TooShort, BadProfile, BadPrices, OverLimit}
+use Rattle.numbers.specs.declared.refusals.Refusal.TheVariants.{NoEntry, BadVolume, TooManyListed, NoReader, NotForGuests}
 
 abbrev pub number : Refusal → ℕ
 number BadLength = Refusals.bad_length

@@ -314,8 +314,8 @@ TrimDecodes = (catalogue fit buffer : List ℕ) → refusal (trim_outcome catalo
     → let small = written (trim_outcome catalogue fit buffer) in
     (catalogue_refusal small ≡ 0) × (catalogue_of small ≡ trimmed (catalogue_of catalogue) (touched (catalogue_of catalogue) (fit_of fit)))
 
--- So a type, a link or a base is in it exactly where it was in the old one and the fit touches its id: it names that, or a result of it wants
--- that skill.
+-- So a type, a link or a base is in it exactly where it was in the old one and the fit touches its id: it names that, or a result of it
+-- wants that skill.
 abbrev pub TrimTouches : Type 0
 TrimTouches = (catalogue fit buffer : List ℕ) → refusal (trim_outcome catalogue fit buffer) ≡ 0
     → TouchedAlone (catalogue_of catalogue) (fit_of fit) (catalogue_of (written (trim_outcome catalogue fit buffer)))

@@ -1,6 +1,7 @@
 -- Document 01, "Skill walk": up to 512 skills and levels are held. What the arrays of the code hold, what noting does to them, and what
 -- a walk that has ended says.
-use Rattle.std.specs.Prelude.{ℕ, ◌≤◌, ◌<◌, ◌≡◌, length, get_or, ℤ, pos, ltb, Float, Option, None, Some, option_to_list, Result, Ok, IsOk, IsErr, is_err, FitsSigned}
+use Rattle.std.specs.Prelude.{ℕ, ◌≤◌, ◌<◌, ◌≡◌, length, get_or, ℤ, pos, ltb, Float}
+use Rattle.std.specs.Prelude.{Option, None, Some, option_to_list, Result, Ok, IsOk, IsErr, is_err, FitsSigned}
 use mir.Syntax.{w32}
 use mathlib.Core.List.{List, foldl}
 use Rattle.words.specs.Words.{each, table}
@@ -80,7 +81,8 @@ abbrev pub all_demands : Catalogue → Fit → List Demand
 all_demands c f = each (all_results f) (of_result c)
 
 pub record HoldsAll (catalogue fit : List ℕ) (r : Result Walk TooMany) : Type 0 where
-  pub holds : (w : Walk) → r ≡ Ok w → walk_of w ≡ noted (met_from (catalogue_of catalogue) (all_demands (catalogue_of catalogue) (fit_of fit)) most_wanted)
+  pub holds : (w : Walk) → r ≡ Ok w
+      → walk_of w ≡ noted (met_from (catalogue_of catalogue) (all_demands (catalogue_of catalogue) (fit_of fit)) most_wanted)
   pub few : (w : Walk) → r ≡ Ok w → w.len ≤ most_wanted
 
 -- a walk that has ended: whether too many skills are wanted, and the wanted ones where not

@@ -1,6 +1,7 @@
 // Marks of a window of places: where the runs of records that are kept begin. Keys never descend, so that the records under one id are
 // a run of each block.
-ghost use Rattle.std.specs.Prelude.{◌≡◌, [], ◌∷◌, map, ℕ, ◌+◌, ◌-◌, ◌*◌, ◌^◌, min, ◌<◌, ◌≤◌, eqb, length, get_or, slice_index_or, pos};
+ghost use Rattle.std.specs.Prelude.{◌≡◌, [], ◌∷◌, map, ℕ, ◌+◌, ◌-◌, ◌*◌, ◌^◌};
+ghost use Rattle.std.specs.Prelude.{min, ◌<◌, ◌≤◌, eqb, length, get_or, slice_index_or, pos};
 ghost use Rattle.words.specs.Words.{table, given};
 ghost use Rattle.image.specs.Bytes.{i32_at};
 ghost use Rattle.marks.specs.Marks.{NextMark};
