@@ -38,7 +38,7 @@ use Rattle.cause.proofs.Staying.{thinned-same, listed_at, cause-passes}
 use Rattle.cause.proofs.ReadBack.{none, pairs-length}
 
 -- the own pair, by its number and by the target
-own-kept : (t : Target) (kept : List Bool) → has_own (own t) kept ≡ is_kept kept t
+pub own-kept : (t : Target) (kept : List Bool) → has_own (own t) kept ≡ is_kept kept t
 unfolding has_own own is_kept given
 own-kept Ship kept = refl
 own-kept (Item i) kept = refl

@@ -83,22 +83,21 @@ module _ (k : List Bool) where
       four true x y z a b = omega (arith, a, b)
       four false x y z a b = omega (arith, a, b)
 
-  -- one number more is put behind the others
-  pub put-next : (o out after : List ℕ) (at i : ℕ) → i < length k → at ≡ 4 * size (take i k)
-      → out ≡ put o 0 (each (numbers_of (take i k)) (le 4)) → after ≡ cond (get_or k i false) (put out at (le 4 i)) out
-      → after ≡ put o 0 (each (numbers_of (take (i + 1) k)) (le 4))
+  -- one number more is put behind the others, which stand from place b on
+  pub put-next : (o out after : List ℕ) (b at i : ℕ) → i < length k → at ≡ b + 4 * size (take i k)
+      → out ≡ put o b (each (numbers_of (take i k)) (le 4)) → after ≡ cond (get_or k i false) (put out at (le 4 i)) out
+      → after ≡ put o b (each (numbers_of (take (i + 1) k)) (le 4))
   unfolding each
-  put-next o out after at i h a e p =
+  put-next o out after b at i h a e p =
       let ns = numbers_of (take i k) in
       let bs = each ns (le 4) in
-      let len : length bs ≡ at = bytes-size i (omega (arith, h)) ∙ sym a in
+      let len : b + length bs ≡ at = omega (arith, bytes-size i (omega (arith, h)), a) in
       p ∙ ap (λ (l : List ℕ). cond (get_or k i false) (put l at (le 4 i)) l) e
       ∙ go (get_or k i false) bs len
-      ∙ ap (put o 0) (sym (ap (λ (l : List ℕ). each l (le 4)) (numbers-end i h) ∙ each_append (le 4) ns (cond (get_or k i false) (i ∷ []) [])))
+      ∙ ap (put o b) (sym (ap (λ (l : List ℕ). each l (le 4)) (numbers-end i h) ∙ each_append (le 4) ns (cond (get_or k i false) (i ∷ []) [])))
     where
-      go : (b : Bool) (bs : List ℕ) → length bs ≡ at → cond b (put (put o 0 bs) at (le 4 i)) (put o 0 bs) ≡ put o 0 (bs ++ each (cond b (i ∷ []) []) (le 4))
+      go : (f : Bool) (bs : List ℕ) → b + length bs ≡ at → cond f (put (put o b bs) at (le 4 i)) (put o b bs) ≡ put o b (bs ++ each (cond f (i ∷ []) []) (le 4))
       go true bs len =
-          let q : 0 + length bs ≡ at = omega (arith, len) in
-          ap (λ (m : ℕ). put (put o 0 bs) m (le 4 i)) (sym q)
-          ∙ sym (put-append o 0 bs (le 4 i)) ∙ ap (λ (l : List ℕ). put o 0 (bs ++ l)) (sym (append-nil (le 4 i)))
-      go false bs len = ap (put o 0) (sym (append-nil bs))
+          ap (λ (m : ℕ). put (put o b bs) m (le 4 i)) (sym len)
+          ∙ sym (put-append o b bs (le 4 i)) ∙ ap (λ (l : List ℕ). put o b (bs ++ l)) (sym (append-nil (le 4 i)))
+      go false bs len = ap (put o b) (sym (append-nil bs))

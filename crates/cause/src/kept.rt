@@ -89,7 +89,7 @@ pub fn thinned(context: &Context, shown: Shown, deciding: &Deciding) -> [bool; 2
 }
 
 // How many of the first n are kept.
-fn count(kept: &[bool; 256], n: usize) -> usize
+pub fn count(kept: &[bool; 256], n: usize) -> usize
     requires { n ≤ 256 }
     ensures { (result ≡ size (take n kept.now)) × (result ≤ n) }
 {
@@ -112,11 +112,12 @@ fn put_number(kept: bool, i: usize, at: usize, out: &mut [u8]) -> usize
     at
 }
 
-fn put_numbers(kept: &[bool; 256], n: usize, out: &mut [u8])
-    requires { (n ≤ 256) × (4 * size (take n kept.now) ≤ length out.old) }
-    ensures { out.new ≡ put out.old 0 (each (numbers_of (take n kept.now)) (le 4)) }
+// The numbers of the first n that are kept, ascending, from a place on.
+pub fn put_numbers(kept: &[bool; 256], n: usize, from: usize, out: &mut [u8])
+    requires { (n ≤ 256) × (from + 4 * size (take n kept.now) ≤ length out.old) }
+    ensures { out.new ≡ put out.old from (each (numbers_of (take n kept.now)) (le 4)) }
 {
-    let mut at = 0;
+    let mut at = from;
     for i in 0..n {
         at = put_number(kept[i], i, at, out);
     }
@@ -132,6 +133,6 @@ pub fn write(kept: &[bool; 256], n: usize, out: &mut [u8]) -> Result<usize, Refu
     if out.len() < size {
         return Err(Refusal::TooShort);
     }
-    put_numbers(kept, n, out);
+    put_numbers(kept, n, 0, out);
     Ok(size)
 }

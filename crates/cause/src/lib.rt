@@ -3,9 +3,9 @@
 #![tactic(auto)]
 
 mod deciding;
-mod kept;
-mod members;
-mod shown;
+pub mod kept;
+pub mod members;
+pub mod shown;
 
 ghost use Rattle.std.specs.Prelude.{◌≡◌, ◌+◌, ◌*◌, ◌<◌, ◌≤◌, ◌++◌, length};
 ghost use Rattle.words.specs.Words.{any_of};

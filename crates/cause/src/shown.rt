@@ -31,7 +31,7 @@ fn own_at(b: &[u8], at: usize) -> Option<usize>
     Some(image::size_at(b, at + 4))
 }
 
-fn read(b: &[u8], at: usize) -> Shown
+pub fn read(b: &[u8], at: usize) -> Shown
     requires { at + 8 ≤ length b.now }
     ensures { result ≡ shown_at b.now at }
 {

@@ -1,0 +1,3 @@
+pub mod LeaveOut
+pub mod Bits
+pub mod Held
