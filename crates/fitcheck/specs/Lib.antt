@@ -5,3 +5,4 @@ pub mod Widen
 pub mod Train
 pub mod Trim
 pub mod Cause
+pub mod LeaveOut

@@ -14,6 +14,7 @@ ghost use Rattle.fitcheck.specs.Widen.{widen_call};
 ghost use Rattle.fitcheck.specs.Train.{train_call};
 ghost use Rattle.fitcheck.specs.Trim.{trim_call};
 ghost use Rattle.fitcheck.specs.Cause.{cause_call};
+ghost use Rattle.fitcheck.specs.LeaveOut.{leave_out_call};
 
 use calls::word;
 use catalogue::Catalogue;
@@ -203,9 +204,31 @@ pub fn fit_cause(catalogue: &[u8], fit: &[u8], position: u32, out: &mut [u8]) ->
     word(answer_cause(catalogue, fit, position, out))
 }
 
-// The number of this set of calls and images, in the symbol's name: a caller written for another set does not link.
-pub fn fit_interface_9() -> u64
-    ensures { result ≡ 9 }
+fn answer_leave_out(
+    catalogue: &[u8],
+    fit: &[u8],
+    budget: u32,
+    out: &mut [u8],
+) -> Result<usize, Refusal>
+    ensures { GaveBytes out.old out.new (word_of result) (leave_out_call catalogue.now fit.now budget out.old) }
 {
-    9
+    calls::check_images(catalogue, fit)?;
+    let catalogue = Catalogue::new(catalogue);
+    let fit = Fit::new(fit);
+    leave_out::leave_out(&catalogue, &fit, budget, out)
+}
+
+// What to leave out: the smallest set of pairs to take off among those that a budget of tries checks.
+pub fn fit_leave_out(catalogue: &[u8], fit: &[u8], budget: u32, out: &mut [u8]) -> u64
+    ensures { let call = leave_out_call catalogue.now fit.now budget out.old in
+        (result ≡ output_word call) × (out.new ≡ filled out.old call) }
+{
+    word(answer_leave_out(catalogue, fit, budget, out))
+}
+
+// The number of this set of calls and images, in the symbol's name: a caller written for another set does not link.
+pub fn fit_interface_10() -> u64
+    ensures { result ≡ 10 }
+{
+    10
 }

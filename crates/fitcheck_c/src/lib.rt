@@ -11,6 +11,7 @@ ghost use Rattle.fitcheck.specs.Widen.{widen_call};
 ghost use Rattle.fitcheck.specs.Train.{train_call};
 ghost use Rattle.fitcheck.specs.Trim.{trim_call};
 ghost use Rattle.fitcheck.specs.Cause.{cause_call};
+ghost use Rattle.fitcheck.specs.LeaveOut.{leave_out_call};
 
 // The list call.
 #[unsafe(no_mangle)]
@@ -101,10 +102,19 @@ pub extern "C" fn fit_cause(catalogue: &[u8], fit: &[u8], position: u32, out: &m
     fitcheck::fit_cause(catalogue, fit, position, out)
 }
 
+// What to leave out.
+#[unsafe(no_mangle)]
+pub extern "C" fn fit_leave_out(catalogue: &[u8], fit: &[u8], budget: u32, out: &mut [u8]) -> u64
+    ensures { let call = leave_out_call catalogue.now fit.now budget out.old in
+        (result ≡ output_word call) × (out.new ≡ filled out.old call) }
+{
+    fitcheck::fit_leave_out(catalogue, fit, budget, out)
+}
+
 // The number of this set of calls and images, in the symbol's name.
 #[unsafe(no_mangle)]
-pub extern "C" fn fit_interface_9() -> u64
-    ensures { result ≡ 9 }
+pub extern "C" fn fit_interface_10() -> u64
+    ensures { result ≡ 10 }
 {
-    fitcheck::fit_interface_9()
+    fitcheck::fit_interface_10()
 }

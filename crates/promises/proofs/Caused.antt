@@ -14,7 +14,7 @@ use Rattle.promises.specs.Causes.{CauseExample}
 use Rattle.promises.proofs.Growing.{below, are_bytes}
 use Rattle.promises.proofs.Opened.{opened}
 
-three_bytes : Bytes THREE
+pub three_bytes : Bytes THREE
 unfolding below opened
 three_bytes = are_bytes THREE tt
 

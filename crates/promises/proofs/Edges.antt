@@ -1,6 +1,7 @@
 -- The edges: every outcome of the table, by computation, but for the large rows.
 use mathlib.Core.Path.{refl, sym, ap₂, ◌∙◌}
 use mathlib.Core.List.{List, ◌++◌, map-append}
+use lib.ListN.{take, drop}
 use Rattle.words.specs.Words.{each}
 use Rattle.promises.specs.Cases.{outcome_of, Case}
 use Rattle.promises.specs.RuleCases.{KINDS, RESOURCES, SLOTS, ITEMS, CROWDS, ORDER}
@@ -14,6 +15,7 @@ use Rattle.promises.specs.ReaderCases.{TOLD, READERS}
 use Rattle.promises.specs.TrainCases.{TRAINED, FULL}
 use Rattle.promises.specs.TrimCases.{TRIMMED}
 use Rattle.promises.specs.CauseCases.{CAUSED, COUNTED, SHARED, SUMMED, UNCAUSED, ASKED}
+use Rattle.promises.specs.LeavingCases.{BUDGETS, NAMED, SURPLUS, MANY, LEAVING, CRAMMED}
 use Rattle.promises.specs.Edges.{STARRED, SKILLS, PARTS, EDGES, Agree}
 use Rattle.words.proofs.All.{All, nil, cons}
 use Rattle.promises.proofs.Opened.{opened}
@@ -185,8 +187,40 @@ agree_asked : Agree ASKED
 unfolding opened
 agree_asked = refl
 
+agree_budgets : Agree BUDGETS
+unfolding opened
+agree_budgets = refl
+
+agree_named : Agree NAMED
+unfolding opened
+agree_named = refl
+
+agree_surplus : Agree SURPLUS
+unfolding opened
+agree_surplus = refl
+
+agree_many : Agree MANY
+unfolding opened
+agree_many = refl
+
+agree_leaving : Agree LEAVING
+unfolding opened
+agree_leaving = refl
+
+-- row by row, as the two together take too much memory
+agree_room : Agree (take 1 CRAMMED)
+unfolding opened
+agree_room = refl
+
+agree_short : Agree (drop 1 CRAMMED)
+unfolding opened
+agree_short = refl
+
 join : (a b : List Case) → Agree a → Agree b → Agree (a ++ b)
 join a b p q = map-append (λ (x : Case). outcome_of x.0) a b ∙ ap₂ ◌++◌ p q ∙ sym (map-append (λ (x : Case). x.1) a b)
+
+agree_crammed : Agree CRAMMED
+agree_crammed = join (take 1 CRAMMED) (drop 1 CRAMMED) agree_room agree_short
 
 joined : {parts : List (List Case)} → All Agree parts → Agree (each parts λ part. part)
 unfolding each
@@ -206,4 +240,5 @@ edges =
     (cons agree_told (cons agree_readers
     (cons agree_trained (cons agree_full (cons agree_trimmed
     (cons agree_caused (cons agree_counted (cons agree_thronged (cons agree_shared (cons agree_summed
-    (cons agree_uncaused (cons agree_asked nil))))))))))))))))))))))))))))))))))))))))))))
+    (cons agree_uncaused (cons agree_asked
+    (cons agree_budgets (cons agree_named (cons agree_surplus (cons agree_many (cons agree_leaving (cons agree_crammed nil))))))))))))))))))))))))))))))))))))))))))))))))))

@@ -43,6 +43,11 @@ pub mod Causes
 pub mod Differing
 pub mod Seen
 pub mod Caused
+pub mod Smallest
+pub mod LeavingOut
+pub mod Numbering
+pub mod Surplus
+pub mod LeftExample
 pub mod Thronged
 pub mod Edges
 pub mod Deciding

@@ -41,6 +41,10 @@ use Rattle.fitcheck.specs.Trim.{trim_call}
 use Rattle.parts.specs.Parts.{chosen, size as size_of_set, numbers_of, part_of, down_from, thinned}
 use Rattle.cause.specs.Cause.{id_of, alike, same_target, is_about, is_kept, renumbered, shows, cause_of, bad_volume, cause_bytes}
 use Rattle.fitcheck.specs.Cause.{cause_call}
+use Rattle.marks.specs.Marks.{bit_of}
+use Rattle.leave_out.specs.LeaveOut.{is_named, set_of, tried, all_tries, good, better, tries_made, left_out, above, surplus, distance}
+use Rattle.leave_out.specs.LeaveOut.{leave_out_bytes}
+use Rattle.fitcheck.specs.LeaveOut.{leave_out_call}
 use Rattle.promises.specs.Before.{too_many_drones, list_before, rust_call}
 use Rattle.promises.specs.Cases.{known, outcome_of}
 
@@ -132,6 +136,10 @@ open_causes : Unit {0}
 unfolding open_parts id_of alike same_target is_about is_kept renumbered shows cause_of is_volume le bad_volume cause_bytes cause_call
 open_causes = tt
 
+open_leaving : Unit {0}
+unfolding bit_of is_named set_of tried all_tries good better tries_made left_out above surplus distance leave_out_bytes leave_out_call
+open_leaving = tt
+
 open_league : Unit {0}
 unfolding Profile.prices_of Profile.bad_profile Profile.bad_prices Profile.profile_refusals Profile.profile_refusal Profile.points_of
 open_league = tt
@@ -145,7 +153,7 @@ unfolding open_lists open_kinds open_resources open_slots open_slot_checks open_
 open_rules = tt
 
 open_outputs : Unit {0}
-unfolding open_widening open_training open_trimming open_causes
+unfolding open_widening open_training open_trimming open_causes open_leaving
 open_outputs = tt
 
 unfoldable pub opened : Unit {0}

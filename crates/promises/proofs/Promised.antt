@@ -1,12 +1,16 @@
 -- The promises, all of them. Each is proved in a file of its own.
-use Prim.Native.Nat.{ℕ, ◌+◌}
+use Prim.Native.Nat.{ℕ, ◌+◌, ◌≤◌}
 use mathlib.Core.Path.{◌≡◌, refl}
-use mathlib.Core.Bool.{true, false}
+use mathlib.Core.Bool.{Bool, true, false}
+use mathlib.Core.List.{List, [], ◌∷◌}
+use lib.Dec.{T, lit≤, lit<}
 use lib.ListN.{replicate}
 use Rattle.words.specs.Words.{each, table_from}
 use Rattle.catalogue.specs.Catalogue.{catalogue_of}
 use Rattle.fit.specs.Fit.{fit_of}
 use Rattle.lists.specs.Terms.{Terms, read_by, main}
+use Rattle.parts.specs.Parts.{size, holds, less}
+use Rattle.leave_out.specs.LeaveOut.{good, surplus}
 use Rattle.promises.specs.Answers.{refusal}
 use Rattle.promises.specs.Compare.{Alike, Kept}
 use Rattle.promises.specs.Hauls.{outside_hold}
@@ -17,6 +21,7 @@ use Rattle.promises.specs.CallCases.{small}
 use Rattle.promises.specs.TrimCases.{WHOLE, FLOWN, SMALL}
 use Rattle.promises.specs.CauseCases.{THREE}
 use Rattle.promises.specs.Causes.{crowd, Enough}
+use Rattle.promises.specs.LeavingOut.{Good, Smallest}
 use Rattle.promises.specs.Trims.{SameAnswers, Touching, Copy}
 use Rattle.promises.specs.Widens.{written}
 use Rattle.promises.specs.Promises.{list_outcome, skill_outcome, Names, Promises}
@@ -43,6 +48,11 @@ use Rattle.promises.proofs.Causes.{cause_answers, cause_room, cause_asked, cause
 use Rattle.promises.proofs.Differing.{entries_differ}
 use Rattle.promises.proofs.Seen.{cause_shows}
 use Rattle.promises.proofs.Caused.{cause_example}
+use Rattle.promises.proofs.LeavingOut.{leave_answers, leave_room, leave_numbers, set-is, tries-are, distance-adds, set-good}
+use Rattle.promises.proofs.LeavingOut.{set-smallest, off-by, good_lists, set-needed, set-best, set-more, good-bound}
+use Rattle.promises.proofs.Numbering.{set-numbered}
+use Rattle.promises.proofs.Surplus.{surplus-listed}
+use Rattle.promises.proofs.LeftExample.{left_example}
 use Rattle.promises.proofs.Edges.{edges}
 
 names : Names
@@ -114,6 +124,22 @@ promised = record {
   cause_none = λ catalogue fit position buffer e h at own. none_kept catalogue fit position buffer h e at own;
   entries_differ = entries_differ;
   cause_example = cause_example;
+  leave_answers = leave_answers;
+  leave_room = leave_room;
+  left_set = λ catalogue fit budget buffer h. (leave_numbers catalogue fit budget buffer h, set-is catalogue fit budget buffer h);
+  left_smallest = set-smallest;
+  left_numbers = set-numbered;
+  left_tries = tries-are;
+  left_distance = distance-adds;
+  left_surplus = surplus-listed;
+  left_bound = good-bound;
+  left_off = off-by;
+  left_good = set-good;
+  good_lists = good_lists;
+  left_least = set-needed;
+  left_best = set-best;
+  left_more = set-more;
+  left_example = left_example;
   names = names;
   edges = edges;
 }
@@ -191,3 +217,28 @@ kept-applies = promised.trim_copies WHOLE FLOWN (replicate 400 7) refl
 cause_applies : Enough crowd true true false
 unfolding opened
 cause_applies = promised.cause_least small THREE 0 (replicate 12 7) crowd cause_example.bytes refl refl
+
+-- P13 as it is promised, of an image: of three in a rack of one, the last two are left out, and neither can be put back; no good set is
+-- smaller, whichever it is
+abbrev three_left : List Bool
+three_left = false ∷ true ∷ true ∷ []
+
+needed_applies : (i : ℕ) → T (holds three_left i) → T (good (catalogue_of small) (fit_of THREE) (less three_left i)) → ⊥
+unfolding opened
+needed_applies i = promised.left_least small THREE 3 (replicate 16 7) refl i (lit≤ tt)
+
+best-applies : (s : List Bool) → Good (catalogue_of small) (fit_of THREE) s → 2 ≤ size s
+unfolding opened
+best-applies s = promised.left_best small THREE 65552 (replicate 16 7) refl s (lit≤ tt) (lit≤ tt)
+
+smallest_applies : Smallest (catalogue_of small) (fit_of THREE) 11 three_left
+unfolding opened
+smallest_applies = promised.left_smallest small THREE 4294967295 (replicate 16 7) refl
+
+surplus_applies : surplus (catalogue_of small) (fit_of THREE) ≡ 2
+unfolding opened
+surplus_applies = promised.left_surplus (catalogue_of small) (fit_of THREE) (lit< tt)
+
+more-applies : 2 ≤ 3
+unfolding opened
+more-applies = promised.left_more small THREE 0 65552 (replicate 20 7) (replicate 16 7) (lit≤ tt) refl refl

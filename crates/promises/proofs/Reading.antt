@@ -20,10 +20,10 @@ use Rattle.parts.specs.Parts.{holds, numbers_of}
 use Rattle.promises.proofs.Placed.{and_both}
 
 -- ---- four bytes each
-first_word : (x : ℕ) (l : List ℕ) → x < 4294967296 → u32_at (le 4 x ++ l) 0 ≡ x
+pub first_word : (x : ℕ) (l : List ℕ) → x < 4294967296 → u32_at (le 4 x ++ l) 0 ≡ x
 first_word x l h = u32_alike (le 4 x ++ l) (le 4 x) 0 0 (λ b k. get_or-append (le 4 x) l 0 (0 + b) (omega (arith, k))) ∙ le-u32 x h
 
-later_word : (x : ℕ) (l : List ℕ) (j : ℕ) → u32_at (le 4 x ++ l) (4 * (j + 1)) ≡ u32_at l (4 * j)
+pub later_word : (x : ℕ) (l : List ℕ) (j : ℕ) → u32_at (le 4 x ++ l) (4 * (j + 1)) ≡ u32_at l (4 * j)
 later_word x l j = u32_alike (le 4 x ++ l) l (4 * (j + 1)) (4 * j) λ b k.
     let q : 4 * (j + 1) + b ≡ 4 + (4 * j + b) = omega arith in
     ap (λ (i : ℕ). get_or (le 4 x ++ l) i 0) q ∙ get_or-append-add (le 4 x) l (4 * j + b) 0

@@ -84,7 +84,7 @@ three true true false p q r = absurd r
 three true false c p q r = absurd q
 three false b c p q r = absurd p
 
-any_found : {A : Type 0} (t : A → Bool) (l : List A) → T (any_of t l) → (x : A) × Memᴰ x l × T (t x)
+pub any_found : {A : Type 0} (t : A → Bool) (l : List A) → T (any_of t l) → (x : A) × Memᴰ x l × T (t x)
 unfolding any_of
 any_found t [] h = absurd h
 any_found {A} t (y ∷ l) h = go (t y) refl h (any_found t l)

@@ -27,6 +27,8 @@ use Rattle.trim.specs.Trim.{trim_refusals}
 use Rattle.fitcheck.specs.Trim.{trim_call}
 use Rattle.cause.specs.Cause.{cause_refusals, cause_bytes}
 use Rattle.fitcheck.specs.Cause.{cause_call}
+use Rattle.leave_out.specs.LeaveOut.{tries_made, leave_out_bytes}
+use Rattle.fitcheck.specs.LeaveOut.{leave_out_call}
 use Rattle.promises.specs.Before.{list_before}
 
 -- ---- a catalogue: types with their groups and categories in the game
@@ -234,6 +236,10 @@ pub data Input : Type 0 where
   CauseRefusal : Catalogue → Fit → (position : ℕ) → Input
   Causes : Catalogue → Fit → (position : ℕ) → Input
   CauseCall : (catalogue fit : List ℕ) (position : ℕ) (buffer : List ℕ) → Input
+  -- the tries that a budget makes; tries, distance and numbers of what is left out, in bytes; the call for it
+  TriesMade : Catalogue → Fit → (budget : ℕ) → Input
+  LeavesOut : Catalogue → Fit → (budget : ℕ) → Input
+  LeaveOutCall : (catalogue fit : List ℕ) (budget : ℕ) (buffer : List ℕ) → Input
 
 pub data Expected : Type 0 where
   Number : ℕ → Expected
@@ -281,6 +287,10 @@ outcome_of (CauseRefusal c f position) = Number (first_of (cause_refusals c f po
 outcome_of (Causes c f position) = InBytes (cause_bytes c f position)
 outcome_of (CauseCall catalogue fit position buffer) =
     let o = cause_call catalogue fit position buffer in Returns (output_word o) (filled buffer o)
+outcome_of (TriesMade c f budget) = Number (tries_made c f budget)
+outcome_of (LeavesOut c f budget) = InBytes (leave_out_bytes c f budget)
+outcome_of (LeaveOutCall catalogue fit budget buffer) =
+    let o = leave_out_call catalogue fit budget buffer in Returns (output_word o) (filled buffer o)
 
 abbrev pub Case : Type 0
 Case = Input × Expected

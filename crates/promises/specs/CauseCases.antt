@@ -15,10 +15,10 @@ use Rattle.promises.specs.Cases.{CauseRefusal, Causes, CauseCall, Number, InByte
 use Rattle.promises.specs.CallCases.{words, small}
 
 -- n halves, n being odd; below zero
-abbrev halves : ℕ → Float
+abbrev pub halves : ℕ → Float
 halves n = fin false n (negsuc 0)
 
-abbrev minus : ℕ → Float
+abbrev pub minus : ℕ → Float
 minus n = fin true n (pos 0)
 
 -- ---- kept pairs
@@ -35,7 +35,7 @@ abbrev load_keeps_none : (position : ℕ) → Case
 load_keeps_none position = keeps (from 0 20) loaded (one gun 0 0 [] ∷ []) position []
 
 -- a gun, beside a mode that is none and a listed skill that is none
-abbrev unskilled : Fit
+abbrev pub unskilled : Fit
 unskilled = record {
   frame = record { ship = ship; mode_flag = 1; mode = gun; ship_result = result 0 []; character_result = result 0 [] };
   skills = gun ∷ plate ∷ [];
@@ -114,10 +114,10 @@ rackful things results = record {
 }
 
 -- three guns, of which two have results; two, of which each has one, and a result more
-abbrev unpaired : Fit
+abbrev pub unpaired : Fit
 unpaired = rackful (one gun 0 0 [] ∷ one gun 0 1 [] ∷ one gun 0 2 [] ∷ []) (result 1 [] ∷ result 1 [] ∷ [])
 
-abbrev spare : Fit
+abbrev pub spare : Fit
 spare = rackful (one gun 0 0 [] ∷ one gun 0 1 [] ∷ []) (result 1 [] ∷ result 1 [] ∷ result 1 [] ∷ [])
 
 -- a plate first, and an item without a result: what is left of the two others still has its own results
@@ -543,33 +543,33 @@ abbrev refuses : (catalogue fit : List ℕ) (lent position n : ℕ) → Case
 refuses catalogue fit lent position n = (CauseCall catalogue fit position (replicate lent 7), Returns (n * 4294967296) (replicate lent 7))
 
 -- an effect with a mark, and two types: a ship, and one that is no module, of a volume by its bits
-abbrev hull : ℕ × List ℕ
+abbrev pub hull : ℕ × List ℕ
 hull = (1, 25 ∷ 6 ∷ 0 ∷ 0 ∷ [])
 
-abbrev goods : (volume : ℕ) → ℕ × List ℕ
+abbrev pub goods : (volume : ℕ) → ℕ × List ℕ
 goods volume = (9, 450 ∷ 25 ∷ 1 ∷ volume ∷ [])
 
-abbrev stock : (mark : ℕ) → List (ℕ × List ℕ) → List ℕ
+abbrev pub stock : (mark : ℕ) → List (ℕ × List ℕ) → List ℕ
 stock mark types = words (0 ∷ 1 ∷ length types ∷ 0 ∷ 0 ∷ 3 ∷ mark ∷ []) ++ words (map (λ t. t.0) types) ++ words (each types λ t. t.1)
 
 -- a volume of 1, and one below zero
-abbrev fair : List ℕ
+abbrev pub fair : List ℕ
 fair = stock 2 (hull ∷ goods 0x3F800000 ∷ [])
 
 abbrev foul : ℕ × List ℕ
 foul = goods 0xBF800000
 
-abbrev unfair : List ℕ
+abbrev pub unfair : List ℕ
 unfair = stock 2 (hull ∷ foul ∷ [])
 
 -- ship 1 under a mode flag, with listed skills and two of type 9: in a High slot, where it is no module, and in the hold. The entries are
 -- those of the skills, which are none, and behind them the first item's
-abbrev shipped : (flag : ℕ) (skills : List ℕ) → List ℕ
+abbrev pub shipped : (flag : ℕ) (skills : List ℕ) → List ℕ
 shipped flag skills =
     words (length skills ∷ 2 ∷ 2 ∷ 0 ∷ 1 ∷ flag ∷ 0 ∷ []) ++ words skills ++ replicate (length skills) 0
     ++ words (9 ∷ 1 ∷ 0 ∷ 9 ∷ 1 ∷ 11 ∷ []) ++ replicate 16 0
 
-abbrev sent : List ℕ
+abbrev pub sent : List ℕ
 sent = shipped 0 []
 
 abbrev pub ASKED : List Case

@@ -1,6 +1,6 @@
 -- Document 01, "Edges, those marked * proved": one table of inputs and outcomes. First the starred edges, then a case for and against every
 -- rule, entries and calls in bytes, every part of every refusal, what widens to what, leagues, missing types, the limits of pages, readers,
--- training, trimmed catalogues, causes.
+-- training, trimmed catalogues, causes, what to leave out.
 use Rattle.std.specs.Prelude.{ℕ, ◌≡◌, true, false, List, [], ◌∷◌, map, pos, negsuc}
 use Rattle.std.specs.Float.{nan, inf, binary64}
 use Rattle.std.specs.Float.Ieee.{of_int, of_bits}
@@ -25,6 +25,7 @@ use Rattle.promises.specs.ReaderCases.{TOLD, READERS}
 use Rattle.promises.specs.TrainCases.{TRAINED, FULL}
 use Rattle.promises.specs.TrimCases.{TRIMMED}
 use Rattle.promises.specs.CauseCases.{CAUSED, COUNTED, THRONGED, SHARED, SUMMED, UNCAUSED, ASKED}
+use Rattle.promises.specs.LeavingCases.{BUDGETS, NAMED, SURPLUS, MANY, LEAVING, CRAMMED}
 
 -- ---- skills
 -- skills 1 and 2 demand each other: 2 at 1, and 1 at 4
@@ -109,7 +110,8 @@ PARTS =
     STARRED ∷ SKILLS ∷ KINDS ∷ RESOURCES ∷ SLOTS ∷ ITEMS ∷ CROWDS ∷ ORDER ∷ ENTRIES ∷ CALLS
     ∷ LENGTHS ∷ KEYS ∷ FIELDS ∷ SIZES ∷ IDS ∷ RANGES ∷ DRONES ∷ NUMBERS ∷ BUFFERS ∷ FIRSTS ∷ LARGE ∷ ZEROS
     ∷ VALUES ∷ WIDENED ∷ PROFILES ∷ LEAGUE ∷ PROFILED ∷ UNKNOWNS ∷ CARRIED ∷ PAIRS ∷ LIMITS ∷ PAGES ∷ TOLD ∷ READERS
-    ∷ TRAINED ∷ FULL ∷ TRIMMED ∷ CAUSED ∷ COUNTED ∷ THRONGED ∷ SHARED ∷ SUMMED ∷ UNCAUSED ∷ ASKED ∷ []
+    ∷ TRAINED ∷ FULL ∷ TRIMMED ∷ CAUSED ∷ COUNTED ∷ THRONGED ∷ SHARED ∷ SUMMED ∷ UNCAUSED ∷ ASKED
+    ∷ BUDGETS ∷ NAMED ∷ SURPLUS ∷ MANY ∷ LEAVING ∷ CRAMMED ∷ []
 
 abbrev pub EDGES : List Case
 EDGES = each PARTS λ part. part

@@ -26,3 +26,5 @@ pub mod ReaderCases
 pub mod TrainCases
 pub mod TrimCases
 pub mod CauseCases
+pub mod LeavingOut
+pub mod LeavingCases

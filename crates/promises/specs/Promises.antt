@@ -1,12 +1,13 @@
 -- Every promise, whole, with no proof in it; `proofs/Promised.antt` has the theorem. The calls are `list_call`, `skill_call`, `hall_call`,
--- `widen_call`, `train_call`, `trim_call` and `cause_call` of fitcheck/specs, functions of bytes, and the exported functions are proved
--- equal to them: the word by `returned`, `hall_returned`, `output_word`, the buffer by `buffered`, `filled`. Read `Answers`, `Compare`,
--- `GrownCase`, `KeptCases`, `Walks`, `Halls`, `Widens`, `Trains`, `Trims`, `Causes`, `Edges` beside this file, and lists/specs for the
--- list. `Terms` is what a call brings beside images and buffer.
-use Rattle.std.specs.Prelude.{ℕ, ◌+◌, ◌*◌, ◌/◌, ◌≤◌, ◌<◌, ◌≡◌, Bool, false, not, ◌↔◌, T, leb, eqb, length, get_or, slice_get, Some}
+-- `widen_call`, `train_call`, `trim_call`, `cause_call` and `leave_out_call` of fitcheck/specs, functions of bytes, and the exported
+-- functions are proved equal to them: the word by `returned`, `hall_returned`, `output_word`, the buffer by `buffered`, `filled`. Read
+-- `Answers`, `Compare`, `GrownCase`, `KeptCases`, `Walks`, `Halls`, `Widens`, `Trains`, `Trims`, `Causes`, `LeavingOut`, `Edges` beside this
+-- file, and lists/specs for the list. `Terms` is what a call brings beside images and buffer.
+use Rattle.std.specs.Prelude.{ℕ, ◌+◌, ◌*◌, ◌/◌, ◌^◌, min, ◌≤◌, ◌<◌, ◌≡◌, Bool, false, not, cond, ◌↔◌, T, leb, eqb}
+use Rattle.std.specs.Prelude.{length, get_or, slice_get, Some}
 use mathlib.Core.List.{List, [], map, Memᴰ}
 use Rattle.std.specs.Float.Ieee.Exact.{HasValue}
-use Rattle.words.specs.Words.{from, only, is_empty}
+use Rattle.words.specs.Words.{from, only, is_empty, sum_of}
 use Rattle.image.specs.Bytes.{u8_at}
 use Rattle.floats.specs.Floats.{of_nat}
 use Rattle.catalogue.specs.Catalogue.{Catalogue, catalogue_of}
@@ -25,8 +26,9 @@ use Rattle.validate.specs.Validate.{list_of}
 use Rattle.lists.specs.Lists.{league_list, whole_list, for_reader, list_for}
 use Rattle.training.specs.Training.{step, trained_by}
 use Rattle.trim.specs.Trim.{touched, trimmed}
-use Rattle.parts.specs.Parts.{every, holds, down_from, thinned}
+use Rattle.parts.specs.Parts.{size, every, holds, less, numbers_of, part_of, down_from, thinned}
 use Rattle.cause.specs.Cause.{is_about, shows, cause_bytes}
+use Rattle.leave_out.specs.LeaveOut.{set_of, good, left_out, surplus, leave_out_bytes}
 use Rattle.calls.specs.Output.{Written}
 use Rattle.fitcheck.specs.Calls.{list_call, skill_call}
 use Rattle.fitcheck.specs.Hall.{hall_call, hall_returned}
@@ -45,6 +47,8 @@ use Rattle.promises.specs.Trains.{train_outcome, trained_bytes, train_conditions
 use Rattle.promises.specs.Trims.{trim_outcome, trimmed_bytes, trim_conditions, SameAnswers, TouchedAlone, CopiedUnder, TrimExample}
 use Rattle.promises.specs.Causes.{cause_outcome, listed, cause_conditions, kept_of, Numbers, without, Least, Seen, of_the_ship}
 use Rattle.promises.specs.Causes.{CauseExample}
+use Rattle.promises.specs.LeavingOut.{leave_outcome, leave_conditions, made_in, distance_in, behind_both, set_in, Good, is_against}
+use Rattle.promises.specs.LeavingOut.{above_in, Smallest, LeftExample}
 use Rattle.promises.specs.Names.{numbered, name_numbers}
 use Rattle.promises.specs.Edges.{EDGES, Agree}
 
@@ -407,6 +411,87 @@ EntriesDiffer = (catalogue fit : List ℕ) (i j : ℕ) (a b : Entry) → None (f
     → slice_get (listed catalogue fit) i ≡ Some a → slice_get (listed catalogue fit) j ≡ Some b
     → T (is_about a.target a.rule b) → ⊥
 
+-- P13. Of any bytes, the call that says what to leave out gives the first refusal whose condition holds, 10 being the highest, and no other
+-- byte than its two numbers and the set's changes; where no condition holds, it gives these.
+abbrev pub LeaveAnswers : Type 0
+LeaveAnswers = (catalogue fit : List ℕ) (budget : ℕ) (buffer : List ℕ)
+    → Fills 10 (leave_conditions catalogue fit budget buffer) (leave_out_bytes (catalogue_of catalogue) (fit_of fit) budget) buffer
+    (leave_outcome catalogue fit budget buffer)
+
+-- No set has more than 256 pairs: a buffer of 1,032 bytes is never too short.
+abbrev pub LeaveRoom : Type 0
+LeaveRoom = (catalogue fit : List ℕ) (budget : ℕ) (buffer : List ℕ) → 1032 ≤ length buffer
+    → refusal (leave_outcome catalogue fit budget buffer) ≡ 10 → ⊥
+
+-- What is so of an answered call on a fit.
+abbrev pub Left : (Catalogue → Fit → (budget : ℕ) → Outcome → Type 0) → Type 0
+Left P = (catalogue fit : List ℕ) (budget : ℕ) (buffer : List ℕ) → refusal (leave_outcome catalogue fit budget buffer) ≡ 0
+    → P (catalogue_of catalogue) (fit_of fit) budget (leave_outcome catalogue fit budget buffer)
+
+-- It writes numbers of pairs, ascending, four bytes each, behind the two numbers: of what the tries leave, one after the other.
+abbrev pub LeftSet : Type 0
+LeftSet = Left λ c f budget o. Numbers (length (pairs c f)) (behind_both o) × (set_in (length (pairs c f)) o ≡ left_out c f budget)
+
+-- So of the smallest good set that the tries check, the earliest among equals: first the pairs that stay off when each in turn, from the
+-- first, is put back where the set stays good, then every set by ascending number.
+abbrev pub LeftSmallest : Type 0
+LeftSmallest = Left λ c f budget o. Smallest c f (made_in o) (set_in (length (pairs c f)) o)
+
+-- The set of a number, of n pairs: the powers of two of its pairs add up to the number.
+abbrev pub LeftNumbers : Type 0
+LeftNumbers = (n m : ℕ) → m < 2 ^ n → (length (set_of n m) ≡ n) × (sum_of (λ i. 2 ^ i) (numbers_of (set_of n m)) ≡ m)
+
+-- The tries made are each pair in turn and, with up to 16 pairs, every set; or the budget if that is less.
+abbrev pub LeftTries : Type 0
+LeftTries = Left λ c f budget o.
+    let n = length (pairs c f) in
+    made_in o ≡ min budget (n + cond (leb n 16) (2 ^ n) 0)
+
+-- The distance is how many more pairs the set has than the racks' surplus, of which every good set has at least as many.
+abbrev pub LeftDistance : Type 0
+LeftDistance = Left λ c f budget o. distance_in o + surplus c f ≡ size (set_in (length (pairs c f)) o)
+
+-- The surplus, in the bytes of entries: over the officer's list without a profile, what each entry of a rack says is used less what it says
+-- the ship has. A fit that is accepted has at most 256 pairs.
+abbrev pub LeftSurplus : Type 0
+LeftSurplus = (c : Catalogue) (f : Fit) → length (pairs c f) < 2 ^ 32
+    → surplus c f ≡ sum_of (λ e. above_in (entry_bytes e)) (whole_list main c f)
+
+abbrev pub LeftBound : Type 0
+LeftBound = (c : Catalogue) (f : Fit) (s : List Bool) → Good c f s → surplus c f ≤ size s
+
+-- So it says how far off the set is at most: no good set has fewer pairs by more than the distance.
+abbrev pub LeftOff : Type 0
+LeftOff = Left λ c f budget o. (s : List Bool) → Good c f s → size (set_in (length (pairs c f)) o) ≤ size s + distance_in o
+
+-- The set is good.
+abbrev pub LeftGood : Type 0
+LeftGood = Left λ c f budget o. Good c f (set_in (length (pairs c f)) o)
+
+-- What that means, in the bytes of entries: the officer's list of the fit without its pairs, and without a profile, has no entry of a rule
+-- that is named.
+abbrev pub GoodLists : Type 0
+GoodLists = (c : Catalogue) (f : Fit) (s : List Bool)
+    → T (good c f s) ↔ ((e : Entry) → Memᴰ e (whole_list main c (part_of f (map not s))) → T (is_against (entry_bytes e)) → ⊥)
+
+-- With at least as many tries as pairs, no pair can be put back from it alone.
+abbrev pub LeftLeast : Type 0
+LeftLeast = Left λ c f budget o.
+    let off = set_in (length (pairs c f)) o in
+    (i : ℕ) → length (pairs c f) ≤ budget → T (holds off i) → T (good c f (less off i)) → ⊥
+
+-- With up to 16 pairs and 65,552 tries or more, every other good set has at least as many.
+abbrev pub LeftBest : Type 0
+LeftBest = Left λ c f budget o.
+    (s : List Bool) → length (pairs c f) ≤ 16 → 65552 ≤ budget → Good c f s → size (set_in (length (pairs c f)) o) ≤ size s
+
+-- A larger budget never gives a larger set.
+abbrev pub LeftMore : Type 0
+LeftMore = (catalogue fit : List ℕ) (a b : ℕ) (buffer other : List ℕ) → a ≤ b
+    → refusal (leave_outcome catalogue fit a buffer) ≡ 0 → refusal (leave_outcome catalogue fit b other) ≡ 0
+    → let n = length (pairs (catalogue_of catalogue) (fit_of fit)) in
+    size (set_in n (leave_outcome catalogue fit b other)) ≤ size (set_in n (leave_outcome catalogue fit a buffer))
+
 -- Every name has its number of document 01, and the tables go through them in order: 0 to 87, none twice and none left out.
 abbrev pub Names : Type 0
 Names = (map (λ n. n.0) numbered ≡ map (λ n. n.1) numbered) × (name_numbers ≡ from 0 88)
@@ -485,5 +570,22 @@ pub record Promises : Type 0 where
   pub entries_differ : EntriesDiffer
   -- an image, its causes, and parts that are none
   pub cause_example : CauseExample
+  pub leave_answers : LeaveAnswers
+  pub leave_room : LeaveRoom
+  pub left_set : LeftSet
+  pub left_smallest : LeftSmallest
+  pub left_numbers : LeftNumbers
+  pub left_tries : LeftTries
+  pub left_distance : LeftDistance
+  pub left_surplus : LeftSurplus
+  pub left_bound : LeftBound
+  pub left_off : LeftOff
+  pub left_good : LeftGood
+  pub good_lists : GoodLists
+  pub left_least : LeftLeast
+  pub left_best : LeftBest
+  pub left_more : LeftMore
+  -- an image, what is left out of it, and sets that are not
+  pub left_example : LeftExample
   pub names : Names
   pub edges : Edges
