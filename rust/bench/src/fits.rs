@@ -196,6 +196,73 @@ pub fn worst(number: u64) -> Fit {
     made
 }
 
+/// A ship without an item.
+fn empty(number: u64) -> Fit {
+    let shape = Shape {
+        modules: 0,
+        drones: 0,
+        goods: 0,
+        implants: 0,
+        ..SMALL
+    };
+    fit(shape, number)
+}
+
+/// So many pairs of one type, of which none may stay, and which break every other rule
+/// that has to go too, but only all together: two share a slot, two a part, and of the
+/// rack and the group there is one too many. Whatever is tried, the last rule of the
+/// first pair that stays is in the way.
+pub fn gathered(pairs: usize, number: u64) -> Fit {
+    let mut made = empty(number);
+    let mut rng = Rng::for_case(13, number);
+    let modules = world::types_of(|role| matches!(role, Role::Module(_)));
+    let type_id = pick(&mut rng, &modules);
+    let most = pairs as f64 - 1.0;
+    set(&mut made.ship, RACKS, most - 2.0);
+    for pair in 0..pairs {
+        let (kind, index) = match pair {
+            0 | 1 => (SUBSYSTEM, pair),
+            pair => (HIGH, pair.max(3)),
+        };
+        let item = Item {
+            type_id,
+            quantity: 1,
+            kind,
+            index: index as u16,
+            ..Item::default()
+        };
+        let mut values = vec![(SUBSYSTEM_SLOT, 125.0), (MAX_TYPE_FITTED, 0.0)];
+        values.extend((0..3).map(|limit| (GROUP_LIMITS + limit, most)));
+        push(&mut made, &mut rng, item, ACTIVE, values, 12);
+    }
+    made
+}
+
+/// So many pairs of one type and group, of which the first suffers one less beside it than
+/// there are, and each behind it one less than the one before: half of them may stay, and
+/// of more than those the pairs behind the first half say so.
+pub fn stepped(pairs: usize, number: u64) -> Fit {
+    let mut made = empty(number);
+    let mut rng = Rng::for_case(14, number);
+    let modules = world::types_of(|role| matches!(role, Role::Module(_)));
+    let type_id = pick(&mut rng, &modules);
+    let most = pairs as f64 - 1.0;
+    set(&mut made.ship, RACKS, most);
+    for pair in 0..pairs {
+        let item = Item {
+            type_id,
+            quantity: 1,
+            kind: HIGH,
+            index: pair as u16,
+            ..Item::default()
+        };
+        let mut values = vec![(MAX_TYPE_FITTED, most - pair as f64)];
+        values.extend((0..3).map(|limit| (GROUP_LIMITS + limit, most)));
+        push(&mut made, &mut rng, item, ACTIVE, values, 12);
+    }
+    made
+}
+
 /// What a module of the worst fit says of itself.
 fn worst_values() -> Vec<(usize, f64)> {
     let mut values = vec![

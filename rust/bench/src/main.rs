@@ -20,12 +20,13 @@ bench --svg FILE   and both curves of growth as a picture
 bench --lists      the tables of list calls and halls alone
 bench --trims      the table of trims alone
 bench --causes     the table of causes alone
+bench --leave-outs the table of what to leave out alone
 bench --stacks     the stack of each call alone
 bench --call CASE TIMES
                    the library's call of case 1 (one pair), a, b, c, C (full-size),
                    w (worst pairs), d, D (small fits), h, H (halls of clear fits), e, f, g, l,
-                   m, n, N (worst pairs, a group limit) or V (256 stacks of cargo) alone, for
-                   a profiler
+                   m, n, N (worst pairs, a group limit), V (256 stacks of cargo), o (16 pairs,
+                   65,552 tries) or O (256 pairs, 256 tries) alone, for a profiler
 ";
 
 /// How many fits of one shape take turns.
@@ -58,6 +59,10 @@ fn main() -> ExitCode {
         ["--causes"] => {
             let [small, .., full] = PARTS.map(|part| Catalogue::new(&world::catalogue(part)));
             causes(&small, &full);
+        }
+        ["--leave-outs"] => {
+            let [small, .., full] = PARTS.map(|part| Catalogue::new(&world::catalogue(part)));
+            leave_outs(&small, &full);
         }
         ["--stacks"] => stacks(),
         ["--call", case, times] => match times.parse() {
@@ -112,6 +117,7 @@ fn everything(picture: Option<&str>) {
     trainings(small, full);
     trims(small, full);
     causes(small, full);
+    leave_outs(small, full);
     let by_pairs = grown_pairs(small);
     let by_part = grown_catalogue(&catalogues);
     if let Some(file) = picture {
@@ -428,6 +434,36 @@ fn causes(small: &Catalogue, full: &Catalogue) {
     println!();
 }
 
+/// What to take off: the list, and then the tries.
+fn leave_outs(small: &Catalogue, full: &Catalogue) {
+    println!("## (o) What to leave out\n");
+    report::leave_out_head();
+    let made = |make: &dyn Fn(u64) -> compare::model::Fit| -> Vec<Fit> {
+        (0..FITS).map(|number| Fit::new(&make(number))).collect()
+    };
+    let crowded = made(&fits::crowded);
+    let sixteen = made(&|number| fits::gathered(16, number));
+    let all = made(&|number| fits::gathered(256, number));
+    let steps = made(&|number| fits::stepped(16, number));
+    let long = made(&|number| fits::stepped(256, number));
+    let worst = made(&fits::worst);
+    for (title, catalogue, fits, budget) in [
+        ("realistic fit, full-size", full, &crowded, u32::MAX),
+        ("16 pairs, every rule, small", small, &sixteen, 65_552),
+        ("16 pairs, every rule, full-size", full, &sixteen, 65_552),
+        ("16 pairs, limits in steps, small", small, &steps, 65_552),
+        ("256 pairs, every rule, small", small, &all, 256),
+        ("256 pairs, every rule, full-size", full, &all, 256),
+        ("256 pairs, limits in steps, small", small, &long, 256),
+        ("256 of the worst pairs, small", small, &worst, 256),
+        ("256 of the worst pairs, no try, small", small, &worst, 0),
+    ] {
+        let row = subject::leave_out(catalogue, fits, budget);
+        report::leave_out_row(&format!("{title} catalogue"), &row);
+    }
+    println!();
+}
+
 fn grown_pairs(small: &Catalogue) -> Vec<List> {
     println!("## Growth with the pairs, small catalogue, µs\n");
     report::growth_head("pairs");
@@ -584,6 +620,20 @@ fn call(case: &str, times: usize) -> bool {
             for _ in 0..times {
                 let image = black_box(&catalogue.image);
                 black_box(library.cause(image, &fit.image, at, &mut buffer));
+            }
+            return true;
+        }
+        "o" | "O" => {
+            let (pairs, budget) = if case == "o" {
+                (16, 65_552)
+            } else {
+                (256, 256)
+            };
+            let catalogue = world::catalogue(SMALL).image();
+            let fit = fits::gathered(pairs, 0).image();
+            for _ in 0..times {
+                let catalogue = black_box(&catalogue);
+                black_box(library.leave_out(catalogue, &fit, budget, &mut buffer));
             }
             return true;
         }

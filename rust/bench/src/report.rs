@@ -1,6 +1,6 @@
 //! The figures as Markdown tables.
 
-use crate::subject::{Cause, Hall, List, Skill, Train, Trim, Widen, WorstTrim};
+use crate::subject::{Cause, Hall, LeaveOut, List, Skill, Train, Trim, Widen, WorstTrim};
 
 /// Nanoseconds in microseconds.
 pub fn micros(nanos: f64) -> String {
@@ -293,6 +293,32 @@ pub fn cause_row(title: &str, fits: usize, row: &Cause) {
         row.kept / fits,
         micros(row.cause),
         micros(row.list),
+    );
+}
+
+/// What leaving out may take, in milliseconds.
+const LEAVING: f64 = 50.0;
+
+pub fn leave_out_head() {
+    println!(
+        "| | pairs | tries | taken off | leave out, ms, target {LEAVING} | list, µs | leave out ÷ list |"
+    );
+    println!("|---|---|---|---|---|---|---|");
+}
+
+pub fn leave_out_row(title: &str, row: &LeaveOut) {
+    let time = row.leave_out / 1e6;
+    let shown = match time <= LEAVING {
+        true => "met",
+        false => "missed",
+    };
+    println!(
+        "| {title} | {} | {} | {} | {time:.3} {shown} | {} | {} |",
+        row.pairs,
+        row.tries,
+        row.taken,
+        micros(row.list),
+        ratio(row.leave_out / row.list),
     );
 }
 

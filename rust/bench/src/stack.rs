@@ -31,10 +31,11 @@ pub enum Call {
     Train,
     Trim,
     Cause,
+    LeaveOut,
 }
 
 impl Call {
-    pub const ALL: [Call; 8] = [
+    pub const ALL: [Call; 9] = [
         Call::Nothing,
         Call::List,
         Call::Skill,
@@ -43,6 +44,7 @@ impl Call {
         Call::Train,
         Call::Trim,
         Call::Cause,
+        Call::LeaveOut,
     ];
 
     pub fn name(self) -> &'static str {
@@ -55,13 +57,14 @@ impl Call {
             Call::Train => "train",
             Call::Trim => "trim",
             Call::Cause => "cause",
+            Call::LeaveOut => "leave out",
         }
     }
 }
 
 /// A call with its input: the largest fit, and for the skills, the training and the
 /// trim a chain of 512; the trim has one skill more, so that it walks twice. The cause is
-/// one of the longest list.
+/// one of the longest list, and so many pairs are what is left out of.
 pub struct Prepared {
     call: Call,
     catalogue: Vec<u8>,
@@ -106,6 +109,10 @@ impl Prepared {
                 let room = catalogue.image().len();
                 (catalogue, Fit::new(&fits::beside_chain()).image, room)
             }
+            Call::LeaveOut => {
+                let fit = Fit::new(&fits::worst(0));
+                (world::catalogue(world::SMALL), fit.image, subject::ANY_SET)
+            }
             Call::Cause => {
                 let fit = Fit::new(&fits::worst(0));
                 (
@@ -136,6 +143,7 @@ impl Prepared {
             Call::Train => library.train(catalogue, input, 0, u32::MAX, &mut self.buffer),
             Call::Trim => library.trim(catalogue, input, &mut self.buffer),
             Call::Cause => library.cause(catalogue, input, 0, &mut self.buffer),
+            Call::LeaveOut => library.leave_out(catalogue, input, u32::MAX, &mut self.buffer),
             Call::Nothing => 0,
         };
         assert_eq!(word >> 32, 0, "the call is answered");

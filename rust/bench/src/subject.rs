@@ -23,6 +23,9 @@ pub const ANY_LIST: usize = 135_696;
 /// A buffer for the pairs of any entry.
 pub const ANY_CAUSE: usize = 1_024;
 
+/// A buffer for what is taken off any fit.
+pub const ANY_SET: usize = 1_032;
+
 /// A buffer of another length, for as many entries as fit into 64 KiB.
 pub const MIDDLE: usize = 65_520;
 const ANY_SKILLS: usize = 12_288;
@@ -200,6 +203,17 @@ pub struct Cause {
     /// Pairs that are kept, of all fits together.
     pub kept: usize,
     pub cause: f64,
+    /// The list call of the same fit.
+    pub list: f64,
+}
+
+/// What it takes to tell what to take off, and what that is held against.
+pub struct LeaveOut {
+    /// Pairs, tries and pairs that are taken off, of one fit.
+    pub pairs: usize,
+    pub tries: u32,
+    pub taken: usize,
+    pub leave_out: f64,
     /// The list call of the same fit.
     pub list: f64,
 }
@@ -867,6 +881,57 @@ pub fn agreed_cause(
     out.truncate(expected.len());
     assert!(out == expected, "pairs of the library and of document 02");
     out
+}
+
+/// Times what to take off each of the fits, in turn, within a budget.
+pub fn leave_out(catalogue: &Catalogue, fits: &[Fit], budget: u32) -> LeaveOut {
+    let library = library();
+    let mut first = (0, 0);
+    for fit in fits.iter().rev() {
+        let left = agreed_left(&*library, catalogue, fit, budget);
+        first = (left.tries, left.numbers().len());
+    }
+    let (mut set, mut listed) = (vec![0; ANY_SET], vec![0; ANY_LIST]);
+    let [mut t0, mut t1] = std::array::from_fn(|_| Turns::new(fits));
+    let image = &catalogue.image;
+    let [leave_out, list] = medians(
+        ROUNDS,
+        [
+            &mut || {
+                let fit = &t0.next().1.image;
+                black_box(library.leave_out(black_box(image), fit, budget, &mut set));
+            },
+            &mut || {
+                let fit = &t1.next().1.image;
+                black_box(library.list(black_box(image), fit, NO_LEAGUE, &mut listed));
+            },
+        ],
+    );
+    LeaveOut {
+        pairs: fits[0].decoded.pairs().count(),
+        tries: first.0,
+        taken: first.1,
+        leave_out,
+        list,
+    }
+}
+
+/// What to take off, the same from the library and from document 02 over the original.
+pub fn agreed_left(
+    library: &dyn Checker,
+    catalogue: &Catalogue,
+    fit: &Fit,
+    budget: u32,
+) -> reference::leave_out::Left {
+    let judge = reference::Judge::new(catalogue.decoded(), &fit.decoded);
+    let left = reference::LeaveOut::of(&judge).within(budget);
+    let expected = left.image();
+    let mut out = vec![0; ANY_SET];
+    let word = library.leave_out(&catalogue.image, &fit.image, budget, &mut out);
+    assert_eq!(word, expected.len() as u64, "their bytes");
+    out.truncate(expected.len());
+    assert!(out == expected, "sets of the library and of document 02");
+    left
 }
 
 /// A hall input: the number of fits, their lengths, the fits end to end.

@@ -2,8 +2,8 @@
 
 use bench::fits::{self, LARGEST, REALISTIC};
 use bench::subject::{
-    self, Catalogue, Fit, agreed_cause, agreed_hall, agreed_list, agreed_skills, agreed_trained,
-    agreed_trimmed, agreed_widened,
+    self, Catalogue, Fit, agreed_cause, agreed_hall, agreed_left, agreed_list, agreed_skills,
+    agreed_trained, agreed_trimmed, agreed_widened,
 };
 use bench::world::{self, SMALL};
 use compare::checker::{Checker, Terms};
@@ -97,8 +97,44 @@ fn causes_agree_byte_by_byte() {
     }
 }
 
+#[test]
+fn what_to_leave_out_agrees_byte_by_byte() {
+    let library = subject::library();
+    let small = Catalogue::new(&world::catalogue(SMALL));
+    for (fit, budget, taken) in [
+        (fits::gathered(16, 1), 65_552, 16),
+        (fits::gathered(40, 1), 40, 40),
+        (fits::gathered(16, 1), 0, 16),
+        (fits::stepped(16, 1), 16, 8),
+        (fits::stepped(16, 1), 65_552, 8),
+        (fits::stepped(256, 1), 256, 128),
+    ] {
+        let fit = Fit::new(&fit);
+        let left = agreed_left(&*library, &small, &fit, budget);
+        assert_eq!((left.tries, left.numbers().len()), (budget, taken));
+    }
+    let crowded = Fit::new(&fits::crowded(1));
+    assert!(
+        !agreed_left(&*library, &small, &crowded, u32::MAX)
+            .numbers()
+            .is_empty()
+    );
+}
+
+/// Each rule that has to go is broken, so that none of them is spared.
+#[test]
+fn what_is_left_out_breaks_every_rule() {
+    let small = Catalogue::new(&world::catalogue(SMALL));
+    for pairs in [16, 256] {
+        let fit = Fit::new(&fits::gathered(pairs, 0));
+        for rule in [[2, 0], [8, 0], [10, 0], [17, 0], [17, 1], [17, 2], [18, 0]] {
+            subject::position(&small, &fit, rule);
+        }
+    }
+}
+
 /// A library whose second entry names another pair, or whose widened catalogue,
-/// trained fit, trimmed catalogue or list of pairs has another byte.
+/// trained fit, trimmed catalogue, list of pairs or set to leave out has another byte.
 struct OneByteOff;
 
 impl Checker for OneByteOff {
@@ -137,6 +173,12 @@ impl Checker for OneByteOff {
     fn cause(&self, catalogue: &[u8], fit: &[u8], position: u32, out: &mut [u8]) -> u64 {
         let word = subject::library().cause(catalogue, fit, position, out);
         out[0] ^= 1;
+        word
+    }
+
+    fn leave_out(&self, catalogue: &[u8], fit: &[u8], budget: u32, out: &mut [u8]) -> u64 {
+        let word = subject::library().leave_out(catalogue, fit, budget, out);
+        out[4] ^= 1;
         word
     }
 }
@@ -178,4 +220,12 @@ fn one_byte_of_a_cause_that_differs_stops_it_too() {
     let fit = Fit::new(&fits::crowded(0));
     let position = subject::position(&small, &fit, [2, 0]);
     agreed_cause(&OneByteOff, &small, &fit, position);
+}
+
+#[test]
+#[should_panic(expected = "sets of the library and of document 02")]
+fn one_byte_of_a_set_to_leave_out_that_differs_stops_it_too() {
+    let small = Catalogue::new(&world::catalogue(SMALL));
+    let fit = Fit::new(&fits::gathered(4, 0));
+    agreed_left(&OneByteOff, &small, &fit, 9);
 }

@@ -54,6 +54,11 @@ fn the_cause_fits_the_stack_budget() {
 }
 
 #[test]
+fn leaving_out_fits_the_stack_budget() {
+    fits_the_budget(Call::LeaveOut);
+}
+
+#[test]
 fn the_library_names_no_allocator() {
     let directory = std::env::var_os("FITCHECK_LIB_DIR").map(Into::into);
     let path = directory

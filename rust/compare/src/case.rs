@@ -83,6 +83,10 @@ pub enum Ask {
     Cause(Position, Room),
     /// What is promised of them: without any one or more of them the entry is gone.
     Caused(Position),
+    /// The pairs of the first fit to take off, found within so many tries.
+    LeaveOut(u32, Room),
+    /// What is promised of them, with each budget that matters.
+    LeftOut,
 }
 
 /// Which entry of a list.

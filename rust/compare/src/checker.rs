@@ -33,6 +33,11 @@ pub trait Checker: Sync {
     /// The numbers of the pairs that make the entry at a position, four bytes each,
     /// written from byte 0 of `out`; the bytes are counted.
     fn cause(&self, catalogue: &[u8], fit: &[u8], position: u32, out: &mut [u8]) -> u64;
+
+    /// The tries that a budget allows, how far off their answer is at most, and the
+    /// numbers of the pairs to take off, four bytes each, written from byte 0 of `out`;
+    /// the bytes are counted.
+    fn leave_out(&self, catalogue: &[u8], fit: &[u8], budget: u32, out: &mut [u8]) -> u64;
 }
 
 /// What a list or skill call brings beside its images and its buffer.

@@ -93,5 +93,9 @@ mod linked {
         fn cause(&self, catalogue: &[u8], fit: &[u8], position: u32, out: &mut [u8]) -> u64 {
             exported::cause(catalogue, fit, position, out)
         }
+
+        fn leave_out(&self, catalogue: &[u8], fit: &[u8], budget: u32, out: &mut [u8]) -> u64 {
+            exported::leave_out(catalogue, fit, budget, out)
+        }
     }
 }

@@ -72,6 +72,7 @@ impl Record {
             Ask::Train(..) | Ask::Trained(..) => return None,
             Ask::Trim(_) | Ask::Trimmed => return None,
             Ask::Cause(..) | Ask::Caused(_) => return None,
+            Ask::LeaveOut(..) | Ask::LeftOut => return None,
         };
         let catalogue = match ask {
             Ask::Widen(_) => case.catalogue.old_image(),

@@ -109,12 +109,19 @@ impl Small<'_> {
                 Ask::List(held) | Ask::Skill(_, held) | Ask::Widen(held) => *held = room,
                 Ask::RetrainedList(held) | Ask::RetrainedSkill(_, held) => *held = room,
                 Ask::Train(_, _, held) | Ask::Trim(held) | Ask::Cause(_, held) => *held = room,
+                Ask::LeaveOut(_, held) => *held = room,
                 _ => {}
             });
         }
         for fewer in [0, 1, 2].map(Steps::Of) {
             self.change(|case| match &mut case.asks[0] {
                 Ask::Train(_, steps, _) | Ask::Trained(_, steps) => *steps = fewer,
+                _ => {}
+            });
+        }
+        for fewer in [0, 1, 2] {
+            self.change(|case| match &mut case.asks[0] {
+                Ask::LeaveOut(budget, _) => *budget = fewer,
                 _ => {}
             });
         }

@@ -28,6 +28,11 @@ extern "C" {
 /* What makes an entry is at most so many bytes. */
 #define FITCHECK_CAUSE_BYTES 1024
 
+/* What is to be taken off is at most so many bytes, and no fit has more tries than
+ * these. */
+#define FITCHECK_LEAVE_OUT_BYTES 1032
+#define FITCHECK_MOST_TRIES 65552
+
 /* What the main page takes: so many pairs (items that have a result) of a fit,
  * and so many wanted skills of a result. */
 #define FITCHECK_MAIN_PAIRS 256
@@ -145,9 +150,27 @@ uint64_t fit_cause(const uint8_t *catalogue, size_t catalogue_length,
                    uint32_t position,
                    uint8_t *out, size_t out_length);
 
+/* Which items to take off a fit, so that its list has none of SlotTaken, SubsystemTaken,
+ * MaxGroup, MaxType and the six racks' Slots. A set of pairs (items that have a result) is
+ * enough where the list of the fit without it has none of these; that of all pairs is.
+ * Each try checks one set: first each pair is put back in turn, from the first, and stays
+ * where what is left off is then still enough; after that, with up to 16 pairs, every set
+ * is taken by ascending number, pair i counting 2 to the power i. The answer is the
+ * smallest set that is enough of those that were checked and of all pairs, which need no
+ * try; the earliest among equals. From the beginning of `out` stand little-endian
+ * uint32_t: the tries that were made, which are all that there are or else the budget; how
+ * many fewer pairs might be enough, at most; and the numbers of the pairs to take off,
+ * ascending. The count is how many bytes they are, at most FITCHECK_LEAVE_OUT_BYTES. With
+ * a budget of FITCHECK_MOST_TRIES and up to 16 pairs no smaller set is enough. Refused by
+ * 1 to 6 and by 10. It names no reader. */
+uint64_t fit_leave_out(const uint8_t *catalogue, size_t catalogue_length,
+                       const uint8_t *fit, size_t fit_length,
+                       uint32_t budget,
+                       uint8_t *out, size_t out_length);
+
 /* The number of this set of calls, images and rules, which its name has too: a
  * library of another set does not link with a program that asks for this. */
-uint64_t fit_interface_9(void);
+uint64_t fit_interface_10(void);
 
 #ifdef __cplusplus
 }

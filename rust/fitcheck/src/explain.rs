@@ -218,7 +218,7 @@ impl<'a> Explainer<'a> {
     }
 
     /// Items by name and places, those of one type together.
-    fn several_words(&self, items: &[usize]) -> String {
+    pub(crate) fn several_words(&self, items: &[usize]) -> String {
         let type_of = |index: &usize| Some(self.fit?.item(*index)?.type_id);
         let mut types: Vec<(Option<i32>, Vec<usize>)> = Vec::new();
         for index in items {

@@ -12,7 +12,7 @@ unsafe extern "C" {
     // It is raised here, in include/fitcheck.h for C, and in the Rattle sources,
     // crates/fitcheck_c/src/lib.rt and crates/fitcheck/src/lib.rt, at the same
     // time.
-    #[link_name = "fit_interface_9"]
+    #[link_name = "fit_interface_10"]
     fn fit_interface() -> u64;
 
     fn fit_list(
@@ -78,6 +78,16 @@ unsafe extern "C" {
         fit: *const u8,
         fit_length: usize,
         position: u32,
+        out: *mut u8,
+        out_length: usize,
+    ) -> u64;
+
+    fn fit_leave_out(
+        catalogue: *const u8,
+        catalogue_length: usize,
+        fit: *const u8,
+        fit_length: usize,
+        budget: u32,
         out: *mut u8,
         out_length: usize,
     ) -> u64;
@@ -227,6 +237,23 @@ pub fn cause(catalogue: &[u8], fit: &[u8], position: u32, out: &mut [u8]) -> u64
             fit.as_ptr(),
             fit.len(),
             position,
+            out.as_mut_ptr(),
+            out.len(),
+        )
+    }
+}
+
+/// The pairs to take off, found within a budget of tries; returns the call's word.
+pub fn leave_out(catalogue: &[u8], fit: &[u8], budget: u32, out: &mut [u8]) -> u64 {
+    linked();
+    // SAFETY: as in `list`; `budget` may be any number.
+    unsafe {
+        fit_leave_out(
+            catalogue.as_ptr(),
+            catalogue.len(),
+            fit.as_ptr(),
+            fit.len(),
+            budget,
             out.as_mut_ptr(),
             out.len(),
         )

@@ -23,6 +23,8 @@
 //!   that fetches no more;
 //! - [`WholeList`], an officer's list of which each entry can be asked which items make
 //!   it;
+//! - [`LeaveOut`], which items to take off so that no slot is taken twice and no limit
+//!   passed;
 //! - [`widen`], which makes a catalogue of today's form of an old one.
 //!
 //! ```
@@ -89,6 +91,8 @@ mod image;
 #[forbid(unsafe_code)]
 pub mod json;
 #[forbid(unsafe_code)]
+mod leave_out;
+#[forbid(unsafe_code)]
 mod limits;
 #[forbid(unsafe_code)]
 mod mark;
@@ -132,6 +136,7 @@ pub use error::{BuildError, FitPart};
 pub use explain::{Explainer, explain};
 pub use fit::{FitBuilder, FitItem, ItemResult};
 pub use image::{CatalogueImage, FitImage};
+pub use leave_out::{LEAVE_OUT_BYTES, LeaveOut, MOST_TRIES};
 pub use limits::{Limits, Passed};
 pub use mark::Mark;
 pub use missing::{Missing, Unchecked};

@@ -146,6 +146,16 @@ const SHORT: &[(Rows, &[usize], &str)] = &[
         &[64, 512, 1_023],
         "bytes of a cause are written",
     ),
+    (
+        Rows::LeavePairs,
+        &[4, 16, 64, 255],
+        "pairs are put back when leaving out",
+    ),
+    (
+        Rows::LeaveBytes,
+        &[8, 64, 512, 1_031],
+        "bytes of what is left out are written",
+    ),
 ];
 
 /// Where numbers may be too narrow, in bits.
@@ -243,6 +253,36 @@ const NARROW: &[(Number, &[u32], &str)] = &[
         &[4, 8, 10],
         "the count of a cause's bytes",
     ),
+    (
+        Number::LeaveBudget,
+        &[8, 16, 24, 31],
+        "the budget of leaving out",
+    ),
+    (
+        Number::LeaveTries,
+        &[8, 16],
+        "the tries that leaving out writes",
+    ),
+    (
+        Number::LeaveDistance,
+        &[4, 7, 8],
+        "the distance that leaving out writes",
+    ),
+    (
+        Number::LeaveLimit,
+        &[4, 7, 8, 16, 24, 31],
+        "a limit when leaving out",
+    ),
+    (
+        Number::LeaveNumber,
+        &[4, 7],
+        "a number that leaving out writes",
+    ),
+    (
+        Number::LeaveCount,
+        &[4, 8, 10],
+        "the count of what is left out",
+    ),
 ];
 
 /// What may be refused too early.
@@ -299,6 +339,16 @@ const REFUSED: &[(Measure, &[usize], &str)] = &[
         "for a cause's position",
     ),
     (Measure::CauseBytes, &[64, 512, 1_023], "bytes of a cause"),
+    (
+        Measure::LeaveBytes,
+        &[64, 512, 1_031],
+        "bytes of what is left out",
+    ),
+    (
+        Measure::LeaveTries,
+        &[255, 65_551, 65_552],
+        "tries of leaving out",
+    ),
 ];
 
 /// Every flaw.

@@ -164,7 +164,8 @@ pub fn page(rows: &[Row], seed: u64) -> String {
         as each call gives both the same. Nor, of causes, is an id that is not compared: an item \
         has one entry of a rule and a sub, with one id, in every part that shows it, and NotASkill \
         stays whatever is dropped. Nor is another level of a trained skill in a part: no entry of \
-        a list looks at one.\n\n\
+        a list looks at one. Nor, of leaving out, is a slot or a part that earlier pairs alone \
+        take: of two that share one, one sees the other whichever is asked.\n\n\
         | fault | told apart by case | by | generated | what is wrong |\n|---|---|---|---|---|\n",
         rows.len(),
         rows.iter()

@@ -8,6 +8,7 @@ mod document;
 mod haul;
 mod items;
 mod league;
+mod leave_out;
 mod page;
 mod reader;
 mod resources;
@@ -55,7 +56,7 @@ const ODD_VALUES: [u64; 7] = [
 /// are, and how each is made.
 type Row = (fn() -> usize, fn(usize) -> Case);
 
-const MADE: [Row; 26] = [
+const MADE: [Row; 29] = [
     (plant::others, alone),
     (plant::other_pairs, together),
     (|| hall::CORNERS, hall::corner),
@@ -127,6 +128,18 @@ const MADE: [Row; 26] = [
     (
         || plant::causing_pairs().len(),
         |number| planted_two(plant::causing_pairs(), number, Calls::Causes),
+    ),
+    (
+        || leave_out::CASES.len(),
+        |number| leave_out::CASES[number](),
+    ),
+    (
+        || plant::leaving_out().len(),
+        |number| planted(plant::leaving_out(), number, Calls::LeaveOuts),
+    ),
+    (
+        || plant::leaving_out_pairs().len(),
+        |number| planted_two(plant::leaving_out_pairs(), number, Calls::LeaveOuts),
     ),
     (|| limits::LENGTHS, limits::lengths),
 ];

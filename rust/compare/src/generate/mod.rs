@@ -6,6 +6,7 @@ pub mod growth;
 pub mod hall;
 pub mod haul;
 pub mod league;
+mod leave_out;
 pub mod limits;
 pub mod page;
 mod patch;
@@ -41,6 +42,9 @@ const TRIM: u64 = 0x5452_494D;
 /// And of which entries are asked about.
 const CAUSE: u64 = 0x0043_4155_5345;
 
+/// And of what is taken off.
+const LEAVE_OUT: u64 = 0x4C45_4156_4531;
+
 /// The generated case of a number. What a patch takes away and what its calls
 /// bring beside the images is drawn by itself, so that the rest is the same with
 /// and without.
@@ -54,15 +58,17 @@ pub fn case(seed: u64, number: u64) -> Case {
     train::bring(&mut Rng::for_case(seed ^ TRAIN, number), &mut case);
     trim::bring(&mut Rng::for_case(seed ^ TRIM, number), &mut case);
     cause::bring(&mut Rng::for_case(seed ^ CAUSE, number), &mut case);
+    leave_out::bring(&mut Rng::for_case(seed ^ LEAVE_OUT, number), &mut case);
     case
 }
 
 fn images(rng: &mut Rng) -> Case {
     match rng.below(1000) {
-        0..=239 => {
+        0..=224 => {
             let style = Style::realistic(rng);
             single(rng, style, 24, "a realistic fit")
         }
+        225..=239 => leave_out::planted(rng),
         240..=259 => cause::planted(rng),
         260..=279 => trim::planted(rng),
         280..=299 => train::planted(rng),

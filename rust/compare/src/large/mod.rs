@@ -11,6 +11,7 @@ pub mod drawn;
 mod fits;
 mod halls;
 mod league;
+mod leave_out;
 mod limits;
 mod places;
 mod skills;
@@ -28,7 +29,7 @@ use crate::tally::size::LIST_BUFFERS;
 /// longest come last: a fault that another case shows need not wait for them.
 type Row = (usize, fn(usize) -> Case);
 
-const ROWS: [Row; 14] = [
+const ROWS: [Row; 15] = [
     (limits::COUNT, limits::case),
     (places::COUNT, places::case),
     (2, |number| match number {
@@ -51,6 +52,7 @@ const ROWS: [Row; 14] = [
     (train::COUNT, train::case),
     (trim::COUNT, trim::case),
     (cause::COUNT, cause::case),
+    (leave_out::COUNT, leave_out::case),
 ];
 
 /// How many large cases there are.

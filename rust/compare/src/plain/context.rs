@@ -7,7 +7,7 @@ use super::fault::Fault;
 use super::fit::{CARGO, FIGHTER_TUBE, Fit, HIGH_TO_SERVICE, Item, SERVICE};
 use super::{Flaw, Rows};
 
-const CATEGORY_SHIP: i32 = 6;
+pub const CATEGORY_SHIP: i32 = 6;
 const CATEGORY_SKILL: i32 = 16;
 pub const CATEGORY_STRUCTURE: i32 = 65;
 const GROUP_CONTAINERS: [i32; 4] = [12, 340, 448, 649];

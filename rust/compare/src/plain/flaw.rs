@@ -72,6 +72,10 @@ pub enum Rows {
     CausePairs,
     /// The bytes of a cause.
     CauseBytes,
+    /// The pairs that are put back when leaving out.
+    LeavePairs,
+    /// The bytes of what is left out.
+    LeaveBytes,
 }
 
 /// Numbers that may be too narrow.
@@ -149,6 +153,18 @@ pub enum Number {
     CauseNumber,
     /// The count of a cause's bytes.
     CauseCount,
+    /// The budget of leaving out.
+    LeaveBudget,
+    /// The tries that it writes.
+    LeaveTries,
+    /// The distance that it writes.
+    LeaveDistance,
+    /// How many pairs may stay.
+    LeaveLimit,
+    /// A pair that it writes.
+    LeaveNumber,
+    /// The count of its bytes.
+    LeaveCount,
 }
 
 /// Sizes that may be refused too early.
@@ -171,6 +187,10 @@ pub enum Measure {
     CausePosition,
     /// The bytes of a cause.
     CauseBytes,
+    /// The bytes of what is left out.
+    LeaveBytes,
+    /// The tries of leaving out.
+    LeaveTries,
 }
 
 /// The calls that have flaws of their own.
@@ -179,6 +199,7 @@ enum Own {
     Trainings,
     Trims,
     Causes,
+    LeaveOuts,
 }
 
 impl Flaw {
@@ -195,14 +216,15 @@ impl Flaw {
         }
     }
 
-    /// Whether a call can show it: those about trainings, trims or causes show in no
-    /// other.
+    /// Whether a call can show it: those about trainings, trims, causes or leaving out show
+    /// in no other.
     pub fn can_show_in(self, ask: &Ask) -> bool {
         let about = self.about();
         match ask {
             Ask::Train(..) | Ask::Trained(..) => about.is_none_or(|own| own == Own::Trainings),
             Ask::Trim(_) | Ask::Trimmed => about.is_none_or(|own| own == Own::Trims),
             Ask::Cause(..) | Ask::Caused(_) => about.is_none_or(|own| own == Own::Causes),
+            Ask::LeaveOut(..) | Ask::LeftOut => about.is_none_or(|own| own == Own::LeaveOuts),
             _ => about.is_none(),
         }
     }
@@ -213,6 +235,7 @@ impl Flaw {
             Flaw::Fault(fault) if fault.is_about_trainings() => Some(Own::Trainings),
             Flaw::Fault(fault) if fault.is_about_trims() => Some(Own::Trims),
             Flaw::Fault(fault) if fault.is_about_causes() => Some(Own::Causes),
+            Flaw::Fault(fault) if fault.is_about_leaving_out() => Some(Own::LeaveOuts),
             Flaw::Short(rows, _) => match rows {
                 Rows::Plan | Rows::TrainedBytes => Some(Own::Trainings),
                 Rows::TrimNamed
@@ -222,6 +245,7 @@ impl Flaw {
                 | Rows::TrimmedRun
                 | Rows::TrimmedBytes => Some(Own::Trims),
                 Rows::CausePairs | Rows::CauseBytes => Some(Own::Causes),
+                Rows::LeavePairs | Rows::LeaveBytes => Some(Own::LeaveOuts),
                 _ => None,
             },
             Flaw::Narrow(number, _) => match number {
@@ -233,11 +257,18 @@ impl Flaw {
                 | Number::CauseDrones
                 | Number::CauseNumber
                 | Number::CauseCount => Some(Own::Causes),
+                Number::LeaveBudget
+                | Number::LeaveTries
+                | Number::LeaveDistance
+                | Number::LeaveLimit
+                | Number::LeaveNumber
+                | Number::LeaveCount => Some(Own::LeaveOuts),
                 _ => None,
             },
             Flaw::Refused(measure, _) => match measure {
                 Measure::TrimmedBytes | Measure::TrimTogether => Some(Own::Trims),
                 Measure::CausePosition | Measure::CauseBytes => Some(Own::Causes),
+                Measure::LeaveBytes | Measure::LeaveTries => Some(Own::LeaveOuts),
                 _ => None,
             },
             _ => None,

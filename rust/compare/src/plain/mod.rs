@@ -13,6 +13,7 @@ mod flaw;
 mod hall;
 mod item;
 mod league;
+mod leave_out;
 mod page;
 mod reader;
 mod resource;
@@ -88,6 +89,10 @@ impl Checker for Plain {
 
     fn cause(&self, catalogue: &[u8], fit: &[u8], position: u32, out: &mut [u8]) -> u64 {
         cause::cause((catalogue, fit), position, out, self.flaw)
+    }
+
+    fn leave_out(&self, catalogue: &[u8], fit: &[u8], budget: u32, out: &mut [u8]) -> u64 {
+        leave_out::leave_out((catalogue, fit), budget, out, self.flaw)
     }
 }
 

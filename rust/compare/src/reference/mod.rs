@@ -7,7 +7,7 @@
 //! catalogues in `widen`, the league's rules in `league`, rule 26 in `unknown`,
 //! a page's limits in `page`, who may read what in `reader`, what a step of
 //! training changes in `train`, what a trimmed catalogue keeps in `trim`, which pairs
-//! make an entry in `cause`.
+//! make an entry in `cause`, which to take off in `leave_out`.
 
 mod catalogue;
 mod cause;
@@ -15,6 +15,7 @@ mod drones;
 mod encode;
 mod fit;
 pub mod league;
+pub mod leave_out;
 pub mod page;
 pub mod reader;
 mod train;
@@ -36,6 +37,7 @@ pub use cause::{Cause, bad_volume, is_bad, is_still_in, officers_list};
 pub use encode::entry;
 pub use fit::Fit;
 pub use league::League;
+pub use leave_out::{Judge, LeaveOut};
 pub use train::{Missing, Plan, Skills, first_list, would_list};
 pub use trim::{named, touched, trim, trimmed};
 pub use widen::widen;
@@ -107,6 +109,16 @@ impl Checker for Original {
             let catalogue = Catalogue::decode(catalogue)?;
             let fit = Fit::decode(fit)?;
             Ok(Cause::of(&catalogue, &fit, position)?.image())
+        };
+        written_bytes(image(), out)
+    }
+
+    fn leave_out(&self, catalogue: &[u8], fit: &[u8], budget: u32, out: &mut [u8]) -> u64 {
+        let image = || {
+            let catalogue = Catalogue::decode(catalogue)?;
+            let fit = Fit::decode(fit)?;
+            let all = LeaveOut::of(&Judge::new(&catalogue, &fit));
+            Ok(all.within(budget).image())
         };
         written_bytes(image(), out)
     }

@@ -39,14 +39,14 @@ pub(super) struct Made {
 
 impl Stage<'_> {
     /// Both images, or the first refusal of 1 to 6.
-    fn decoded(&self) -> Result<(&reference::Catalogue, &reference::Fit), Refusal> {
+    pub(super) fn decoded(&self) -> Result<(&reference::Catalogue, &reference::Fit), Refusal> {
         let catalogue = self.source.catalogue.as_ref().map_err(|refusal| *refusal)?;
         let fit = self.fit().decoded.as_ref().map_err(|refusal| *refusal)?;
         Ok((catalogue, fit))
     }
 
     /// The list in which positions count; nothing where an image is refused.
-    fn officers_list(&self) -> &[Entry] {
+    pub(super) fn officers_list(&self) -> &[Entry] {
         self.causes.listed.get_or_init(|| match self.decoded() {
             Ok((catalogue, fit)) => reference::officers_list(catalogue, fit).entries,
             Err(_) => Vec::new(),
@@ -171,7 +171,7 @@ impl Stage<'_> {
     }
 
     /// An officer's list of a fit, as the checker makes it.
-    fn listed_by(&self, checker: &dyn Checker, fit: &Fit) -> Result<Vec<Entry>, String> {
+    pub(super) fn listed_by(&self, checker: &dyn Checker, fit: &Fit) -> Result<Vec<Entry>, String> {
         let catalogue = self.source.held.copy(Fill::First).bytes();
         let (fit, mut out) = (fit.image(), vec![0; ANY_LIST]);
         let word = caught(|| checker.list(catalogue, &fit, Terms::default(), &mut out))?;

@@ -2,6 +2,7 @@
 
 mod cause;
 mod hauled;
+mod leave_out;
 mod page;
 mod reader;
 mod shown;
@@ -21,7 +22,7 @@ use crate::model::{Fit, hall_image};
 use crate::page::Limits;
 use crate::profile::League;
 use crate::reader::Reader;
-use crate::reference::{self, Fate, LIMIT, Listed, Plan, Refusal};
+use crate::reference::{self, Fate, LIMIT, LeaveOut, Listed, Plan, Refusal};
 use crate::tally::{Call, Hangar, Point, Tally, Zeros};
 use crate::verdict::{Expected, compare, compare_bytes, expected, hall_in_words, without_unknown};
 
@@ -138,6 +139,7 @@ pub struct Stage<'a> {
     widened: OnceCell<Option<(Source, Subject)>>,
     trimmed: OnceCell<Result<trim::Trimmed, Refusal>>,
     causes: cause::Causes,
+    left_out: OnceCell<Result<LeaveOut, Refusal>>,
 }
 
 /// Runs every call of a case; the first difference, if there is one.
@@ -165,6 +167,7 @@ impl<'a> Stage<'a> {
             widened: OnceCell::new(),
             trimmed: OnceCell::new(),
             causes: cause::Causes::default(),
+            left_out: OnceCell::new(),
         }
     }
 
@@ -300,6 +303,7 @@ impl<'a> Stage<'a> {
             Ask::Train(..) | Ask::Trained(..) => Vec::new(),
             Ask::Trim(_) | Ask::Trimmed => Vec::new(),
             Ask::Cause(..) | Ask::Caused(_) => Vec::new(),
+            Ask::LeaveOut(..) | Ask::LeftOut => Vec::new(),
         }
     }
 
@@ -331,6 +335,8 @@ impl<'a> Stage<'a> {
                 Ask::Trimmed => self.count_trimmed(tally),
                 Ask::Cause(position, room) => self.count_cause(position, room, tally),
                 Ask::Caused(position) => self.count_caused(position, tally),
+                Ask::LeaveOut(budget, room) => self.count_leave_out(budget, room, tally),
+                Ask::LeftOut => self.count_left_out(tally),
                 Ask::List(_) | Ask::Skill(..) => {}
             }
         }
@@ -563,6 +569,8 @@ impl<'a> Stage<'a> {
             Ask::Trimmed => self.hold_trimmed(readers, checker),
             Ask::Cause(position, room) => self.hold_cause(position, room, checker),
             Ask::Caused(position) => self.hold_caused(position, checker),
+            Ask::LeaveOut(budget, room) => self.hold_leave_out(budget, room, checker),
+            Ask::LeftOut => self.hold_left_out(checker),
             Ask::RetrainedList(_) | Ask::RetrainedSkill(..) => self.same_for_a_guest(ask, checker),
             Ask::List(_) | Ask::Skill(..) => Ok(()),
             Ask::HauledList | Ask::HauledSkill(_) => Ok(()),

@@ -33,6 +33,10 @@ pub enum Shown {
     Cause,
     /// What is promised of them.
     Least,
+    /// The pairs to take off, or what is written before them.
+    LeftOut,
+    /// What is promised of them.
+    Enough,
     /// Bytes of the buffer that are not the entries', or the count alone.
     Buffer,
     Panic,
@@ -63,6 +67,8 @@ impl fmt::Display for Shown {
             Shown::UnderTrimmed => out.write_str("the lists under a trimmed catalogue"),
             Shown::Cause => out.write_str("the pairs that make an entry"),
             Shown::Least => out.write_str("the lists of parts"),
+            Shown::LeftOut => out.write_str("what to take off"),
+            Shown::Enough => out.write_str("what the budgets come to"),
             Shown::Buffer => out.write_str("the buffer"),
             Shown::Panic => out.write_str("a panic"),
         }
@@ -86,6 +92,8 @@ impl Stage<'_> {
             Ask::Trimmed => return Shown::UnderTrimmed,
             Ask::Cause(position, room) => return self.shown_in_cause(position, room, checker),
             Ask::Caused(_) => return Shown::Least,
+            Ask::LeaveOut(budget, room) => return self.shown_in_leave_out(budget, room, checker),
+            Ask::LeftOut => return Shown::Enough,
             _ => {}
         }
         let calls = self.lists(ask, readers).into_iter();

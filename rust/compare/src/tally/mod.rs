@@ -4,6 +4,7 @@ mod cause;
 mod edge;
 mod haul;
 mod league;
+mod leave_out;
 mod look;
 mod page;
 mod point;
@@ -28,6 +29,7 @@ pub use cause::{CauseEdge, Causing};
 pub use edge::{Hangar, Shape, Spot};
 pub use haul::{Haul, HaulEdge};
 pub use league::LeagueEdge;
+pub use leave_out::{LeaveEdge, Leaving};
 pub use page::{PageEdge, pairs_beside, skills_beside};
 pub use point::{Beside, Call, Point, RoomKind};
 pub use reader::{ReaderEdge, Retrained};
@@ -305,6 +307,11 @@ impl Tally {
         self.writes(Call::Cause, room, length, word);
     }
 
+    /// The same of leaving out.
+    pub fn leave_out(&mut self, room: Room, length: usize, word: u64) {
+        self.writes(Call::LeaveOut, room, length, word);
+    }
+
     /// A call that writes an image.
     fn writes(&mut self, call: Call, room: Room, length: usize, word: u64) {
         self.calls += 1;
@@ -357,6 +364,23 @@ impl Tally {
     pub fn cause_pair(&mut self, case: &Case) {
         if let [second, first] = case.planted[..] {
             self.meet(Point::CausePair(first.cause, second.cause));
+        }
+    }
+
+    /// Leaving out where the images are not refused.
+    pub fn leaving(&mut self, leaving: &Leaving) {
+        leave_out::called(self, leaving);
+    }
+
+    /// What is promised, of a fit of so many pairs.
+    pub fn promised_left(&mut self, pairs: usize, is_hull: bool) {
+        leave_out::promised(self, pairs, is_hull);
+    }
+
+    /// The refusals that leaving out deserves, the one that it must give first.
+    pub fn leave_out_pair(&mut self, case: &Case) {
+        if let [second, first] = case.planted[..] {
+            self.meet(Point::LeavePair(first.cause, second.cause));
         }
     }
 

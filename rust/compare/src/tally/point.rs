@@ -6,6 +6,7 @@ use super::cause::CauseEdge;
 use super::edge::{CapitalEdge, Edge, Hangar, Shape, Spot};
 use super::haul::HaulEdge;
 use super::league::LeagueEdge;
+use super::leave_out::LeaveEdge;
 use super::page::PageEdge;
 use super::reader::ReaderEdge;
 use super::size::{
@@ -113,6 +114,10 @@ pub enum Point {
     CausePair(Cause, Cause),
     /// What a cause meets.
     Cause(CauseEdge),
+    /// A refusal by leaving out where another is deserved too.
+    LeavePair(Cause, Cause),
+    /// What leaving out meets.
+    Leave(LeaveEdge),
 }
 
 #[derive(Clone, Copy, Debug, PartialEq, Eq, PartialOrd, Ord)]
@@ -124,6 +129,7 @@ pub enum Call {
     Train,
     Trim,
     Cause,
+    LeaveOut,
 }
 
 impl Call {
@@ -220,6 +226,8 @@ pub fn required() -> Vec<Point> {
     points.extend(of_trims.map(|refusal| Point::Refusal(Call::Trim, refusal)));
     let of_causes = [1, 2, 3, 4, 5, 6, 14, 15, 10];
     points.extend(of_causes.map(|refusal| Point::Refusal(Call::Cause, refusal)));
+    let of_leaving = [1, 2, 3, 4, 5, 6, 10];
+    points.extend(of_leaving.map(|refusal| Point::Refusal(Call::LeaveOut, refusal)));
     let plants = plant::plants().into_iter();
     points.extend(plants.map(|(cause, how, _)| Point::Planted(Plant { cause, how })));
     points.extend(plant::pairs().into_iter().map(|(a, b)| Point::Pair(a, b)));
@@ -230,6 +238,7 @@ pub fn required() -> Vec<Point> {
         Call::Train,
         Call::Trim,
         Call::Cause,
+        Call::LeaveOut,
     ];
     for call in lent {
         let rooms = [
@@ -289,6 +298,9 @@ pub fn required() -> Vec<Point> {
     let pairs = plant::causing_pairs().into_iter();
     points.extend(pairs.map(|(first, second)| Point::CausePair(first, second)));
     points.extend(CauseEdge::all().into_iter().map(Point::Cause));
+    let pairs = plant::leaving_out_pairs().into_iter();
+    points.extend(pairs.map(|(first, second)| Point::LeavePair(first, second)));
+    points.extend(LeaveEdge::all().into_iter().map(Point::Leave));
     points
 }
 
@@ -304,6 +316,7 @@ fn sizes() -> Vec<Point> {
         Call::Train,
         Call::Trim,
         Call::Cause,
+        Call::LeaveOut,
     ];
     points.extend(calls.map(Point::FullSize));
     points.extend(Block::ALL.map(Point::Most));
@@ -348,6 +361,7 @@ impl fmt::Display for Call {
             Call::Train => "training",
             Call::Trim => "trim",
             Call::Cause => "cause",
+            Call::LeaveOut => "leaving out",
         })
     }
 }
@@ -367,10 +381,10 @@ impl fmt::Display for Point {
             Point::Refusal(call, refusal) => write!(out, "refusal {refusal} by the {call}"),
             Point::Planted(plant) => write!(out, "refusal {}: {}", plant.cause, plant.how),
             Point::Pair(a, b) => write!(out, "refusal {a} where {b} is deserved too"),
-            Point::Room(call @ (Call::Widen | Call::Train | Call::Trim | Call::Cause), room) => {
-                write!(out, "{call}, {}", room.words())
+            Point::Room(call @ (Call::List | Call::Skill | Call::Hall), room) => {
+                write!(out, "{call} with entries, {}", room.words())
             }
-            Point::Room(call, room) => write!(out, "{call} with entries, {}", room.words()),
+            Point::Room(call, room) => write!(out, "{call}, {}", room.words()),
             Point::HallFits(count) => write!(out, "hall of {count} fits"),
             Point::HallFit(Fate::Clear) => out.write_str("hall: a clear fit"),
             Point::HallFit(Fate::Faulted(None)) => out.write_str("hall: a faulted fit"),
@@ -419,6 +433,10 @@ impl fmt::Display for Point {
             Point::Trim(edge) => out.write_str(&edge.words()),
             Point::CausePair(a, b) => write!(out, "cause: refusal {a} where {b} is deserved too"),
             Point::Cause(edge) => out.write_str(&edge.words()),
+            Point::LeavePair(a, b) => {
+                write!(out, "leaving out: refusal {a} where {b} is deserved too")
+            }
+            Point::Leave(edge) => out.write_str(&edge.words()),
             Point::Fine(fine) => write!(out, "base value finer than an f32: {}", fine.words()),
             size => size.fmt_size(out),
         }

@@ -159,6 +159,11 @@ pub fn answers(case: &Case) -> String {
                 continue;
             }
             Ask::Caused(_) => continue,
+            Ask::LeaveOut(budget, _) => {
+                text += &leave_out(&catalogue, &case.fits[0], *budget);
+                continue;
+            }
+            Ask::LeftOut => continue,
         };
         if asked.contains(&(terms.reader, result)) {
             continue;
@@ -226,6 +231,10 @@ pub fn ask(ask: Ask) -> String {
             let position = self::position(position);
             format!("cause of {position}, with the lists of its parts")
         }
+        Ask::LeaveOut(budget, room) => {
+            format!("leave out within {budget} tries, {}", self::room(room))
+        }
+        Ask::LeftOut => "leave out within each budget, with the lists of the parts".to_string(),
     }
 }
 
@@ -311,6 +320,28 @@ fn cause(catalogue: &[u8], fit: &Fit, position: Position) -> String {
     };
     match made() {
         Ok((entry, numbers)) => format!("{what}: {entry}\n  pairs {numbers:?}\n"),
+        Err::<_, reference::Refusal>(refusal) => {
+            format!("{what}: document 02 makes it refusal {refusal}\n")
+        }
+    }
+}
+
+/// What document 02 takes off within a budget.
+fn leave_out(catalogue: &[u8], fit: &Fit, budget: u32) -> String {
+    let what = format!("leave out within {budget} tries");
+    let made = || {
+        let catalogue = reference::Catalogue::decode(catalogue)?;
+        let fit = reference::Fit::decode(&fit.image())?;
+        let judge = reference::Judge::new(&catalogue, &fit);
+        Ok(reference::LeaveOut::of(&judge).within(budget))
+    };
+    match made() {
+        Ok(left) => format!(
+            "{what}: {} tries, at most {} off\n  pairs {:?}\n",
+            left.tries,
+            left.distance,
+            left.numbers()
+        ),
         Err::<_, reference::Refusal>(refusal) => {
             format!("{what}: document 02 makes it refusal {refusal}\n")
         }

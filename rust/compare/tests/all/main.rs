@@ -9,6 +9,7 @@ mod faults;
 mod hall;
 mod haul;
 mod league;
+mod leave_out;
 mod original;
 mod page;
 mod reader;

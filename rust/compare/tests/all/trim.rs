@@ -274,6 +274,10 @@ impl Checker for Forgetful {
         }
     }
 
+    fn leave_out(&self, catalogue: &[u8], fit: &[u8], budget: u32, out: &mut [u8]) -> u64 {
+        Original.leave_out(catalogue, fit, budget, out)
+    }
+
     fn cause(&self, catalogue: &[u8], fit: &[u8], position: u32, out: &mut [u8]) -> u64 {
         Original.cause(catalogue, fit, position, out)
     }

@@ -233,11 +233,12 @@ fn the_subs() {
 
 /// Document 01's order of the refusals, without 7, which document 02 takes away,
 /// and with 19 and 20 in front, 11 and 12, 13 in both its places, 9 of a trim, 16, 14 and
-/// 15, and 10 of a widening, of a training, of a trim and of a cause, which it brings.
+/// 15, and 10 of a widening, of a training, of a trim, of a cause and of leaving out, which
+/// it brings.
 #[test]
 fn the_order_of_the_refusals() {
     let order = column("Refusals in their order", "no.", 0);
-    let numbers = "19 20 1 2 3 4 4 5 6 13 11 12 8 9 9 13 16 14 15 10 10 10 10 10";
+    let numbers = "19 20 1 2 3 4 4 5 6 13 11 12 8 9 9 13 16 14 15 10 10 10 10 10 10";
     assert_eq!(order.join(" "), numbers);
 }
 

@@ -80,7 +80,8 @@ fn read(call: &str) -> (&str, Reader) {
 }
 
 /// A call as the page names it, `list`, `league 90` with the profile and this
-/// allowance, `skill 2`, `train 2 by 3` with so many steps, `trim`, `cause 1`, `hall`
+/// allowance, `skill 2`, `train 2 by 3` with so many steps, `trim`, `cause 1`,
+/// `leave_out 9`, `hall`
 /// or `widen`, on a buffer.
 fn called(checker: &dyn Checker, call: &str, images: &Images, out: &mut [u8]) -> u64 {
     let (call, limits) = limited(call);
@@ -110,6 +111,10 @@ fn called(checker: &dyn Checker, call: &str, images: &Images, out: &mut [u8]) ->
         Some(("cause", position)) => {
             let position = position.parse().unwrap();
             checker.cause(&images.catalogue, &images.fit, position, out)
+        }
+        Some(("leave_out", budget)) => {
+            let budget = budget.parse().unwrap();
+            checker.leave_out(&images.catalogue, &images.fit, budget, out)
         }
         Some(("train", asked)) => {
             let (result, steps) = asked.split_once(" by ").expect("a result and steps");
@@ -193,6 +198,7 @@ fn the_words_are_the_pages() {
             "widen" | "trim" => word as u32 as usize,
             call if call.starts_with("train") => word as u32 as usize,
             call if call.starts_with("cause") => word as u32 as usize,
+            call if call.starts_with("leave_out") => word as u32 as usize,
             _ => ENTRY * (word as u32 as usize),
         };
         for (name, checker) in checkers() {
@@ -264,6 +270,23 @@ fn the_causes_are_the_pages() {
             assert_eq!(word, expected.len() as u64, "{name}, {block}");
             assert_eq!(out[..expected.len()], expected, "{name}, {block}");
             assert_eq!(out[expected.len()..], [UNTOUCHED; 4], "{name}, {block}");
+        }
+    }
+}
+
+/// The tries, the distance and the pairs to take off are the page's.
+#[test]
+fn what_to_leave_out_is_the_pages() {
+    let images = Images::of_the_page();
+    for budget in [0, 1, 9] {
+        let call = format!("leave_out {budget}");
+        let expected = bytes(&call);
+        for (name, checker) in checkers() {
+            let mut out = vec![UNTOUCHED; expected.len() + 4];
+            let word = called(&*checker, &call, &images, &mut out);
+            assert_eq!(word, expected.len() as u64, "{name}, {call}");
+            assert_eq!(out[..expected.len()], expected, "{name}, {call}");
+            assert_eq!(out[expected.len()..], [UNTOUCHED; 4], "{name}, {call}");
         }
     }
 }

@@ -1690,3 +1690,123 @@ fn a_wrong_line_of_a_league_is_named() {
         ran.err
     );
 }
+
+#[test]
+fn a_fix_names_what_to_take_off() {
+    let folder = folder("fix");
+    let names = [(Attribute::LowSlots, 12), (Attribute::MaxGroupFitted, 1544)];
+    let catalogue = whole(&names)
+        .type_info(587, 25, 6, None)
+        .type_info(2048, 60, 7, Some(5.0))
+        .build()
+        .unwrap();
+    let online = || ItemResult::new(State::Online);
+    let mut fit = FitBuilder::new(587);
+    fit.ship(online().with(12, 4.0));
+    fit.item(FitItem::new(2048, Slot::Low(0)), online().with(1544, 1.0));
+    for slot in 1..4 {
+        fit.item(FitItem::new(2048, Slot::Low(slot)), online());
+    }
+    let catalogue = put(&folder, "types.bin", &catalogue);
+    let fit = put(&folder, "fit.bin", &fit.build().unwrap());
+    let said = |more: &[&str]| {
+        let ran = officer(&[&["explain", &catalogue, &fit, "--fix"], more].concat());
+        assert_eq!((ran.status, &*ran.err), (3, ""));
+        let (_, fix) = ran
+            .out
+            .split_once("\nfix of slots and limits: ")
+            .expect("a fix");
+        fix.to_string()
+    };
+    let all = "take off item 0 (type 2048): one item, and less is not enough\n";
+    assert_eq!(said(&[]), all);
+    assert_eq!(said(&["--why"]), all);
+    assert_eq!(
+        said(&["--budget", "4"]),
+        "take off type 2048 (items 1, 2, 3): 3 items, and none of them can be put back alone; \
+         with others off instead, up to 2 fewer may do: more tries would tell\n"
+    );
+    assert_eq!(
+        said(&["--budget", "0"]),
+        "take off type 2048 (items 0, 1, 2, 3): 4 items, some of which may not have to go: more \
+         tries would tell, and up to 4 fewer may do\n"
+    );
+    let ran = officer(&["explain", &catalogue, &fit, "--fix", "--json"]);
+    let value = Value::parse(&ran.out);
+    let fix = value.get("fix");
+    assert_eq!(fix.get("tries").number(), 20.0);
+    assert_eq!(fix.get("items").list().len(), 1);
+    assert_eq!(fix.get("most_too_many").number(), 1.0);
+
+    let clear = FitBuilder::new(587).build().unwrap();
+    let clear = put(&folder, "clear.bin", &clear);
+    let ran = officer(&["explain", &catalogue, &clear, "--fix"]);
+    let nothing = "fix of slots and limits: take nothing off: no slot or part is listed as taken \
+                   twice, and no group, type or rack as over its limit\n";
+    assert_eq!(ran.status, 0);
+    assert!(ran.out.ends_with(nothing), "{}", ran.out);
+}
+
+/// With more than 16 items no sets are tried but those that put back, so that none is left
+/// to tell whether fewer would do.
+#[test]
+fn a_fix_of_many_items_promises_nothing_of_more_tries() {
+    let folder = folder("fix-many");
+    let names = [(Attribute::LowSlots, 12), (Attribute::MaxTypeFitted, 2431)];
+    let catalogue = whole(&names)
+        .type_info(587, 25, 6, None)
+        .type_info(2048, 60, 7, Some(5.0))
+        .type_info(4405, 645, 7, Some(5.0))
+        .build()
+        .unwrap();
+    let online = || ItemResult::new(State::Online);
+    let mut fit = FitBuilder::new(587);
+    fit.ship(online().with(12, 4.0));
+    // Of the first there may be one of its type alone.
+    fit.item(FitItem::new(2048, Slot::Low(0)), online().with(2431, 1.0));
+    fit.item(FitItem::new(2048, Slot::Low(1)), online());
+    fit.item(FitItem::new(2048, Slot::Low(2)), online());
+    for _ in 0..14 {
+        fit.item(FitItem::new(4405, Slot::Cargo), online());
+    }
+    let catalogue = put(&folder, "types.bin", &catalogue);
+    let fit = put(&folder, "fit.bin", &fit.build().unwrap());
+    let ran = officer(&["explain", &catalogue, &fit, "--fix"]);
+    assert!(
+        ran.out.ends_with(
+            "take off type 2048 (items 1, 2): 2 items, and none of them can be put back alone; \
+             with others off instead, up to 1 fewer may do\n"
+        ),
+        "{}",
+        ran.out
+    );
+}
+
+#[test]
+fn a_fix_says_where_the_ship_is_no_hull() {
+    let folder = folder("fix-no-hull");
+    let catalogue = whole(&[])
+        .type_info(2048, 60, 7, Some(5.0))
+        .build()
+        .unwrap();
+    let mut fit = FitBuilder::new(2048);
+    for _ in 0..2 {
+        let item = FitItem::new(2048, Slot::Low(0));
+        fit.item(item, ItemResult::new(State::Online));
+    }
+    let catalogue = put(&folder, "types.bin", &catalogue);
+    let fit = put(&folder, "fit.bin", &fit.build().unwrap());
+    for (budget, expected) in [
+        ("9", "take nothing off: "),
+        (
+            "0",
+            "take off type 2048 (items 0, 1): but nothing has to go: ",
+        ),
+    ] {
+        let ran = officer(&["explain", &catalogue, &fit, "--fix", "--budget", budget]);
+        assert_eq!((ran.status, &*ran.err), (3, ""));
+        let why = "the ship is no hull, so no rule looks at its items\n";
+        let fix = format!("fix of slots and limits: {expected}{why}");
+        assert!(ran.out.ends_with(&fix), "{}", ran.out);
+    }
+}

@@ -208,6 +208,10 @@ fn the_headers_numbers_are_the_crates() {
     assert_eq!(number("FITCHECK_MOST_SKILLS"), fitcheck::MOST_SKILLS);
     assert_eq!(number("FITCHECK_FITS_PER_CALL"), fitcheck::FITS_PER_CALL);
     assert_eq!(number("FITCHECK_CAUSE_BYTES"), fitcheck::CAUSE_BYTES);
+    let leave_out = number("FITCHECK_LEAVE_OUT_BYTES");
+    assert_eq!(leave_out, fitcheck::LEAVE_OUT_BYTES);
+    let tries = number("FITCHECK_MOST_TRIES");
+    assert_eq!(tries, fitcheck::MOST_TRIES as usize);
     for (name, refusal) in [
         ("FITCHECK_NO_SUCH_ENTRY", fitcheck::Refusal::NoSuchEntry),
         (

@@ -258,6 +258,18 @@ fn the_objects_in_json_have_the_fields_that_the_page_lists() {
     assert_eq!(caused.names(), row("`explain --why`, where 15 refuses it"));
     assert_eq!(caused.get("causes").names(), row("`refusal` by 15"));
 
+    let fixed = Command::new(env!("CARGO_BIN_EXE_fitcheck"))
+        .args(["explain", "types.bin", "fits/two.fit", "--as", "officer"])
+        .args(["--fix", "--json"])
+        .current_dir(&at)
+        .output()
+        .unwrap();
+    let fixed = Value::parse(&String::from_utf8(fixed.stdout).unwrap());
+    let fields = fixed.names();
+    assert_eq!(fields.last().map(|name| &**name), Some("fix"));
+    assert_eq!(fields[..fields.len() - 1], row("`explain`"));
+    assert_eq!(fixed.get("fix").names(), row("`fix`"));
+
     let half = shown(&["explain", "types.bin", "fits/half.fit"]);
     assert_eq!(half.names(), row("`explain`, not all of it checked"));
     assert_eq!(half.get("unpaired").names(), row("`unpaired`"));

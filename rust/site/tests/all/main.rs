@@ -10,6 +10,7 @@ mod common;
 mod entries;
 mod hall;
 mod league;
+mod leave_out;
 mod mapping;
 mod original;
 mod page;

@@ -161,6 +161,22 @@ pub fn causing_pairs() -> Vec<(Cause, Cause)> {
     met_together(can_cause)
 }
 
+/// Whether leaving out can be refused for a cause.
+fn can_leave_out(cause: Cause) -> bool {
+    matches!(cause, Cause::Number(1..=6 | 10))
+}
+
+/// The plants that leaving out can meet.
+pub fn leaving_out() -> Vec<usize> {
+    met(can_leave_out)
+}
+
+/// The pairs of refusals that can meet in leaving out: a buffer is too short for
+/// whatever set there would be.
+pub fn leaving_out_pairs() -> Vec<(Cause, Cause)> {
+    met_together(can_leave_out)
+}
+
 /// Whether a widening can be refused for a cause.
 pub fn can_widen(cause: Cause) -> bool {
     matches!(cause, Cause::Number(1..=3 | 10))
@@ -195,6 +211,7 @@ pub enum Calls {
     Trainings,
     Trims,
     Causes,
+    LeaveOuts,
 }
 
 /// One plant alone.
@@ -245,6 +262,8 @@ fn planted(rng: &mut Rng, mut ground: Ground, plants: &[Row], calls: Calls) -> C
         Ask::Trim(ground.room)
     } else if calls == Calls::Causes {
         Ask::Cause(ground.position, ground.room)
+    } else if calls == Calls::LeaveOuts {
+        Ask::LeaveOut(budget(rng), ground.room)
     } else if takes_a_result || (!takes_a_profile && rng.chance(400)) {
         Ask::Skill(ground.result, ground.room)
     } else {
@@ -280,6 +299,11 @@ pub fn steps(rng: &mut Rng) -> Steps {
     ])
 }
 
+/// No try, a few, or more than there can be.
+fn budget(rng: &mut Rng) -> u32 {
+    rng.pick(&[0, 1, 2, 9, 300, 65_552, u32::MAX])
+}
+
 #[cfg(test)]
 mod tests {
     use super::*;
@@ -294,6 +318,7 @@ mod tests {
         assert_eq!(training_pairs().len(), 44);
         assert_eq!(trimming_pairs().len(), 28);
         assert_eq!(causing_pairs().len(), 36);
+        assert_eq!(leaving_out_pairs().len(), 21);
     }
 
     #[test]

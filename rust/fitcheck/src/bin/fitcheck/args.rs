@@ -3,13 +3,14 @@
 use std::ffi::OsString;
 use std::path::PathBuf;
 
-use fitcheck::{Limits, Reader};
+use fitcheck::{Limits, MOST_TRIES, Reader};
 
 use crate::files::Source;
 
 pub const USAGE: &str = "\
-Usage: fitcheck explain CATALOGUE FIT --as READER [--why] [--names FILE]
-                        [--profile FILE --allowance N] [--pairs N] [--skills N] [--json]
+Usage: fitcheck explain CATALOGUE FIT --as READER [--why] [--fix [--budget N]]
+                        [--names FILE] [--profile FILE --allowance N]
+                        [--pairs N] [--skills N] [--json]
        fitcheck hall CATALOGUE FOLDER [--json]
        fitcheck pack FIT.txt [--types FILE] [--out FOLDER]
        fitcheck profile WORDS NEW [--names FILE]
@@ -21,8 +22,9 @@ Usage: fitcheck explain CATALOGUE FIT --as READER [--why] [--names FILE]
 pub const HELP: &str = "\
 Says which fitting rules of EVE Online a fit breaks.
 
-Usage: fitcheck explain CATALOGUE FIT --as READER [--why] [--names FILE]
-                        [--profile FILE --allowance N] [--pairs N] [--skills N] [--json]
+Usage: fitcheck explain CATALOGUE FIT --as READER [--why] [--fix [--budget N]]
+                        [--names FILE] [--profile FILE --allowance N]
+                        [--pairs N] [--skills N] [--json]
        fitcheck hall CATALOGUE FOLDER [--json]
        fitcheck pack FIT.txt [--types FILE] [--out FOLDER]
        fitcheck profile WORDS NEW [--names FILE]
@@ -68,6 +70,12 @@ the FILE of -o are written, and are no file that is read, nor -.
 --why         With --as officer, and without a league: below each entry the items
               that show it, and of these none that it could do without: leave out
               one or more, and it is gone. Others may show it too, or fewer.
+--fix         With --as officer: behind all else, a few items to take off, so that no
+              slot or part of the ship is listed as taken twice, no limit of a group
+              or type as passed, and no rack as too full; and whether fewer might be
+              enough. What else the fit breaks may stay.
+--budget N    With --fix: so many tries at most, each of one set of items; else 65,552,
+              more than which no fit has.
 --names FILE  What types and groups are called: a line `2048 Damage Control II`
               for a type, `group 60 Damage Control` for a group; empty lines
               and lines that begin with # are passed over.
@@ -126,6 +134,8 @@ pub struct Explain {
     pub limits: Limits,
     /// Whether it says which items make each entry.
     pub why: bool,
+    /// Within how many tries it says what to take off, if it does.
+    pub fix: Option<u32>,
     pub json: bool,
 }
 
@@ -185,12 +195,16 @@ struct Words {
     values: Vec<(&'static str, OsString)>,
     json: bool,
     why: bool,
+    fix: bool,
     help: bool,
     version: bool,
 }
 
+/// Options that have none.
+const FLAGS: [&str; 5] = ["--help", "--version", "--json", "--why", "--fix"];
+
 /// Options that have a value, and what it is.
-const VALUED: [(&str, &str); 11] = [
+const VALUED: [(&str, &str); 12] = [
     ("--as", "reader"),
     ("--names", "file"),
     ("--types", "file"),
@@ -201,6 +215,7 @@ const VALUED: [(&str, &str); 11] = [
     ("--skills", "number"),
     ("--result", "number"),
     ("--steps", "number"),
+    ("--budget", "number"),
     ("-o", "file"),
 ];
 
@@ -215,6 +230,7 @@ impl Words {
                 "--version" | "-V" => words.version = true,
                 "--json" => words.json = true,
                 "--why" => words.why = true,
+                "--fix" => words.fix = true,
                 "--" => is_path = true,
                 text if text.len() > 1 && text.starts_with('-') => {
                     let (name, value) = match text.split_once('=') {
@@ -238,7 +254,10 @@ impl Words {
     ) -> Result<(), String> {
         let known = VALUED.iter().find(|known| known.0 == name);
         let Some((name, what)) = known else {
-            return Err(format!("there is no option {name}"));
+            return Err(match FLAGS.contains(&name) {
+                true => format!("{name} takes no value"),
+                false => format!("there is no option {name}"),
+            });
         };
         if self.values.iter().any(|value| value.0 == *name) {
             return Err(format!("{name} stands twice"));
@@ -310,7 +329,8 @@ pub fn parse(line: impl IntoIterator<Item = OsString>) -> Result<Command, String
     };
     let unused = words.values.first().map(|value| value.0);
     let unused = unused.or(words.json.then_some("--json"));
-    match (unused.or(words.why.then_some("--why")), plain.next()) {
+    let unused = unused.or(words.why.then_some("--why"));
+    match (unused.or(words.fix.then_some("--fix")), plain.next()) {
         (Some(option), _) => Err(format!("{shown} takes no {option}")),
         (None, Some((more, _))) => Err(format!("{} is one word too many", more.display())),
         (None, None) => Ok(asked),
@@ -369,6 +389,7 @@ fn explain(
         league: league(words)?,
         limits: limits(words)?,
         why: std::mem::take(&mut words.why),
+        fix: fix(words)?,
         json: std::mem::take(&mut words.json),
     };
     match (asked.why, asked.reader, &asked.league) {
@@ -378,7 +399,24 @@ fn explain(
         (true, _, Some(_)) => {
             Err("--why is about the list without a league, so it takes no --profile".to_string())
         }
+        _ if asked.fix.is_some() && asked.reader != Reader::Officer => {
+            Err("--fix is an officer's: it wants --as officer".to_string())
+        }
         _ => Ok(Command::Explain(asked)),
+    }
+}
+
+/// Within how many tries it is said what to take off.
+fn fix(words: &mut Words) -> Result<Option<u32>, String> {
+    match (
+        std::mem::take(&mut words.fix),
+        named_number(words, "--budget")?,
+    ) {
+        (true, budget) => Ok(Some(budget.unwrap_or(MOST_TRIES))),
+        (false, None) => Ok(None),
+        (false, Some(_)) => {
+            Err("--budget is of tries to find a fix, so it wants --fix".to_string())
+        }
     }
 }
 
@@ -481,6 +519,7 @@ mod tests {
             league: None,
             limits: Limits::main(),
             why: false,
+            fix: None,
             json: true,
         });
         for line in [
@@ -510,6 +549,7 @@ mod tests {
             league: Some(("p".into(), 120)),
             limits: Limits::main(),
             why: false,
+            fix: None,
             json: false,
         });
         for line in [
@@ -578,6 +618,27 @@ mod tests {
     }
 
     #[test]
+    fn a_fix_has_all_tries_where_none_are_named() {
+        let most = Some(MOST_TRIES);
+        for (line, fix, why) in [
+            ("explain c f --as officer --fix", most, false),
+            ("explain --fix c f --as officer --why", most, true),
+            ("explain c f --as officer --fix --budget 0", Some(0), false),
+            (
+                "explain c f --budget=4294967295 --as officer --fix",
+                Some(u32::MAX),
+                false,
+            ),
+            ("explain c f --as guest", None, false),
+        ] {
+            let Ok(Command::Explain(asked)) = parsed(line) else {
+                panic!("{line}");
+            };
+            assert_eq!((asked.fix, asked.why), (fix, why), "{line}");
+        }
+    }
+
+    #[test]
     fn a_trim_is_written_where_a_file_is_named() {
         let trimmed = |new: Option<&str>, json: bool| {
             Command::Trim(Trim {
@@ -607,6 +668,7 @@ mod tests {
                 league: None,
                 limits,
                 why: false,
+                fix: None,
                 json: false,
             })
         };
@@ -647,6 +709,7 @@ mod tests {
             league: None,
             limits: Limits::main(),
             why: false,
+            fix: None,
             json: false,
         });
         assert_eq!(parsed("explain c - --as officer"), Ok(piped));
@@ -671,7 +734,34 @@ mod tests {
             ("hall c f --names a", "hall takes no --names"),
             ("hall c f --why", "hall takes no --why"),
             ("trim c f --why", "trim takes no --why"),
-            ("explain c f --why=x", "there is no option --why"),
+            ("hall c f --fix", "hall takes no --fix"),
+            ("train c f --result 0 --budget 3", "train takes no --budget"),
+            (
+                "explain c f --as officer --budget 3",
+                "--budget is of tries to find a fix, so it wants --fix",
+            ),
+            (
+                "explain c f --as pilot --fix",
+                "--fix is an officer's: it wants --as officer",
+            ),
+            (
+                "explain c f --as officer --fix --budget two",
+                "--budget two is no whole number up to 4294967295",
+            ),
+            (
+                "explain c f --as officer --fix --budget -1",
+                "--budget -1 is no whole number up to 4294967295",
+            ),
+            (
+                "explain c f --as officer --fix --budget 4294967296",
+                "--budget 4294967296 is no whole number up to 4294967295",
+            ),
+            (
+                "explain c f --as officer --fix --budget",
+                "--budget wants a number",
+            ),
+            ("explain c f --as officer --fix=9", "--fix takes no value"),
+            ("explain c f --why=x", "--why takes no value"),
             (
                 "explain c f --why",
                 "explain wants --as and who reads it: guest, pilot or officer",

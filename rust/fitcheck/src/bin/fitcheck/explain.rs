@@ -2,7 +2,8 @@
 
 use std::io::Write;
 
-use fitcheck::{CausedReport, Explainer, ListOptions, Report};
+use fitcheck::json::Json;
+use fitcheck::{CausedReport, Explainer, LeaveOut, ListOptions, Report};
 
 use crate::args::Explain;
 use crate::files::{self, Source};
@@ -37,10 +38,16 @@ pub fn run(asked: &Explain, out: &mut impl Write) -> Result<u8, Trouble> {
     };
     warn(&asked.catalogue, &catalogue);
     let explainer = Explainer::new(&fit, &names);
+    let fix = fixed(asked, &catalogue, &fit)?;
     match asked.json {
-        true => writeln!(out, "{}", report.json(&explainer))?,
+        true => writeln!(
+            out,
+            "{}",
+            with_fix(report.json(&explainer), &fix, &explainer)
+        )?,
         false => out.write_all(report.text(&explainer).as_bytes())?,
     }
+    say_fix(asked, &fix, &explainer, out)?;
     Ok(if report.is_faulted() { FAULTED } else { DONE })
 }
 
@@ -58,10 +65,55 @@ fn why(asked: &Explain, out: &mut impl Write) -> Result<u8, Trouble> {
     };
     warn(&asked.catalogue, &catalogue);
     let explainer = Explainer::new(&fit, &names);
+    let fix = fixed(asked, &catalogue, &fit)?;
     match asked.json {
-        true => writeln!(out, "{}", caused.json(&explainer))?,
+        true => writeln!(
+            out,
+            "{}",
+            with_fix(caused.json(&explainer), &fix, &explainer)
+        )?,
         false => out.write_all(caused.text(&explainer).as_bytes())?,
     }
+    say_fix(asked, &fix, &explainer, out)?;
     let is_faulted = caused.report().is_faulted();
     Ok(if is_faulted { FAULTED } else { DONE })
+}
+
+/// What to take off, where that is asked.
+fn fixed<'a>(
+    asked: &Explain,
+    catalogue: &'a [u8],
+    fit: &'a [u8],
+) -> Result<Option<LeaveOut<'a>>, Trouble> {
+    let Some(tries) = asked.fix else {
+        return Ok(None);
+    };
+    // The list of the same images was answered.
+    let fix = LeaveOut::within(catalogue, fit, tries);
+    Ok(Some(fix.map_err(|refusal| refusal.to_string())?))
+}
+
+fn with_fix(report: Json, fix: &Option<LeaveOut<'_>>, explainer: &Explainer<'_>) -> Json {
+    match (report, fix) {
+        (Json::Object(mut fields), Some(fix)) => {
+            fields.push(("fix", fix.json(explainer)));
+            Json::Object(fields)
+        }
+        (report, _) => report,
+    }
+}
+
+fn say_fix(
+    asked: &Explain,
+    fix: &Option<LeaveOut<'_>>,
+    explainer: &Explainer<'_>,
+    out: &mut impl Write,
+) -> Result<(), Trouble> {
+    match fix {
+        Some(fix) if !asked.json => {
+            writeln!(out, "fix of slots and limits: {}", fix.sentence(explainer))?
+        }
+        _ => {}
+    }
+    Ok(())
 }
