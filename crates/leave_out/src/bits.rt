@@ -1,5 +1,6 @@
 // Sets of pairs as bits.
-ghost use Rattle.std.specs.Prelude.{◌≡◌, ◌+◌, ◌*◌, ◌^◌, ◌<◌, ◌≤◌, ℕ, ◌&&◌, ◌||◌, eqb, length, take, bit_and, count_ones};
+ghost use Rattle.std.specs.Prelude.{◌≡◌, ◌+◌, ◌*◌, ◌^◌, ◌<◌, ◌≤◌, ℕ};
+ghost use Rattle.std.specs.Prelude.{◌&&◌, ◌||◌, eqb, length, take, bit_and, count_ones};
 ghost use Rattle.words.specs.Words.{count_of, from};
 ghost use Rattle.marks.specs.Marks.{is_marked};
 ghost use Rattle.leave_out.specs.Bits.{Unmarked, Marked, marked_of};

@@ -126,7 +126,8 @@ impl<'a, 'b> Window<'a, 'b> {
     // Marks the runs of n ids, eight at a time.
     fn mark_all<F: Fn(usize) -> i32>(&mut self, n: usize, id_at: F)
         requires { (i : ℕ) → i < n → F.pre id_at i }
-        ensures { (f : ℕ → Id) → ((i : ℕ) (r : Id) → i < n → F.post id_at i r → r ≡ f i) → MarkedMore self.old self.new (table n f) }
+        ensures { (f : ℕ → Id) → ((i : ℕ) (r : Id) → i < n → F.post id_at i r → r ≡ f i) →
+            MarkedMore self.old self.new (table n f) }
     {
         // a while: by eight
         let mut i = 0;
