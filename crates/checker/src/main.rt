@@ -9,10 +9,12 @@ use std::io;
 fn main(rt: HostRuntime) -> io::Result<()> {
     let mut types = [0; 65537];
     let mut fit = [0; 65537];
-    let types = program::read(&rt, b"types.bin", &mut types);
-    let fit = program::read(&rt, b"fit.bin", &mut fit);
-    if 65536 < types.len() || 65536 < fit.len() {
+    let types_len = program::read(&rt, b"types.bin", &mut types);
+    let fit_len = program::read(&rt, b"fit.bin", &mut fit);
+    if 65536 < types_len || 65536 < fit_len {
         return println!(rt; "too long");
     }
-    rt.write_all(text::checked(types, fit).as_bytes())
+    let mut text = text::Output::new();
+    text::checked(&types[..types_len], &fit[..fit_len], &mut text);
+    rt.write_all(text.as_bytes())
 }

@@ -11,7 +11,7 @@ use numbers::sizes;
 // 65,520 bytes hold at most 2,730 entries, whose lines have at most 168 bytes each; the last line has at most 29.
 const ROOM: usize = 168 * 2730 + 29;
 
-type Output = ArrayString<ROOM>;
+pub type Output = ArrayString<ROOM>;
 
 #[tactic(auto, using(std::proofs::Common::append_assoc), unfolding(crate::specs::Text::spaced))]
 fn spaced(text: &mut Output, n: u64)
@@ -86,21 +86,20 @@ fn closing(text: &mut Output, refusal: u64, count: u64)
 }
 
 #[tactic(auto, unfolding(crate::specs::Text::text_of))]
-fn text_of(word: u64, b: &[u8]) -> Output
+fn text_of(text: &mut Output, word: u64, b: &[u8])
     requires in_bounds { 24 * (word % 2 ^ 32) ≤ length b.now }
     requires room { 168 * (word % 2 ^ 32) + 29 ≤ 458669 }
-    ensures { result.bytes ≡ text_of word b.now }
+    ensures { text.new.bytes ≡ text_of word b.now }
 {
     let count = word % sizes::WORD;
-    let mut text = Output::new();
-    lines(&mut text, b, count as usize);
-    closing(&mut text, word / sizes::WORD, count);
-    text
+    text.clear();
+    lines(text, b, count as usize);
+    closing(text, word / sizes::WORD, count);
 }
 
-// The list call's answer with 65,520 bytes lent.
-pub fn checked(catalogue: &[u8], fit: &[u8]) -> Output
-    ensures { result.bytes ≡ Text.checked catalogue.now fit.now }
+// The list call's answer with 65,520 bytes lent, in a text that is lent too: given back, one so large would be copied at each step.
+pub fn checked(catalogue: &[u8], fit: &[u8], text: &mut Output)
+    ensures { text.new.bytes ≡ Text.checked catalogue.now fit.now }
 {
     let mut buffer = [0; 65520];
     let word = fitcheck::fit_list(
@@ -113,5 +112,5 @@ pub fn checked(catalogue: &[u8], fit: &[u8]) -> Output
         fitcheck::MAIN_SKILLS,
         &mut buffer,
     );
-    text_of(word, &buffer)
+    text_of(text, word, &buffer);
 }

@@ -1,8 +1,9 @@
 // What the programs share: the bytes of a file, and text that is made whole before it is written.
 #![tactic(auto)]
 
-ghost use Rattle.std.specs.Prelude.{◌≡◌, [], ◌++◌, ◌+◌, ◌≤◌, length};
+ghost use Rattle.std.specs.Prelude.{◌≡◌, [], ◌++◌, ◌+◌, ◌≤◌};
 ghost use Rattle.arrayvec.specs.ArrayString.{array_string_len};
+ghost use Rattle.program.specs.Counts.{IsPrefixLen};
 ghost use Rattle.program.specs.Text as Text;
 ghost use Rattle.program.specs.Text.{decimal};
 
@@ -14,13 +15,13 @@ use std::{fs, str};
 
 // The start of the file, as much as `b` holds. A file that is not there is empty; one that cannot be opened for another reason counts as
 // empty too, which every image refuses, and the reason goes to standard error.
-pub fn read<'b>(rt: &(impl Files + Eprint), path: &[u8], b: &'b mut [u8]) -> &'b [u8]
-    ensures { length result.now ≤ length b.old }
+pub fn read(rt: &(impl Files + Eprint), path: &[u8], b: &mut [u8]) -> usize
+    ensures { IsPrefixLen result b.new }
 {
     // a path of bytes: a `&str` would ask callers for text
     let Ok(name) = str::from_utf8(path) else {
         let _ = eprintln!(rt; "a path that is no text");
-        return &[];
+        return 0;
     };
     match fs::open(rt, name) {
         Ok(mut file) => fill(&mut file, b),
@@ -28,14 +29,14 @@ pub fn read<'b>(rt: &(impl Files + Eprint), path: &[u8], b: &'b mut [u8]) -> &'b
             if e.kind() != ErrorKind::NotFound {
                 let _ = eprintln!(rt; "{name}: {e}");
             }
-            &[]
+            0
         }
     }
 }
 
-// Reads until `b` is full, the file ends or a read fails: the bytes that were read.
-pub fn fill<'b>(file: &mut impl Read, b: &'b mut [u8]) -> &'b [u8]
-    ensures { length result.now ≤ length b.old }
+// Reads until `b` is full, the file ends or a read fails: how many bytes stand at the start of `b`.
+pub fn fill(file: &mut impl Read, b: &mut [u8]) -> usize
+    ensures { IsPrefixLen result b.new }
 {
     // a count of bytes, and no index: a read gives as many as it likes
     let mut done = 0;
@@ -45,7 +46,7 @@ pub fn fill<'b>(file: &mut impl Read, b: &'b mut [u8]) -> &'b [u8]
             _ => break,
         }
     }
-    &b[..done]
+    done
 }
 
 // A number in decimal, behind the text.

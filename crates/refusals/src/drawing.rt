@@ -1,68 +1,99 @@
-// The image of a row, in the words of data/catalogues.txt: zero bytes, with numbers put into them.
-use anyhow::{Context, Result};
-use std::alloc::Global;
+// The image of a row, in the words of data/catalogues.txt: zero bytes, with numbers put into them. A row of any bytes is drawn as far as it
+// goes: it is read as parts, each a mark of one byte and the digits behind it.
+ghost use Rattle.std.specs.Prelude.{◌<◌, ◌≤◌, length, IfSome};
 
-// A u32 at a place; the place behind it.
-fn word(image: &mut [u8], at: usize, x: u32) -> Option<usize> {
+// The place of the first such byte.
+pub fn find(b: &[u8], byte: u8) -> Option<usize>
+    ensures { IfSome result (λ i. i < length b.now) }
+{
+    for i in 0..b.len() {
+        if b[i] == byte {
+            return Some(i);
+        }
+    }
+    None
+}
+
+// How many digits the bytes begin with.
+fn digits(b: &[u8]) -> usize
+    ensures { result ≤ length b.now }
+{
+    b.iter()
+        .position(|x| !x.is_ascii_digit())
+        .unwrap_or(b.len())
+}
+
+// The number that up to ten digits stand for; of more, that of the last ten.
+fn number(digits: &[u8]) -> usize {
+    let mut n = 0;
+    for digit in digits {
+        n = 10 * (n % 1_000_000_000) + usize::from(*digit % 16);
+    }
+    n
+}
+
+// The mark of the first part of a row, its number, and the parts behind it.
+fn part(row: &[u8]) -> Option<(u8, usize, &[u8])>
+    ensures { IfSome result (λ p. length p.2.now < length row.now) }
+{
+    let (mark, rest) = row.split_first()?;
+    let end = digits(rest);
+    Some((*mark, number(&rest[..end]), &rest[end..]))
+}
+
+// The number of the first part: how long the image is.
+pub fn first_number(row: &[u8]) -> usize {
+    match part(row) {
+        Some((_, n, _)) => n,
+        None => 0,
+    }
+}
+
+// A u32 at a place; the place behind it, or None where it has no room.
+fn word(image: &mut [u8], at: usize, x: usize) -> Option<usize> {
     if image.len() < 4 || image.len() - 4 < at {
         return None;
     }
-    image::put_u32(image, at, x);
+    image::put_u32(image, at, (x % 4294967296) as u32);
     Some(at + 4)
 }
 
-fn byte(image: &mut [u8], at: usize, x: u8) -> Option<usize> {
-    *image.get_mut(at)? = x;
+fn byte(image: &mut [u8], at: usize, x: usize) -> Option<usize> {
+    *image.get_mut(at)? = (x % 256) as u8;
     Some(at + 1)
 }
 
-// AT=FIRST-LAST
-fn run(image: &mut [u8], at: &str, first: &str, last: &str) -> Option<()> {
-    let mut at = at.parse().ok()?;
-    let first = first.parse().ok()?;
-    let last = last.parse().ok()?;
-    for x in first..=last {
-        at = word(image, at, x)?;
+// The numbers behind `before` up to `last`, a u32 each.
+fn run(image: &mut [u8], at: usize, before: usize, last: usize) -> usize {
+    let mut place = at;
+    for x in before..last {
+        // the next have no room either
+        let Some(behind) = word(image, place, x + 1) else {
+            break;
+        };
+        place = behind;
     }
-    Some(())
+    place
 }
 
-// AT=WORD,WORD..
-fn words(image: &mut [u8], at: &str, words: &str) -> Option<()> {
-    let mut at = at.parse().ok()?;
-    for x in words.split(',') {
-        at = word(image, at, x.parse().ok()?)?;
-    }
-    Some(())
-}
-
-// AT.BYTE.BYTE..
-fn bytes(image: &mut [u8], at: &str, bytes: &str) -> Option<()> {
-    let mut at = at.parse().ok()?;
-    for x in bytes.split('.') {
-        at = byte(image, at, x.parse().ok()?)?;
-    }
-    Some(())
-}
-
-fn put(image: &mut [u8], part: &str) -> Option<()> {
-    if let Some((at, numbers)) = part.split_once('=') {
-        match numbers.split_once('-') {
-            Some((first, last)) => run(image, at, first, last),
-            None => words(image, at, numbers),
-        }
-    } else {
-        let (at, numbers) = part.split_once('.')?;
-        bytes(image, at, numbers)
+// What a number stands for is told by its mark; `before` is the number of the part before. The place behind what is put, which is nothing
+// where it has no room.
+fn put(image: &mut [u8], mark: u8, at: usize, before: usize, n: usize) -> usize {
+    match mark {
+        b' ' => n,
+        b'.' => byte(image, at, n).unwrap_or(at),
+        b'-' => run(image, at, before, n),
+        _ => word(image, at, n).unwrap_or(at),
     }
 }
 
-pub fn draw(alloc: Global, row: &str) -> Result<Vec<u8>> {
-    let mut parts = row.split_whitespace();
-    let length = parts.next().context("a row without a length")?;
-    let mut image = vec![in alloc; 0; length.parse::<usize>()?]?;
-    for part in parts {
-        put(&mut image, part).context(format_args!("no such number or place: {part}"))?;
+pub fn draw(row: &[u8], image: &mut [u8]) {
+    let mut parts = row;
+    let mut at = 0;
+    let mut before = 0;
+    while let Some((mark, n, behind)) = part(parts) {
+        at = put(image, mark, at, before, n);
+        before = n;
+        parts = behind;
     }
-    Ok(image)
 }

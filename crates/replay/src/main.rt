@@ -39,8 +39,13 @@ fn replay(rt: &impl Print, b: &[u8]) -> io::Result<()> {
 }
 
 fn main(rt: HostRuntime) -> io::Result<()> {
-    match fs::read(&rt, "recorded.bin") {
-        Ok(bytes) => replay(&rt, &bytes),
+    // as much as the file may have, and more: one that is cut off ends within a record
+    let mut bytes = [0; 73728];
+    match fs::open(&rt, "recorded.bin") {
+        Ok(mut file) => {
+            let n = program::fill(&mut file, &mut bytes);
+            replay(&rt, &bytes[..n])
+        }
         Err(e) => eprintln!(rt; "recorded.bin: {e}"),
     }
 }

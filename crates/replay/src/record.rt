@@ -1,7 +1,7 @@
 // One record: a call, and the original's answer to it.
 ghost use Rattle.std.specs.Prelude.{◌≡◌, ◌+◌, ◌≤◌, length, drop, IfSome};
-ghost use Rattle.image.specs.Bytes.{u32_at};
-ghost use Rattle.replay.specs.Records.{size};
+ghost use Rattle.image.specs.Bytes.{u32_at, u64_at};
+ghost use Rattle.replay.specs.Records.{size, Parts};
 
 use fitcheck::{MAIN_PAIRS, MAIN_SKILLS};
 use numbers::readers::Reader;
@@ -48,7 +48,9 @@ pub fn count(b: &[u8]) -> Option<(u32, &[u8])>
 
 // The record that the bytes begin with, and the bytes behind it; None where it is not whole.
 pub fn first(b: &[u8]) -> Option<(Record<'_>, &[u8])>
-    ensures { IfSome result (λ r. (size b.now 0 ≤ length b.now) × (r.1.now ≡ drop (size b.now 0) b.now)) }
+    ensures parts { IfSome result (λ r. Parts b.now r.0.catalogue.now r.0.input.now r.0.profile.now r.0.written.now) }
+    ensures numbers { IfSome result (λ r. (r.0.allowance ≡ u32_at b.now 12) × (r.0.room ≡ u32_at b.now 20) × (r.0.word ≡ u64_at b.now 24)) }
+    ensures behind { IfSome result (λ r. (size b.now 0 ≤ length b.now) × (r.1.now ≡ drop (size b.now 0) b.now)) }
 {
     let (_, rest) = b.split_at_checked(36)?;
     let (catalogue, rest) = rest.split_at_checked(image::size_at(b, 0))?;

@@ -9,11 +9,11 @@ use std::io;
 // One byte more than the file may have tells a longer one.
 fn main(rt: HostRuntime) -> io::Result<()> {
     let mut types = [0; 65537];
-    let types = program::read(&rt, b"types.bin", &mut types);
-    if 65536 < types.len() {
+    let len = program::read(&rt, b"types.bin", &mut types);
+    if 65536 < len {
         return println!(rt; "too long");
     }
     // As much as 65,536 bytes widen to: with 5,459 bases, four bytes more for each.
     let mut text = [0; 87372];
-    rt.write_all(text::printed(types, &mut text))
+    rt.write_all(text::printed(&types[..len], &mut text))
 }
