@@ -2,13 +2,13 @@
 use Prim.Native.Nat.{ℕ, zero, suc, ◌+◌, ◌-◌, ◌^◌, ◌≤◌, ◌<◌}
 use native.Mathlib.Nat.{add-zero}
 use native.Mathlib.Omega.{arith}
-use mathlib.Core.Path.{◌≡◌, refl, ap, ◌∙◌}
+use mathlib.Core.Path.{◌≡◌, refl, sym, ap, ap₂, ◌∙◌}
 use mathlib.Core.Bool.{Bool, cond}
 use mathlib.Core.List.{List, [], ◌∷◌}
 use lib.IntN.{ℤ, pos, negsuc}
 use lib.Signed.{mag}
 use lib.ListN.{length, get_or, set, take, drop, length-set}
-use lib.Seq.{get_or-set_same, get_or-set_other}
+use lib.Seq.{get_or-set_same, get_or-set_other, set_comm, drop-cons}
 use borrow.Author.Tests.{lt-ltb, le-ltb}
 use Rattle.image.specs.Bytes.{u16_at, u32_at, i32_at, signed32, bits32, le, put}
 
@@ -35,6 +35,12 @@ put-among l at (v ∷ vs) (suc j) h room =
     let q : at + suc j ≡ at + 1 + j = omega arith in
     ap (λ (i : ℕ). get_or (put (set l at v) (at + 1) vs) i 0) q
     ∙ put-among (set l at v) (at + 1) vs j (omega (arith, h)) (omega (arith, k, length-set l at v))
+
+-- a byte stored in front of others
+pub put_front : (l : List ℕ) (at : ℕ) (v : ℕ) (i : ℕ) (vs : List ℕ) → at < i → set (put l i vs) at v ≡ put (set l at v) i vs
+put_front l at v i [] h = refl
+put_front l at v i (x ∷ vs) h =
+    put_front (set l i x) at v (i + 1) vs (omega arith) ∙ ap (λ (m : List ℕ). put m (i + 1) vs) (set_comm l i at x v (λ e. omega (arith, e, h)))
 
 -- ---- numbers
 pub u16_alike : (l m : List ℕ) (i j : ℕ) → ((b : ℕ) → b < 2 → get_or l (i + b) 0 ≡ get_or m (j + b) 0) → u16_at l i ≡ u16_at m j
@@ -80,3 +86,18 @@ module _ (b : List ℕ) (end by : ℕ) where
   -- those from i on, where they stand then
   abbrev pub moved : ℕ → List ℕ
   moved i = put b (i + by) (take (end - i) (drop i b))
+
+  pub moved_none : moved end ≡ b
+  moved_none = let q : end - end ≡ 0 = omega arith in ap (λ (k : ℕ). put b (end + by) (take k (drop end b))) q
+
+  pub moved_next : (i j : ℕ) → i ≡ suc j → i ≤ end → end ≤ length b → set (moved i) (j + by) (get_or b j 0) ≡ moved j
+  moved_next i j e h room =
+      let x = take (end - i) (drop i b) in
+      let v = get_or b j 0 in
+      let n : end - j ≡ suc (end - i) = omega (arith, e, h) in
+      let front : drop j b ≡ v ∷ drop i b = drop-cons b j 0 (omega (arith, e, h, room)) ∙ ap (λ (k : ℕ). v ∷ drop k b) (sym e) in
+      let all : take (end - j) (drop j b) ≡ v ∷ x = ap₂ (λ (k : ℕ) (l : List ℕ). take k l) n front in
+      let at : i + by ≡ j + by + 1 = omega (arith, e) in
+      put_front b (j + by) v (i + by) x (omega (arith, e))
+      ∙ ap (λ (k : ℕ). put (set b (j + by) v) k x) at
+      ∙ sym (ap (put b (j + by)) all)

@@ -1,14 +1,14 @@
 -- A skill stored in the arrays, at a place that is opened for it: what stands where then, by the bytes that were moved and stored.
 use Prim.Native.Nat.{ℕ, suc, ◌+◌, ◌*◌, ◌-◌, ◌≤◌, ◌<◌}
 use native.Mathlib.Omega.{arith}
-use mathlib.Core.Path.{◌≡◌, ap, ◌∙◌}
+use mathlib.Core.Path.{◌≡◌, sym, ap, ap₂, ◌∙◌}
 use mathlib.Core.List.{List}
 use lib.IntN.{ℤ}
 use lib.Signed.{mag}
-use lib.ListN.{length, get_or, set, take, drop}
+use lib.ListN.{length, get_or, set, take, drop, length-drop}
 use lib.Seq.{get_or-take, get_or-drop, get_or-set_same, get_or-set_other}
 use Rattle.image.specs.Bytes.{u8_at, bits32, le, put}
-use Rattle.image.proofs.Stores.{length-put, length-le}
+use Rattle.image.proofs.Stores.{length-put, length-le, put_next}
 use Rattle.image.proofs.Parts.{part_length}
 use Rattle.image.proofs.Puts.{put-before, put-behind, put-among, i32_alike, le-i32, moved}
 use Rattle.keys.specs.Keys.{key_at}
@@ -18,6 +18,24 @@ module _ (b : List ℕ) (at by : ℕ) where
   -- those before i, where they stand then
   abbrev pub lowered : ℕ → List ℕ
   lowered i = put b (at - by) (take (i - at) (drop at b))
+
+  pub lowered_none : lowered at ≡ b
+  lowered_none = let q : at - at ≡ 0 = omega arith in ap (λ (k : ℕ). put b (at - by) (take k (drop at b))) q
+
+  -- the next one stands where it did
+  pub lowered_read : (i : ℕ) → by ≤ at → at ≤ i → i ≤ length b → get_or (lowered i) i 0 ≡ get_or b i 0
+  lowered_read i l h room =
+      let n = part_length b at (i - at) (omega (arith, h, room)) in
+      put-behind b (at - by) (take (i - at) (drop at b)) i (omega (arith, l, h, n))
+
+  pub lowered_next : (i : ℕ) → by ≤ at → at ≤ i → i < length b → set (lowered i) (i - by) (get_or b i 0) ≡ lowered (i + 1)
+  lowered_next i l h room =
+      let e : i - by ≡ at - by + (i - at) = omega (arith, l, h) in
+      let d : i ≡ at + (i - at) = omega (arith, h) in
+      let m : i - at + 1 ≡ i + 1 - at = omega (arith, h) in
+      ap₂ (λ (k x : ℕ). set (lowered i) k x) e (ap (λ (k : ℕ). get_or b k 0) d ∙ sym (get_or-drop at b (i - at) 0))
+      ∙ put_next b (at - by) (drop at b) (i - at) (omega (arith, length-drop at b, h, room))
+      ∙ ap (λ (k : ℕ). put b (at - by) (take k (drop at b))) m
 
 -- ---- those from a place to an end moved up by one, and the skill stored at the place
 abbrev pub ids-above : List ℕ → (end place : ℕ) → ℤ → List ℕ

@@ -44,12 +44,14 @@ fn portion(wanted: u8, level: u8, steps: u32) -> u8
     u32::from(wanted.saturating_sub(level)).min(steps) as u8
 }
 
-// The bytes from `at` to `end`, moved down.
+// The bytes from `at` to `end`, moved down; byte by byte, as `image::move_up`.
 fn move_down(b: &mut [u8], at: usize, end: usize, by: usize)
     requires { (by ≤ at) × (at ≤ end) × (end ≤ length b.old) }
     ensures { b.new ≡ put b.old (at - by) (take (end - at) (drop at b.old)) }
 {
-    b.copy_within(at..end, at - by);
+    for i in at..end {
+        b[i - by] = b[i];
+    }
 }
 
 impl Plan {
