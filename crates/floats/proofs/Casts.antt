@@ -1,8 +1,9 @@
 -- The cast of a float to an integer, for any width: one law, `stops`, which `unsigned` and `signed` read at each width.
-use Rattle.std.proofs.Common.{◌≡◌, ℕ, zero, suc, ◌+◌, ◌-◌, ◌*◌, ◌/◌, ◌^◌, ◌<◌, ◌≤◌, min, Bool, true, false, cond, not, T, ℤ, pos, negsuc, neg_ℤ, refl, ap, ◌∙◌, subst, lt_irrefl, mul-pos, one-mul, le-div_iff_mul-le, mul-one, arith, lit≤, lt→ltb, pow_pos, pow_mono, ltb-false, le-ltb, lt-ltb}
+use Rattle.std.proofs.Common.{◌≡◌, ℕ, zero, suc, ◌+◌, ◌-◌, ◌*◌, ◌/◌, ◌^◌, ◌<◌, ◌≤◌, min, Bool, true, false, cond, not, T, ℤ, pos, negsuc, neg_ℤ, refl, sym, ap, ◌∙◌, subst, lt_irrefl, mul-pos, one-mul, le-div_iff_mul-le, mul-one, arith, lit≤, lt→ltb, pow_pos, pow_mono, ltb-false, le-ltb, lt-ltb}
 use lib.Ieee.{Float, nan, inf, fin, up, down, neg, lt, to_unsigned, to_signed}
 use lib.Ieee.Fits.{down_pos}
 use Rattle.image.specs.Bytes.{signed32}
+use Rattle.floats.specs.Floats.{join}
 
 -- ---- a cast stopped at any top
 -- x without its fraction, from 0 to top; 0 for a NaN
@@ -41,11 +42,7 @@ less_one a b h = omega arith
 pub unsigned : (w : ℕ) → w ≤ 64 → (x : Float) → min (to_unsigned 64 x) (2 ^ w - 1) ≡ to_unsigned w x
 unsigned w h x = stops (2 ^ w - 1) (less_one (2 ^ w) (2 ^ 64) (pow_mono h)) x ∙ unsigned_is w x
 
--- ---- to h bits and a sign: `below` is how far below zero, `above` how far above
-abbrev pub join : ℕ → ℕ → ℤ
-join zero above = pos above
-join (suc k) above = negsuc k
-
+-- ---- to h bits and a sign
 negated : (k : ℕ) → join k 0 ≡ neg_ℤ (pos k)
 negated zero = refl
 negated (suc k) = refl
@@ -69,6 +66,14 @@ signed h l x =
     ap (λ (n : ℕ). join n (min (to_unsigned 64 x) (2 ^ h - 1))) (stops (2 ^ h) (in_range h l) (neg x))
     ∙ ap (λ (n : ℕ). join (stopped (2 ^ h) (neg x)) n) (stops (2 ^ h - 1) (one_less (2 ^ h) (2 ^ 64 - 1) (in_range h l)) x)
     ∙ signed_is h x
+
+-- ---- a number that is a cast is also the cast to 64 bits, stopped
+pub unsigned_stops : (w : ℕ) → w ≤ 64 → (n : ℕ) (x : Float) → n ≡ to_unsigned w x → (n ≡ to_unsigned w x) × (n ≡ min (to_unsigned 64 x) (2 ^ w - 1))
+unsigned_stops w h n x e = (e, e ∙ sym (unsigned w h x))
+
+pub signed_stops : (h : ℕ) → h ≤ 63 → (n : ℤ) (x : Float) → n ≡ to_signed h x
+    → (n ≡ to_signed h x) × (n ≡ join (min (to_unsigned 64 (neg x)) (2 ^ h)) (min (to_unsigned 64 x) (2 ^ h - 1)))
+signed_stops h l n x e = (e, e ∙ sym (signed h l x))
 
 -- ---- the two sides as their 32 bits
 bits_below : (b a : ℕ) → 0 < b → b ≤ 2 ^ 31 → signed32 (2 ^ 32 - b) ≡ join b a

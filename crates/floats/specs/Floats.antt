@@ -1,6 +1,6 @@
 -- Document 01, "Records", "Values and casts", "Resources": floats in bytes, casts to integers, when more is used than available.
 -- A `Float` of `lib.Ieee` is a value and no bits, so an f32 widened to f64 is the same `Float`, and all NaN patterns are one `nan`.
-use Rattle.std.specs.Prelude.{ℕ, Bool, false, List, ℤ, pos, from_bits, to_bits, Float}
+use Rattle.std.specs.Prelude.{ℕ, zero, suc, Bool, false, List, ℤ, pos, negsuc, from_bits, to_bits, Float}
 use mathlib.Core.List.{foldl}
 use Rattle.std.specs.Float.{nan, inf, fin, binary32, binary64}
 use Rattle.std.specs.Float.Ieee.{of_int, to_unsigned, to_signed, add, mul, lt, le}
@@ -37,6 +37,11 @@ to_u w x = to_unsigned w x
 -- cast to i32, which has 31 bits and a sign: truncated toward zero, stopped at -2 ^ 31 and 2 ^ 31 - 1, a NaN gives 0
 abbrev pub to_i32 : Float → ℤ
 to_i32 x = to_signed 31 x
+
+-- a number by how far it lies below zero and how far above, of which one is 0
+abbrev pub join : ℕ → ℕ → ℤ
+join zero above = pos above
+join (suc k) above = negsuc k
 
 -- ---- Resources
 

@@ -2,10 +2,11 @@
 // Document 01, "Records", "Values and casts", "Resources".
 #![tactic(auto)]
 
-ghost use Rattle.std.specs.Prelude.{◌≡◌, ◌+◌, ◌≤◌, length};
+ghost use Rattle.std.specs.Prelude.{◌≡◌, ◌+◌, ◌≤◌, min, length};
+ghost use Rattle.std.specs.Float.Ieee.{neg};
 ghost use Rattle.words.specs.Words.{given};
 ghost use Rattle.image.specs.Bytes.{le, put};
-ghost use Rattle.floats.specs.Floats.{f32_at, f64_at, f64_bits, zero_f, of_nat, to_u, to_i32, abs, over};
+ghost use Rattle.floats.specs.Floats.{f32_at, f64_at, f64_bits, zero_f, of_nat, to_u, to_i32, join, abs, over};
 
 use std::num;
 
@@ -63,27 +64,29 @@ pub fn of_u32(n: u32) -> f64
     f64::from(n)
 }
 
-// Rust's `x as u8`, and so on: truncated, and stopped at the ends of the range.
+// Rust's `x as u8`, and so on: truncated, and stopped at the ends of the range. The second clause is the law of any width of
+// `floats/proofs/Casts.antt`: the cast to 64 bits, stopped at these ends.
 pub fn to_u8(x: f64) -> u8
-    ensures { result ≡ to_u 8 x }
+    ensures { (result ≡ to_u 8 x) × (result ≡ min (to_u 64 x) 255) }
 {
     num::saturating_f64_to_u8(x)
 }
 
 pub fn to_u16(x: f64) -> u16
-    ensures { result ≡ to_u 16 x }
+    ensures { (result ≡ to_u 16 x) × (result ≡ min (to_u 64 x) 65535) }
 {
     num::saturating_f64_to_u16(x)
 }
 
 pub fn to_u32(x: f64) -> u32
-    ensures { result ≡ to_u 32 x }
+    ensures { (result ≡ to_u 32 x) × (result ≡ min (to_u 64 x) 4294967295) }
 {
     num::saturating_f64_to_u32(x)
 }
 
 pub fn to_i32(x: f64) -> i32
-    ensures { result ≡ to_i32 x }
+    ensures { (result ≡ to_i32 x)
+        × (result ≡ join (min (to_u 64 (neg x)) 2147483648) (min (to_u 64 x) 2147483647)) }
 {
     num::saturating_f64_to_i32(x)
 }

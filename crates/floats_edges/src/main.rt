@@ -64,7 +64,7 @@ fn to_u16(rt: &impl Print) -> io::Result<()> {
     casts(rt, "u16", floats::to_u16, &rows)
 }
 
-// u32 ends at 4294967295. 2^64 is where the code's own first test stands.
+// u32 ends at 4294967295. 2^64 is where std's cast to 64 bits, of which this one is made, ends.
 fn to_u32(rt: &impl Print) -> io::Result<()> {
     let rows = [
         ("NaN", 0.0 / 0.0),

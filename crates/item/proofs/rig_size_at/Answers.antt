@@ -26,4 +26,4 @@ returns c =
     let e = c.value.ensures ∙ ap (value (result_of a.context.now.fit.now (a.i + 2))) (to_z-of_z w32 a.id c.ranges.id) in
     rw c.then_some.ensures
     (rig-some a.id a.ship (pair_in a.context.now a.i) (sym (c.is_in.ensures) ∙ c.if-not-is_in.false) (sym e ∙ c.in_ok-size.was)
-    c.to_u8.ensures c.to_u8-2.ensures)
+    c.to_u8.ensures.0 c.to_u8-2.ensures.0)

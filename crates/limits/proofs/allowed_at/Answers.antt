@@ -27,4 +27,4 @@ returns c =
     let a = c.args in
     let look = value (result_of a.context.now.fit.now (a.i + 2)) in
     allows a.id (pair_in a.context.now a.i) (sym (c.in_ok-value.ensures ∙ ap look (to_z-of_z w32 a.id c.ranges.id)))
-    (sym c.is_fitted_at.ensures ∙ c.if-not-is_fitted_at.false) c.to_u32.ensures
+    (sym c.is_fitted_at.ensures ∙ c.if-not-is_fitted_at.false) c.to_u32.ensures.0

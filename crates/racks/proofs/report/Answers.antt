@@ -28,7 +28,7 @@ returns-in-Some c =
     let used = c.used-used.result in
     let available = c.to_u32-available.result in
     let z : to_z w32 (of_z w32 c.in-Some.id) ≡ c.in-Some.id = search rules in
-    let e = c.to_u32-available.ensures ∙ ap (to_u 32) (c.amount.ensures ∙ ap (amount (result_of fit 0)) z) in
+    let e = c.to_u32-available.ensures.0 ∙ ap (to_u 32) (c.amount.ensures ∙ ap (amount (result_of fit 0)) z) in
     let id = sym c.attribute_id.ensures ∙ c.in-Some.is in (
       emitted-same (slots-is catalogue fit row.slot row.name used c.in-Some.id available id e ∙ ap (slots (context_of catalogue fit) row.slot row.name) c.used-used.ensures) w,
       omega (arith, w.count, few-when (ltb available used) (on_ship (Slots row.slot used available))),

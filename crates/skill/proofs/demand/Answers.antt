@@ -9,5 +9,5 @@ use Rattle.skill.proofs.demand.Goals as goal
 pub returns : goal.returns
 returns c =
     let id = c.to_i32 in
-    let level = c.to_u8.ensures ∙ ap (to_u 8) c.amount.ensures in
-    pair_eq (to_z-of_z w32 id.result (record { sfits = id.type_inv }) ∙ id.ensures) level
+    let level = c.to_u8.ensures.0 ∙ ap (to_u 8) c.amount.ensures in
+    pair_eq (to_z-of_z w32 id.result (record { sfits = id.type_inv }) ∙ id.ensures.0) level

@@ -23,7 +23,7 @@ returns-in-Some c =
     let id = c.in-Some.id in
     let z : to_z w32 (of_z w32 id) ≡ id = search rules in
     let used = c.count-used.ensures (takes a.row.slot) (λ i b h post. search rules) in
-    let most = c.to_u32.ensures ∙ ap (to_u 32) (c.amount.ensures ∙ ap (amount (result_of x.fit.now 0)) z ∙ ap (λ (r : Result). amount r id) (of_ship x.catalogue.now x.fit.now)) in
+    let most = c.to_u32.ensures.0 ∙ ap (to_u 32) (c.amount.ensures ∙ ap (amount (result_of x.fit.now 0)) z ∙ ap (λ (r : Result). amount r id) (of_ship x.catalogue.now x.fit.now)) in
     made (name_id y.names a.row.name) 0 (λ (i : Id). count_of (takes a.row.slot) (pairs_in x) - to_u 32 (amount y.ship_result i)) id
     (names-are x.catalogue.now x.fit.now a.row.name ∙ sym c.attribute_id.ensures ∙ c.in-Some.is) (c.saturating_sub.ensures ∙ ap₂ (λ (m n : ℕ). m - n) used most)
 

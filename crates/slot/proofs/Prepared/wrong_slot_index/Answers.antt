@@ -31,7 +31,7 @@ returns-then-expected-item_index c =
     let p = pair_in y a.i in
     let z : c.in_ok-id.id ≡ to_z w32 (of_z w32 c.in_ok-id.id) = search rules in
     right_index (context_in y) p c.in_ok-id.id (sym c.slot_number.ensures ∙ c.in_ok-id.was) c.in_ok-value.value
-    (ap (value p.result) z ∙ sym c.value.ensures ∙ c.in_ok-value.was) c.to_u16-expected.ensures
+    (ap (value p.result) z ∙ sym c.value.ensures ∙ c.in_ok-value.was) c.to_u16-expected.ensures.0
     (c.if-expected-item_index.true ∙ c.item_index.ensures)
 
 pub returns : goal.returns
@@ -41,5 +41,5 @@ returns c =
     let p = pair_in y a.i in
     let z : c.in_ok-id.id ≡ to_z w32 (of_z w32 c.in_ok-id.id) = search rules in
     wrong_index (context_in y) p c.in_ok-id.id (sym c.slot_number.ensures ∙ c.in_ok-id.was) c.in_ok-value.value
-    (ap (value p.result) z ∙ sym c.value.ensures ∙ c.in_ok-value.was) c.to_u16-expected.ensures
+    (ap (value p.result) z ∙ sym c.value.ensures ∙ c.in_ok-value.was) c.to_u16-expected.ensures.0
     (λ e. c.if-expected-item_index.false (e ∙ sym c.item_index.ensures))

@@ -1,0 +1,7 @@
+-- `floats::to_u8` meets its contract: std's cast, and the law of any width at 8 bits.
+use Rattle.std.proofs.Common.{rules, lit≤}
+use Rattle.floats.proofs.Casts.{unsigned_stops}
+use Rattle.floats.proofs.to_u8.Goals as goal
+
+pub returns : goal.returns
+returns c = unsigned_stops 8 (lit≤ tt) _ c.args.x (search rules)
