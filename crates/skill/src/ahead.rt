@@ -1,4 +1,4 @@
-// Where the bases of the skills that are walked next begin: eight are looked for in step, and a search for one takes hardly less time.
+// Where the bases of the skills that are walked next begin: eight are looked for in step, where so many stand ahead.
 ghost use Rattle.std.specs.Prelude.{◌<◌};
 
 use crate::Walk;
@@ -25,6 +25,13 @@ fn next_ids(walk: &Walk, from: usize) -> [i32; AT_ONCE]
     ids
 }
 
+// A guess for one skill. Along a chain each skill is noted by the one before it, so that none stands ahead of it: a search for eight would
+// be made for one at each, and takes twice as long.
+fn first_place(catalogue: &Catalogue, id: i32) -> usize {
+    let [place] = catalogue.base_keys().each_from(&[id]);
+    place
+}
+
 impl Ahead {
     pub(crate) fn new() -> Ahead {
         Ahead {
@@ -38,7 +45,11 @@ impl Ahead {
         requires { next < walk.now.len }
     {
         if self.end <= next {
-            self.places = catalogue.base_keys().each_from(&next_ids(walk, next));
+            if next + 1 == walk.len {
+                self.places[next % AT_ONCE] = first_place(catalogue, walk.ids[next]);
+            } else {
+                self.places = catalogue.base_keys().each_from(&next_ids(walk, next));
+            }
             self.end = walk.len.min(next + AT_ONCE);
         }
         self.places[next % AT_ONCE]

@@ -1,6 +1,6 @@
 // The skills noted so far, and how a demand is noted. In a file of its own: where a ghost field stands, no `ghost use` names what speaks of
 // the struct, as the clauses of `wanted_skills` and `report` do.
-ghost use Rattle.std.specs.Prelude.{◌≡◌, ◌+◌, ◌<◌, ◌≤◌, [], get_or, set, pos, position, Option, Float};
+ghost use Rattle.std.specs.Prelude.{◌≡◌, ◌+◌, ◌<◌, ◌≤◌, [], get_or, set, replicate, pos, position, Option, Float};
 ghost use Rattle.words.specs.Words.{each, table, any_of, same};
 ghost use Rattle.numbers.specs.Sizes.{most_wanted};
 ghost use Rattle.catalogue.specs.Catalogue.{Id};
@@ -39,7 +39,8 @@ impl Walk {
     ghost use Rattle.skill.specs.Held.{requirements_of, walk_of, Reads, New, LevelRises, PlacedAt, Noted, Notes};
 
     pub(crate) fn new() -> Self
-        ensures { (walk_of result ≡ []) × (result.len ≡ 0) }
+        ensures { (walk_of result ≡ []) × (result.len ≡ 0)
+            × (result.ids ≡ replicate most_wanted (pos 0)) × (result.levels ≡ replicate most_wanted 0) }
     {
         Walk {
             ids: [0; MOST_WANTED],
