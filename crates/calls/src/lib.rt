@@ -5,7 +5,6 @@
 ghost use Rattle.std.specs.Prelude.{◌≡◌, List, ◌++◌, ℕ, ◌+◌, ◌*◌, ◌^◌, ◌<◌, ◌≤◌, length};
 ghost use Rattle.words.specs.Words.{first_of};
 ghost use Rattle.numbers.specs.Refused.{number_of};
-ghost use Rattle.numbers.specs.Reading.{reader_number};
 ghost use Rattle.catalogue.specs.Catalogue.{catalogue_of};
 ghost use Rattle.fit.specs.Fit.{fit_of, result_count};
 ghost use Rattle.entry.specs.declared.Entry.{Entry};
@@ -99,9 +98,9 @@ fn placed<const SIZE: usize>(
     out: &mut [u8],
 ) -> Result<usize, Refusal>
     requires size { SIZE < 2 ^ 32 }
-    requires fit_bound { let t = read_by (reader_number asked.reader) (terms profile.now asked.allowance) in
+    requires fit_bound { let t = read_by asked.reader (terms profile.now asked.allowance) in
         24 * length (list_for t (catalogue_of context.now.catalogue.now) (fit_of context.now.fit.now)) ≤ SIZE }
-    ensures { let t = read_by (reader_number asked.reader) (terms profile.now asked.allowance) in
+    ensures { let t = read_by asked.reader (terms profile.now asked.allowance) in
         let es = list_for t (catalogue_of context.now.catalogue.now) (fit_of context.now.fit.now) in
         Gave out.old out.new (word_of result) (lent out.old es) }
 {
@@ -118,7 +117,7 @@ fn list_accepted(
     profile: &Profile,
     out: &mut [u8],
 ) -> Result<usize, Refusal>
-    ensures { let t = read_by (reader_number asked.reader) (terms profile.now asked.allowance) in
+    ensures { let t = read_by asked.reader (terms profile.now asked.allowance) in
         let es = list_for t (catalogue_of catalogue.now) (fit_of fit.now) in
         Gave out.old out.new (word_of result) (lent out.old es) }
 {
@@ -143,7 +142,7 @@ pub fn read_list(
     pairs: u32,
     out: &mut [u8],
 ) -> Result<usize, Refusal>
-    ensures { let t = read_by (reader_number asked.reader) (limited pairs 0 (terms profile.now asked.allowance)) in
+    ensures { let t = read_by asked.reader (limited pairs 0 (terms profile.now asked.allowance)) in
         let es = list_for t (catalogue_of catalogue.now) (fit_of fit.now) in
         let refusals = input_refusals t catalogue.now fit.now ++ buffer_refusals out.old es in
         Gave out.old out.new (word_of result) (answer refusals es) }

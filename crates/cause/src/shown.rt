@@ -56,7 +56,7 @@ fn listed_in(
     let none = [0u8; 0];
     let profile = Profile::new(&none);
     let asked = Asked {
-        reader: Reader::Officer,
+        reader: Reader::Officer as u32,
         allowance: 0,
     };
     let count = lists::write(asked, &profile, context, hints, place);

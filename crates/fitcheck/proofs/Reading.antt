@@ -3,12 +3,15 @@ use Prim.Native.Nat.{ℕ, ◌≤◌}
 use native.Mathlib.Omega.{arith}
 use mathlib.Core.Path.{◌≡◌, sym, ap, ◌∙◌}
 use mathlib.Core.Bool.{true, false}
+use mathlib.Core.Logic.{◌⊎◌, inl, inr}
+use lib.Dec.{eqb}
 use borrow.Author.Tests.{le-ltb}
 use mathlib.Core.List.{List, ◌∷◌, ◌++◌}
 use Rattle.numbers.specs.Refusals as Refusals
 use Rattle.numbers.specs.Readers as Readers
 use Rattle.numbers.specs.Reading.{reader_number}
 use Rattle.numbers.specs.declared.readers.Reader.{Reader}
+use Rattle.numbers.specs.declared.readers.Reader.TheVariants.{Pilot, Officer}
 use Rattle.catalogue.specs.Catalogue.{catalogue_of}
 use Rattle.fit.specs.Fit.{fit_of}
 use Rattle.skill.specs.Skill.{skill_list}
@@ -26,6 +29,11 @@ few-readers r = grind arith
 
 pub somebody : {n : ℕ} (t : Terms) (r : Reader) → reader_number r ≡ n → t.reader ≡ n → no_reader t ≡ false
 somebody t r e q = le-ltb Readers.officer t.reader (omega (arith, e, q, few-readers r))
+
+-- a reader that is no guest has another number
+pub no_guest : {r : Reader} → (r ≡ Pilot) ⊎ (r ≡ Officer) → eqb (reader_number r) Readers.guest ≡ false
+no_guest (inl e) = ap (λ (r : Reader). eqb (reader_number r) Readers.guest) e
+no_guest (inr e) = ap (λ (r : Reader). eqb (reader_number r) Readers.guest) e
 
 -- ---- the list call
 -- no list reads the limit of skills

@@ -42,7 +42,7 @@ fn answer_list(
     ensures { let t = read_by reader (limited pairs 0 (terms profile.now allowance)) in
         Gave out.old out.new (word_of result) (list_call t catalogue.now fit.now out.old) }
 {
-    let reader = Reader::try_from(reader)?;
+    Reader::try_from(reader)?;
     let asked = Asked { reader, allowance };
     calls::read_list(asked, catalogue, fit, profile, pairs, out)
 }

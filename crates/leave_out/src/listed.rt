@@ -67,7 +67,7 @@ fn list(context: &Context, hints: &mut [u32], place: &mut [u8]) -> usize
     let none = [0u8; 0];
     let profile = Profile::new(&none);
     let asked = Asked {
-        reader: Reader::Officer,
+        reader: Reader::Officer as u32,
         allowance: 0,
     };
     lists::write(asked, &profile, context, hints, place)

@@ -10,10 +10,6 @@ use Rattle.words.specs.Words.{each, when_above, only}
 use Rattle.words.proofs.Steps.{only-append}
 use Rattle.words.proofs.All.{All, nil, all_join, all-when, all-cond, all-bind, all-each}
 use Rattle.numbers.specs.Readers as Readers
-use Rattle.numbers.specs.Reading.{reader_number}
-use Rattle.numbers.specs.declared.readers.Reader.{Reader}
-use Rattle.numbers.specs.declared.readers.Reader.TheVariants.{Pilot, Officer}
-use mathlib.Core.Logic.{◌⊎◌, inl, inr}
 use Rattle.catalogue.specs.Catalogue.{Id, Catalogue, catalogue_of}
 use Rattle.fit.specs.Fit.{Frame, fit_of, mode_of}
 use Rattle.entry.specs.declared.Entry.{Entry}
@@ -28,11 +24,6 @@ use Rattle.lists.specs.Terms.{Terms}
 use Rattle.lists.specs.Unknown.{unknown_type_at, unknown_types}
 use Rattle.lists.specs.Lists.{on_hull, league_of, league_with, whole_with, for_guests, for_reader}
 use Rattle.lists.proofs.Numbers.{only-all, only_no, low-rules, raise, all-below}
-
--- a reader that is no guest has another number
-pub no_guest : {r : Reader} → (r ≡ Pilot) ⊎ (r ≡ Officer) → eqb (reader_number r) Readers.guest ≡ false
-no_guest (inl e) = ap (λ (r : Reader). eqb (reader_number r) Readers.guest) e
-no_guest (inr e) = ap (λ (r : Reader). eqb (reader_number r) Readers.guest) e
 
 abbrev AllTold : List Entry → Type 0
 AllTold = All (λ e. for_guests e ≡ true)

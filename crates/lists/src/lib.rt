@@ -4,7 +4,6 @@
 ghost use Rattle.std.specs.Prelude.{◌≡◌, ◌+◌, ◌≤◌, ◌<◌, length};
 ghost use Rattle.words.specs.Words.{is_empty};
 ghost use Rattle.numbers.specs.Sizes.{most_pairs};
-ghost use Rattle.numbers.specs.Reading.{reader_number};
 ghost use Rattle.catalogue.specs.Catalogue.{Catalogue, catalogue_of};
 ghost use Rattle.fit.specs.Fit.{fit_of};
 ghost use Rattle.entry.specs.Wrote.{Room, Wrote};
@@ -57,23 +56,24 @@ fn unknown_types(context: &Context, entries: &mut Entries)
     context.report(|i| unknown_type_at(context, i), entries);
 }
 
-// What a list call asks for: whose list it is, and the points that a league allows.
+// What a list call asks for: whose list it is, a number and no `Reader`, since a list is that of any number; and the points that a league
+// allows.
 #[derive(Clone, Copy)]
 pub struct Asked {
-    pub reader: Reader,
+    pub reader: u32,
     pub allowance: u32,
 }
 
 // The Rust's list, as a reader gets it. For a guest no listed skill is looked up.
-fn rust_list(reader: Reader, context: &Context, hints: &mut [u32], entries: &mut Entries)
+fn rust_list(reader: u32, context: &Context, hints: &mut [u32], entries: &mut Entries)
     requires { Room entries.old.n Rust.most_entries }
-    ensures { let es = for_reader (reader_number reader) (list_of (catalogue_of context.now.catalogue.now) (fit_of context.now.fit.now)) in
+    ensures { let es = for_reader reader (list_of (catalogue_of context.now.catalogue.now) (fit_of context.now.fit.now)) in
         Emitted entries.old entries.new es × (entries.new.n ≤ entries.old.n + Rust.most_entries) }
 {
-    match reader {
-        Reader::Guest => validate::emit_without_skills(context, entries),
-        Reader::Pilot | Reader::Officer => validate::emit(context, hints, entries),
+    if reader == Reader::Guest as u32 {
+        return validate::emit_without_skills(context, entries);
     }
+    validate::emit(context, hints, entries)
 }
 
 // Every rule that a fit breaks and that its reader is told of, under a league's profile and allowance, and how many they are, whether or
@@ -85,7 +85,7 @@ pub fn write(
     hints: &mut [u32],
     out: &mut [u8],
 ) -> usize
-    ensures { let t = read_by (reader_number asked.reader) (terms profile.now asked.allowance) in
+    ensures { let t = read_by asked.reader (terms profile.now asked.allowance) in
         let es = list_for t (catalogue_of context.now.catalogue.now) (fit_of context.now.fit.now) in
         Wrote out.old 0 out.new result es × (result ≤ most_entries) }
 {

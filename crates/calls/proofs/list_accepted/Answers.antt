@@ -2,7 +2,6 @@
 use native.Mathlib.Omega.{arith}
 use Rattle.catalogue.specs.Catalogue.{catalogue_of}
 use Rattle.fit.specs.Fit.{fit_of}
-use Rattle.numbers.specs.Reading.{reader_number}
 use Rattle.lists.specs.Terms.{terms, read_by}
 use Rattle.lists.specs.Lists.{list_for}
 use Rattle.calls.proofs.Giving.{gave_list}
@@ -11,14 +10,14 @@ use Rattle.calls.proofs.list_accepted.Goals as goal
 pub returns-then-most-out : goal.returns-then-most-out
 returns-then-most-out c =
     let a = c.args in
-    let t = read_by (reader_number a.asked.reader) (terms a.profile.now a.asked.allowance) in
+    let t = read_by a.asked.reader (terms a.profile.now a.asked.allowance) in
     let x = catalogue_of a.catalogue.now in
     gave_list (list_for t x (fit_of a.fit.now)) (omega (arith, c.if-most-out.true, c.most_entries-most.ensures.0 t x)) (rw (c.new-context.ensures.0, c.new-context.ensures.1) at c.write.ensures.0)
 
 pub placed-requires : goal.placed-requires
 placed-requires c =
     let a = c.args in
-    let t = read_by (reader_number a.asked.reader) (terms a.profile.now a.asked.allowance) in
+    let t = read_by a.asked.reader (terms a.profile.now a.asked.allowance) in
     record {
       size = omega arith;
       fit_bound = rw (c.new-context.ensures.0, c.new-context.ensures.1) (omega (arith, c.if-most-le-SMALL_PLACE.true, c.most_entries-most.ensures.0 t (catalogue_of a.catalogue.now)));
@@ -27,7 +26,7 @@ placed-requires c =
 pub placed-requires-2 : goal.placed-requires-2
 placed-requires-2 c =
     let a = c.args in
-    let t = read_by (reader_number a.asked.reader) (terms a.profile.now a.asked.allowance) in
+    let t = read_by a.asked.reader (terms a.profile.now a.asked.allowance) in
     record {
       size = omega arith;
       fit_bound = rw (c.new-context.ensures.0, c.new-context.ensures.1) (omega (arith, c.most_entries-most.ensures.1, c.most_entries-most.ensures.0 t (catalogue_of a.catalogue.now)));

@@ -5,10 +5,9 @@ use Rattle.numbers.specs.Refusals as Refusals
 use Rattle.numbers.specs.Readers as Readers
 use Rattle.numbers.specs.Reading.{reader_number}
 use Rattle.lists.specs.Terms.{limited, read_by, main}
-use Rattle.lists.proofs.Guests.{no_guest}
 use Rattle.calls.specs.Gave.{word_of}
 use Rattle.calls.proofs.Giving.{gave_same, gave_refused}
-use Rattle.fitcheck.proofs.Reading.{somebody, skill-nobody, skill-guest, skill-read}
+use Rattle.fitcheck.proofs.Reading.{somebody, no_guest, skill-nobody, skill-guest, skill-read}
 use Rattle.fitcheck.proofs.answer_skill.Goals as goal
 
 pub returns-in_err-try_from : goal.returns-in_err-try_from
