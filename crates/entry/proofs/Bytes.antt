@@ -14,7 +14,7 @@ use Rattle.entry.specs.declared.Rule.{Rule}
 use Rattle.entry.specs.declared.Rule.TheVariants.{Resource, Slots, WrongSlot, NotAModule, NotADrone, NotAFighter, NotAnImplant}
 use Rattle.entry.specs.declared.Rule.TheVariants.{SlotTaken, WrongSlotIndex, SubsystemTaken, Skill, RigSize, ShipRestricted}
 use Rattle.entry.specs.declared.Rule.TheVariants.{CapitalItem, StructureItem, ShipItem, MaxGroup, MaxType, NotAHull, NotAMode}
-use Rattle.entry.specs.declared.Rule.TheVariants.{NotASkill, Banned, Points, UnknownType}
+use Rattle.entry.specs.declared.Rule.TheVariants.{NotASkill, Banned, Points, UnknownType, Numbers}
 use Rattle.entry.specs.declared.Entry.{Entry}
 use Rattle.entry.specs.Entries.{fields, place, entry_bytes}
 
@@ -44,6 +44,7 @@ four-words (NotASkill id) = refl
 four-words (Banned group) = refl
 four-words (Points u a) = refl
 four-words (UnknownType id) = refl
+four-words (Numbers rule sub a b c d) = refl
 
 length-words : (ws : List ℕ) → length (each ws (le 4)) ≡ 4 * length ws
 unfolding each

@@ -12,7 +12,7 @@ use Rattle.entry.specs.declared.Rule.{Rule}
 use Rattle.entry.specs.declared.Rule.TheVariants.{Resource, Slots, WrongSlot, NotAModule, NotADrone, NotAFighter, NotAnImplant}
 use Rattle.entry.specs.declared.Rule.TheVariants.{SlotTaken, WrongSlotIndex, SubsystemTaken, Skill, RigSize, ShipRestricted}
 use Rattle.entry.specs.declared.Rule.TheVariants.{CapitalItem, StructureItem, ShipItem, MaxGroup, MaxType, NotAHull, NotAMode}
-use Rattle.entry.specs.declared.Rule.TheVariants.{NotASkill, Banned, Points, UnknownType}
+use Rattle.entry.specs.declared.Rule.TheVariants.{NotASkill, Banned, Points, UnknownType, Numbers}
 use Rattle.entry.specs.declared.Entry.{Entry}
 
 abbrev pub on_ship : Rule → Entry
@@ -54,6 +54,7 @@ fields (NotASkill type) = (21, 0, bits32 type ∷ 0 ∷ 0 ∷ 0 ∷ [])
 fields (Banned group) = (24, 0, bits32 group ∷ 0 ∷ 0 ∷ 0 ∷ [])
 fields (Points used allowed) = (25, 0, used ∷ allowed ∷ 0 ∷ 0 ∷ [])
 fields (UnknownType type) = (26, 0, bits32 type ∷ 0 ∷ 0 ∷ 0 ∷ [])
+fields (Numbers rule sub a b c d) = (rule, sub, a ∷ b ∷ c ∷ d ∷ [])
 
 -- the number of an entry's rule
 abbrev pub number : Entry → ℕ

@@ -18,6 +18,7 @@ pub enum Target {
 }
 
 // Rust's `Rule` from Resource to NotASkill, in its order and with its fields; then the rules of a league, and the type that is missing.
+// Last, any numbers in the place of a rule's, those that no rule has too: `emit` writes these like others, and no list has one.
 #[derive(Clone, Copy)]
 pub enum Rule {
     // resource, used, available
@@ -56,6 +57,8 @@ pub enum Rule {
     Points(u32, u32),
     // type id
     UnknownType(i32),
+    // rule, sub, the four words of the payload
+    Numbers(u8, u8, u32, u32, u32, u32),
 }
 
 // Rust's `Violation`.
@@ -116,6 +119,7 @@ fn pack(rule: Rule) -> (u8, u8, [u32; 4])
         Rule::Banned(group) => (24, 0, [image::bits(group), 0, 0, 0]),
         Rule::Points(used, allowed) => (25, 0, [used, allowed, 0, 0]),
         Rule::UnknownType(id) => (26, 0, [image::bits(id), 0, 0, 0]),
+        Rule::Numbers(code, sub, a, b, c, d) => (code, sub, [a, b, c, d]),
     }
 }
 

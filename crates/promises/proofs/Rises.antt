@@ -21,7 +21,8 @@ use Rattle.numbers.specs.declared.SlotKind.{SlotKind}
 use Rattle.numbers.specs.declared.GroupLimit.{GroupLimit}
 use Rattle.entry.specs.declared.Rule.TheVariants.{Resource, Slots, WrongSlot, NotAModule, NotADrone, NotAFighter, NotAnImplant, SlotTaken}
 use Rattle.entry.specs.declared.Rule.TheVariants.{WrongSlotIndex, SubsystemTaken, Skill, RigSize, ShipRestricted, CapitalItem}
-use Rattle.entry.specs.declared.Rule.TheVariants.{StructureItem, ShipItem, MaxGroup, MaxType, NotAHull, NotAMode, NotASkill, Banned, Points, UnknownType}
+use Rattle.entry.specs.declared.Rule.TheVariants.{StructureItem, ShipItem, MaxGroup, MaxType, NotAHull, NotAMode, NotASkill, Banned}
+use Rattle.entry.specs.declared.Rule.TheVariants.{Points, UnknownType, Numbers}
 use Rattle.entry.specs.Entries.{fields, number, entry_bytes}
 use Rattle.promises.specs.Compare.{varies, blank, Stays}
 
@@ -38,7 +39,7 @@ pub record Covers (a b : Entry) : Type 0 where
   pub target : a.target ≡ b.target
   pub rule : Rises a.rule b.rule
 
--- the used number or the trained level fits its bytes, and no used one is a NaN
+-- the used number or the trained level fits its bytes, and no used one is a NaN; numbers in the place of a rule's are none of a list's
 abbrev pub Sound : Rule → Type 0
 Sound (Resource k u a) = T (fits binary64 u) × T (Ieee.le u u)
 Sound (Slots s u a) = u < 2 ^ 32
@@ -64,6 +65,7 @@ Sound (NotASkill t) = Unit {0}
 Sound (Banned g) = Unit {0}
 Sound (Points u a) = u < 2 ^ 32
 Sound (UnknownType t) = Unit {0}
+Sound (Numbers n m u v w x) = ⊥
 
 -- ---- numbers read back from their bytes
 four : (n : ℕ) → n < 2 ^ 32 → n % 256 + 256 * (n / 256 % 256) + 65536 * (n / 256 / 256 % 256) + 16777216 * (n / 256 / 256 / 256 % 256) ≡ n
@@ -122,6 +124,7 @@ module _ (t : Target) where
   own (Banned g) s q = absurd (omega arith)
   own (Points u a) s q = absurd (omega arith)
   own (UnknownType t) s q = absurd (omega arith)
+  own (Numbers n m u v w x) s q = absurd s
 
   stays : {r r' : Rule} → Rises r r' → Sound r → Sound r' → Stays (bytes r) (bytes r')
   unfolding fields each entry_bytes u32_at table_from varies blank

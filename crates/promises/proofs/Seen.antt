@@ -31,7 +31,7 @@ use Rattle.entry.specs.declared.Rule.{Rule}
 use Rattle.entry.specs.declared.Rule.TheVariants.{Resource, Slots, WrongSlot, NotAModule, NotADrone, NotAFighter, NotAnImplant, SlotTaken}
 use Rattle.entry.specs.declared.Rule.TheVariants.{WrongSlotIndex, SubsystemTaken, Skill, RigSize, ShipRestricted, CapitalItem}
 use Rattle.entry.specs.declared.Rule.TheVariants.{StructureItem, ShipItem, MaxGroup, MaxType, NotAHull, NotAMode, NotASkill, Banned}
-use Rattle.entry.specs.declared.Rule.TheVariants.{Points, UnknownType}
+use Rattle.entry.specs.declared.Rule.TheVariants.{Points, UnknownType, Numbers}
 use Rattle.entry.specs.declared.Entry.{Entry}
 use Rattle.entry.specs.Entries.{fields, place, entry_bytes}
 use Rattle.context.specs.Context.{Pair, Context, context, pairs_from, pairs}
@@ -326,6 +326,7 @@ first_word t (NotASkill i) = refl
 first_word t (Banned g) = refl
 first_word t (Points u a) = refl
 first_word t (UnknownType i) = refl
+first_word t (Numbers n m a b c d) = refl
 
 cond_first : {A : Type 0} (b : Bool) (x y : A) → T b → cond b x y ≡ x
 cond_first true x y h = refl

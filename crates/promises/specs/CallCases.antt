@@ -15,6 +15,7 @@ use Rattle.entry.specs.declared.Rule.{Rule}
 use Rattle.entry.specs.declared.Rule.TheVariants.{Resource, Slots, WrongSlot, NotAModule, NotADrone, NotAFighter, NotAnImplant, SlotTaken}
 use Rattle.entry.specs.declared.Rule.TheVariants.{WrongSlotIndex, SubsystemTaken, Skill, RigSize, ShipRestricted, CapitalItem}
 use Rattle.entry.specs.declared.Rule.TheVariants.{StructureItem, ShipItem, MaxGroup, MaxType, NotAHull, NotAMode, NotASkill, Banned, Points, UnknownType}
+use Rattle.entry.specs.declared.Rule.TheVariants.{Numbers}
 use Rattle.entry.specs.Entries.{on_ship, on_item}
 use Rattle.promises.specs.Cases.{Written, BadSize, ListCall, SkillCall, HallCall, Number, Holds, InBytes, Returns, Case}
 
@@ -90,6 +91,8 @@ ENTRIES =
     ∷ of_limit Fitted 0
     ∷ of_limit Online 1
     ∷ of_limit Active 2
+    -- numbers that no rule has
+    ∷ entry (Numbers 27 12 1 2 3 4) 27 12 (1 ∷ 2 ∷ 3 ∷ 4 ∷ [])
     ∷ []
 
 -- ---- images

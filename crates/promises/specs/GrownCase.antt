@@ -14,6 +14,7 @@ use Rattle.numbers.specs.declared.SlotKind.TheVariants.{High}
 use Rattle.numbers.specs.declared.GroupLimit.TheVariants.{Fitted}
 use Rattle.entry.specs.declared.Entry.{Entry}
 use Rattle.entry.specs.declared.Rule.TheVariants.{Resource, Slots, NotAnImplant, SlotTaken, Skill, MaxGroup, MaxType, NotASkill, Banned, Points, UnknownType}
+use Rattle.entry.specs.declared.Rule.TheVariants.{Numbers}
 use Rattle.entry.specs.Entries.{on_ship, on_item, entry_bytes}
 use Rattle.lists.specs.Terms.{Terms, terms, limited, read_by, main}
 use Rattle.calls.specs.Answers.{Refused, Listed}
@@ -216,14 +217,14 @@ abbrev armed : Fit
 armed = let third = one gun Slots.high 1 [] in grown_by old old.levels (third.0 ∷ []) (third.1 ∷ [])
 
 -- entries of which the last two are the hold's and a missing type's; the second has the hold's sub under another rule
-abbrev pub SORTS : List (List ℕ)
+abbrev pub SORTS : List Entry
 SORTS =
-    entry_bytes (on_ship (Resource DroneBay (of_nat 4) (of_nat 1)))
-    ∷ (0 ∷ 2 ∷ 11 ∷ 0 ∷ words (0 ∷ 3 ∷ 1 ∷ 0 ∷ 0 ∷ []))
-    ∷ entry_bytes (on_item 1 (Banned (pos 50)))
-    ∷ entry_bytes (on_ship (Points 6 5))
-    ∷ entry_bytes (on_ship (Resource CargoBay (of_nat 4) (of_nat 1)))
-    ∷ entry_bytes (on_item 7 (UnknownType unknown))
+    on_ship (Resource DroneBay (of_nat 4) (of_nat 1))
+    ∷ on_ship (Numbers 2 11 3 1 0 0)
+    ∷ on_item 1 (Banned (pos 50))
+    ∷ on_ship (Points 6 5)
+    ∷ on_ship (Resource CargoBay (of_nat 4) (of_nat 1))
+    ∷ on_item 7 (UnknownType unknown)
     ∷ []
 
 abbrev pub LOADED : List ℕ
@@ -307,7 +308,7 @@ pub record HaulExample : Type 0 where
   pub outside_points : outside_hold (outcome ROOM (list_call (read_by 0 PRICING) CATALOGUE LOADED ROOM))
       ≡ map entry_bytes (drop 2 OLD_LIST ++ (on_ship (Points 6 5) ∷ []))
   -- CargoBay and rule 26 are taken out of entries that a call might have left, and no other
-  pub kept : outside_hold (record { word = 6; buffer = each SORTS λ e. e }) ≡ take 4 SORTS
+  pub kept : outside_hold (record { word = 6; buffer = each SORTS entry_bytes }) ≡ map entry_bytes (take 4 SORTS)
   pub held : in_hold (outcome ROOM (list_call main CATALOGUE OLD ROOM)) ≡ entry_bytes (on_ship (Resource CargoBay (of_nat 4) (of_nat 1))) ∷ []
   pub gone : in_hold (outcome ROOM (list_call main CATALOGUE LIGHTENED ROOM)) ≡ []
   pub armed_fit : fit_of ARMED ≡ armed

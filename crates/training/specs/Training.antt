@@ -12,7 +12,7 @@ use Rattle.entry.specs.declared.Rule.{Rule}
 use Rattle.entry.specs.declared.Rule.TheVariants.{Resource, Slots, WrongSlot, NotAModule, NotADrone, NotAFighter, NotAnImplant}
 use Rattle.entry.specs.declared.Rule.TheVariants.{SlotTaken, WrongSlotIndex, SubsystemTaken, Skill, RigSize, ShipRestricted}
 use Rattle.entry.specs.declared.Rule.TheVariants.{CapitalItem, StructureItem, ShipItem, MaxGroup, MaxType, NotAHull, NotAMode}
-use Rattle.entry.specs.declared.Rule.TheVariants.{NotASkill, Banned, Points, UnknownType}
+use Rattle.entry.specs.declared.Rule.TheVariants.{NotASkill, Banned, Points, UnknownType, Numbers}
 use Rattle.entry.specs.declared.Entry.{Entry}
 use Rattle.entry.specs.Entries.{fields}
 use Rattle.skill.specs.Skill.{skill_list}
@@ -68,6 +68,7 @@ skill_of (NotASkill type) = pos 0
 skill_of (Banned group) = pos 0
 skill_of (Points used allowed) = pos 0
 skill_of (UnknownType type) = pos 0
+skill_of (Numbers rule sub a b c d) = pos 0
 
 -- what it lacks: required less trained, the second and the third word of its payload
 unfoldable pub lacking : Rule → ℕ
