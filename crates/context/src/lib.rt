@@ -128,7 +128,9 @@ pub struct Context<'a> {
 }
 
 impl<'a> Context<'a> {
-    // `hints` are those of `Catalogue::type_of`.
+    // `hints` are those of `Catalogue::type_of`. Out of line, so that the array in which the pairs are gathered is gone from the stack when
+    // a list is run.
+    #[inline(never)]
     pub fn new(catalogue: &'a Catalogue<'a>, fit: &'a Fit<'a>, hints: &mut [u32]) -> Self
         ensures { (result.catalogue.now ≡ catalogue.now) × (result.fit.now ≡ fit.now) }
     {
