@@ -49,7 +49,8 @@ pub fn count(b: &[u8]) -> Option<(u32, &[u8])>
 // The record that the bytes begin with, and the bytes behind it; None where it is not whole.
 pub fn first(b: &[u8]) -> Option<(Record<'_>, &[u8])>
     ensures parts { IfSome result (λ r. Parts b.now r.0.catalogue.now r.0.input.now r.0.profile.now r.0.written.now) }
-    ensures numbers { IfSome result (λ r. (r.0.allowance ≡ u32_at b.now 12) × (r.0.room ≡ u32_at b.now 20) × (r.0.word ≡ u64_at b.now 24)) }
+    ensures numbers { IfSome result (λ r. (r.0.allowance ≡ u32_at b.now 12) × (r.0.room ≡ u32_at b.now 20)
+        × (r.0.word ≡ u64_at b.now 24)) }
     ensures behind { IfSome result (λ r. (size b.now 0 ≤ length b.now) × (r.1.now ≡ drop (size b.now 0) b.now)) }
 {
     let (_, rest) = b.split_at_checked(36)?;

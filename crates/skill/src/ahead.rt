@@ -1,4 +1,4 @@
-// Where the bases of the skills that are walked next begin: eight are looked for in step, where so many stand ahead.
+// Where the bases of the skills that are walked next begin: eight are looked for in step, but one alone where no other stands behind it.
 ghost use Rattle.std.specs.Prelude.{◌<◌};
 
 use crate::Walk;
@@ -25,13 +25,6 @@ fn next_ids(walk: &Walk, from: usize) -> [i32; AT_ONCE]
     ids
 }
 
-// A guess for one skill. Along a chain each skill is noted by the one before it, so that none stands ahead of it: a search for eight would
-// be made for one at each, and takes twice as long.
-fn first_place(catalogue: &Catalogue, id: i32) -> usize {
-    let [place] = catalogue.base_keys().each_from(&[id]);
-    place
-}
-
 impl Ahead {
     pub(crate) fn new() -> Ahead {
         Ahead {
@@ -45,8 +38,10 @@ impl Ahead {
         requires { next < walk.now.len }
     {
         if self.end <= next {
+            // Along a chain each skill is noted by the one before it, so that it is the last of the walk when it is looked for: a search
+            // for eight would be made for one at each, and takes twice as long.
             if next + 1 == walk.len {
-                self.places[next % AT_ONCE] = first_place(catalogue, walk.ids[next]);
+                self.places[next % AT_ONCE] = catalogue.base_keys().first_from(walk.ids[next]);
             } else {
                 self.places = catalogue.base_keys().each_from(&next_ids(walk, next));
             }
