@@ -6,10 +6,7 @@ use native.Mathlib.Nat.{suc-add, zero-add, pow-succ', mul_assoc}
 use native.Mathlib.Numerals.{add-one}
 use native.Mathlib.Omega.{arith}
 use lib.ListN.{length, get_or, set, take, drop, length-set, length-append, length-drop, take-append-drop}
-use Rattle.std.proofs.lemmas.List.{append_assoc}
-use Rattle.std.proofs.lemmas.Slice.{put_mid-paste}
-use borrow.Rule.Slice.PartMut.{put_mid}
-use lib.Seq.{take_all, paste, set_at, append_snoc, take-suc, drop-drop, length-take-le}
+use lib.Seq.{set_at, append_snoc, take-suc, drop-drop, length-take-le}
 use Rattle.image.specs.Bytes.{le, put}
 
 pub length-le : (n x : ℕ) → length (le n x) ≡ n
@@ -75,20 +72,3 @@ put-parts l at vs h =
     ∙ ap (λ (q : List ℕ). take at l ++ q) (take-append-drop n (drop at l)) ∙ take-append-drop at l in
     ap (λ (m : List ℕ). put m at vs) (sym parts)
     ∙ put-between (take at l) (take n (drop at l)) (drop (at + n) l) vs at (length-take-le at l (omega arith)) (length-take-le n (drop at l) d)
-
--- the library's word for a part that is written over
-pub put-paste : (l : List ℕ) (at : ℕ) (s : List ℕ) (n : ℕ) → at + n ≤ length l → n ≤ length s → paste l at s n ≡ put l at (take n s)
-put-paste l at s n h k =
-    let e = length-take-le n s k in
-    append_assoc (take at l) (take n s) (drop (at + n) l)
-    ∙ ap (λ (j : ℕ). take at l ++ (take n s ++ drop (at + j) l)) (sym e)
-    ∙ sym (put-parts l at (take n s) (omega (arith, e, h)))
-
--- after a copy into a part
-pub put-part : (l : List ℕ) (at : ℕ) (vs ws : List ℕ) (k : ℕ) → ws ≡ vs → k ≡ length vs → at + length vs ≤ length l → put_mid at k l ws ≡ put l at vs
-put-part l at vs ws k e h room =
-    put_mid-paste at k l ws vs (length vs) e (sym h) refl
-    ∙ put-paste l at vs (length vs) room (omega arith)
-    ∙ ap (put l at) (take_all (length vs) vs (omega arith))
-
-pub ruleset stores = (put-part, put-paste, length-drop)

@@ -85,17 +85,18 @@ pub fn part(b: &[u8], at: usize, n: usize) -> &[u8]
     &b[at..end]
 }
 
-// The bytes of another slice from a place on.
-#[tactic(auto, using(crate::proofs::Stores::stores))]
+// The bytes of another slice from a place on. By `copy_from_slice` the archive for C would need `memmove`.
 pub fn copy(out: &mut [u8], at: usize, from: &[u8])
     requires { at + length from.now ≤ length out.old }
     ensures { out.new ≡ put out.old at from.now }
 {
-    out[at..at + from.len()].copy_from_slice(from);
+    for i in 0..from.len() {
+        out[at + i] = from[i];
+    }
 }
 
 // The bytes from `at` to `end`, moved up. Beside `training`'s `move_down`: one with the place to move to would have the sum in each caller.
-// Byte by byte; the `memmove` that the archive for C needs comes from `copy`.
+// Byte by byte, for the reason of `copy`.
 pub fn move_up(b: &mut [u8], at: usize, end: usize, by: usize)
     requires { (at ≤ end) × (end + by ≤ length b.old) }
     ensures { b.new ≡ put b.old (at + by) (take (end - at) (drop at b.old)) }

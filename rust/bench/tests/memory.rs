@@ -119,7 +119,7 @@ fn symbols(object: &[u8]) -> (BTreeSet<&str>, BTreeSet<&str>) {
 }
 
 #[test]
-fn the_library_needs_three_names_of_the_c_library() {
+fn the_library_needs_two_names_of_the_c_library() {
     let archive = archive();
     let (mut needed, mut had) = (BTreeSet::new(), BTreeSet::new());
     for object in objects(&archive) {
@@ -128,7 +128,7 @@ fn the_library_needs_three_names_of_the_c_library() {
         had.extend(own);
     }
     let needed: Vec<_> = needed.difference(&had).copied().collect();
-    assert_eq!(needed, ["memcpy", "memmove", "memset"]);
+    assert_eq!(needed, ["memcpy", "memset"]);
 }
 
 #[test]
