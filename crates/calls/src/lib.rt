@@ -123,7 +123,8 @@ fn list_accepted(
 {
     let most = sizes::ENTRY_SIZE * lists::most_entries(fit);
     let mut hints = [0u32; context::LIST_HINTS];
-    let context = Context::new(catalogue, fit, &mut hints);
+    let mut pairs = [context::UNKNOWN; 256];
+    let context = Context::new(catalogue, fit, &mut hints, &mut pairs);
     if most <= out.len() {
         return Ok(lists::write(asked, profile, &context, &mut hints, out));
     }

@@ -54,7 +54,8 @@ pub fn cause(
         GaveBytes out.old out.new (word_of result) (output (cause_refusals c f position ++ room_refusals out.old bs) bs) }
 {
     let mut hints = [0u32; context::LIST_HINTS];
-    let context = Context::new(catalogue, fit, &mut hints);
+    let mut pairs = [context::UNKNOWN; 256];
+    let context = Context::new(catalogue, fit, &mut hints, &mut pairs);
     let Some(shown) = shown::shown_at(&context, &mut hints, position as usize) else {
         return Err(Refusal::NoEntry);
     };

@@ -24,10 +24,19 @@ pub const LIST_HINTS: usize = 64;
 
 // What the catalogue says of a pair's type: what it is, if it is there, and the marks, which stand by its id whether it is there or not.
 #[derive(Clone, Copy)]
-struct PairFacts {
+pub struct PairFacts {
     info: Option<TypeInfo>,
     marks: SlotMarks,
 }
+
+// What a place of pairs may hold before they are gathered.
+pub const UNKNOWN: PairFacts = PairFacts {
+    info: None,
+    marks: SlotMarks {
+        rack: None,
+        hardpoint: None,
+    },
+};
 
 // At every fourth pair the next four are looked for at once. A hall, which has more hints than a list, looks for none twice.
 fn seek_pairs(catalogue: &Catalogue, fit: &Fit, i: usize, hints: &mut [u32])
@@ -55,21 +64,15 @@ fn pair_facts(catalogue: &Catalogue, id: i32, hints: &mut [u32]) -> PairFacts
     PairFacts { info, marks }
 }
 
-// The facts of all pairs; behind them nothing is known.
-fn gather_pairs(catalogue: &Catalogue, fit: &Fit, hints: &mut [u32]) -> [PairFacts; 256]
-    ensures { Pairs catalogue.now fit.now (pair_count fit.now) result }
+// The facts of all pairs. Behind them the place keeps what it held, and no rule looks there.
+fn gather_pairs(catalogue: &Catalogue, fit: &Fit, hints: &mut [u32], pairs: &mut [PairFacts; 256])
+    ensures { Pairs catalogue.now fit.now (pair_count fit.now) pairs.new }
 {
-    let marks = SlotMarks {
-        rack: None,
-        hardpoint: None,
-    };
-    let mut pairs = [PairFacts { info: None, marks }; 256];
     fit.is_sound();
     for i in 0..fit.pair_count() {
         seek_pairs(catalogue, fit, i, hints);
         pairs[i] = pair_facts(catalogue, fit.item_type(i), hints);
     }
-    pairs
 }
 
 // Modules, subsystems and structure modules.
@@ -123,20 +126,24 @@ pub struct Context<'a> {
     pub catalogue: &'a Catalogue<'a>,
     pub fit: &'a Fit<'a>,
     ship: Option<TypeInfo>,
-    pairs: [PairFacts; 256],
-    ghost gathered: { Gathered catalogue.now fit.now ship pairs },
+    pairs: &'a [PairFacts; 256],
+    ghost gathered: { Gathered catalogue.now fit.now ship pairs.now },
 }
 
 impl<'a> Context<'a> {
-    // `hints` are those of `Catalogue::type_of`. Out of line, so that the array in which the pairs are gathered is gone from the stack when
-    // a list is run.
-    #[inline(never)]
-    pub fn new(catalogue: &'a Catalogue<'a>, fit: &'a Fit<'a>, hints: &mut [u32]) -> Self
+    // `hints` are those of `Catalogue::type_of`; `pairs` may hold anything. The caller has the place of what is gathered: within a
+    // `Context` it would be on the stack twice, as the place of this function's result and as the caller's local.
+    pub fn new(
+        catalogue: &'a Catalogue<'a>,
+        fit: &'a Fit<'a>,
+        hints: &mut [u32],
+        pairs: &'a mut [PairFacts; 256],
+    ) -> Self
         ensures { (result.catalogue.now ≡ catalogue.now) × (result.fit.now ≡ fit.now) }
     {
         catalogue.is_sound();
         fit.is_sound();
-        let pairs = gather_pairs(catalogue, fit, hints);
+        gather_pairs(catalogue, fit, hints, pairs);
         let ship = catalogue.type_of(fit.ship(), hints);
         Context {
             catalogue,

@@ -58,7 +58,8 @@ impl<'a> Model for Fit<'a> {
 }
 
 impl<'a> Fit<'a> {
-    // Of bytes that `fit_refusals::check` passed.
+    // Of bytes that `fit_refusals::check` passed. Out of line, so that its caller's stack has the starts once.
+    #[inline(never)]
     pub fn new(bytes: &'a [u8]) -> Self
         requires { Sound bytes.now }
         ensures { result ≡ bytes.now }

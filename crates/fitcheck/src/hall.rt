@@ -83,7 +83,8 @@ fn judge(catalogue: &Catalogue, fit: &[u8], hints: &mut [u32]) -> Standing
         return Standing::Faulted; // whatever is listed: not all of it is read
     }
     let fit = Fit::new(fit);
-    let context = Context::new(catalogue, &fit, hints);
+    let mut pairs = [context::UNKNOWN; 256];
+    let context = Context::new(catalogue, &fit, hints, &mut pairs);
     if lists::is_empty(&context, hints) {
         return Standing::Clear;
     }

@@ -59,7 +59,8 @@ pub fn leave_out(
         GaveBytes out.old out.new (word_of result) (output (room_refusals out.old bs) bs) }
 {
     let mut hints = [0u32; context::LIST_HINTS];
-    let context = Context::new(catalogue, fit, &mut hints);
+    let mut pairs = [context::UNKNOWN; 256];
+    let context = Context::new(catalogue, fit, &mut hints, &mut pairs);
     let mut rows = Rows::none();
     listed::gather(&context, &mut hints, &mut rows);
     let n = context.fit.pair_count();

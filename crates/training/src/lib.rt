@@ -57,29 +57,25 @@ fn move_down(b: &mut [u8], at: usize, end: usize, by: usize)
 impl Plan {
     ghost use Rattle.training.specs.Plans.{plan_of, stands_at, Lacks, Grown};
 
-    // A fit's skills.
-    fn new(fit: &Fit) -> Self
-        ensures { (plan_of result ≡ training_of (fit_of fit.now)) × (result.from ≡ Sizes.most_wanted) × (result.len ≤ Sizes.most_skills) }
+    // The fit's skills, whatever was held. Into the caller's place: given back by value they would be on the stack twice.
+    fn hold(&mut self, fit: &Fit)
+        ensures { (plan_of self.new ≡ training_of (fit_of fit.now))
+            × (self.new.from ≡ Sizes.most_wanted) × (self.new.len ≤ Sizes.most_skills) }
     {
         let bytes = fit.bytes();
         let n = fit.skill_count();
-        let mut plan = Plan {
-            ids: [0; ROOM_BYTES],
-            levels: [0; ROOM],
-            from: sizes::MOST_WANTED,
-            len: n,
-        };
         image::copy(
-            &mut plan.ids,
+            &mut self.ids,
             4 * sizes::MOST_WANTED,
             image::part(bytes, 28, 4 * n),
         );
         image::copy(
-            &mut plan.levels,
+            &mut self.levels,
             sizes::MOST_WANTED,
             image::part(bytes, 28 + 4 * n, n),
         );
-        plan
+        self.from = sizes::MOST_WANTED;
+        self.len = n;
     }
 
     // Whether an id stands at a place.
@@ -237,7 +233,13 @@ fn train_listed(fit: &Fit, walk: Walk, steps: u32, out: &mut [u8]) -> Result<usi
         GaveBytes out.old out.new (word_of result) (output (room_refusals out.old bs) bs) }
 {
     let others = fit.bytes().len() - 5 * fit.skill_count();
-    let mut plan = Plan::new(fit);
+    let mut plan = Plan {
+        ids: [0; ROOM_BYTES],
+        levels: [0; ROOM],
+        from: 0,
+        len: 0,
+    };
+    plan.hold(fit);
     plan.take_turns(walk, steps);
     let size = others + 5 * plan.len;
     if out.len() < size {

@@ -26,7 +26,7 @@ size b s steps ws p e m o =
 
 pub take_turns-requires : goal.take_turns-requires
 take_turns-requires c =
-    let n = c.new-plan.ensures in (
+    let n = c.hold.ensures in (
       omega (arith, n.1),
       omega (arith, n.1, n.2),
       subst Listed (sym n.0) (fit-listed c.args.fit.now c.bytes.ensures.1),
@@ -38,7 +38,7 @@ returns-then-out-size c =
     let b = a.fit.now in
     let ws = walk_of a.walk in
     let bs = trained_image b (turns (training_of (fit_of b)) a.steps ws).0 in
-    let led = c.take_turns.ensures.0 ∙ ap (λ (t : Training). (turns t a.steps ws).0) c.new-plan.ensures.0 in
+    let led = c.take_turns.ensures.0 ∙ ap (λ (t : Training). (turns t a.steps ws).0) c.hold.ensures.0 in
     let long = size b c.bytes.ensures.1 a.steps ws c.take_turns.new.self led c.bytes.ensures.0 c.skill_count.ensures in
     bytes_same (sym (output-short a.out.now bs (omega (arith, long, c.if-out-size.true)))) (bytes-refused _ Refusals.too_short refl)
 
@@ -48,7 +48,7 @@ returns c =
     let b = a.fit.now in
     let ws = walk_of a.walk in
     let bs = trained_image b (turns (training_of (fit_of b)) a.steps ws).0 in
-    let led = c.take_turns.ensures.0 ∙ ap (λ (t : Training). (turns t a.steps ws).0) c.new-plan.ensures.0 in
+    let led = c.take_turns.ensures.0 ∙ ap (λ (t : Training). (turns t a.steps ws).0) c.hold.ensures.0 in
     let long = size b c.bytes.ensures.1 a.steps ws c.take_turns.new.self led c.bytes.ensures.0 c.skill_count.ensures in
     let room : length bs ≤ length a.out.now = omega (arith, long, c.if-out-size.false) in
     let stored = c.write.ensures ∙ ap (λ (t : Training). put a.out.now 0 (trained_image b t)) led in

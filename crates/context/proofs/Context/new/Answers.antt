@@ -15,6 +15,6 @@ invariant_of-result c =
         catalogue_sound = c.is_sound.ensures;
         fit_sound = c.is_sound-2.ensures;
         ship = c.type_of-ship.ensures ∙ ap (λ (z : ℤ). answer_of (catalogue_of c.args.catalogue.now) z) id;
-        pairs = c.gather_pairs-pairs.ensures;
+        pairs = c.gather_pairs.ensures;
       };
     }
