@@ -58,7 +58,7 @@ impl<'a> Model for Fit<'a> {
 }
 
 impl<'a> Fit<'a> {
-    // Of bytes that `fit_refusals::check` passed. Out of line, so that its caller's stack has the starts once.
+    // Of bytes that `fit_refusals::check` passed. Out of line: a skill call takes 1 KB less of the stack so.
     #[inline(never)]
     pub fn new(bytes: &'a [u8]) -> Self
         requires { Sound bytes.now }

@@ -96,7 +96,7 @@ pub fn copy(out: &mut [u8], at: usize, from: &[u8])
 }
 
 // The bytes from `at` to `end`, moved up. Beside `training`'s `move_down`: one with the place to move to would have the sum in each caller.
-// Byte by byte, for the reason of `copy`.
+// Byte by byte; whether by `copy_within` the archive for C would need `memmove`, as it does by `copy_from_slice`, was not seen.
 pub fn move_up(b: &mut [u8], at: usize, end: usize, by: usize)
     requires { (at ≤ end) × (end + by ≤ length b.old) }
     ensures { b.new ≡ put b.old (at + by) (take (end - at) (drop at b.old)) }
